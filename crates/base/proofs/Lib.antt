@@ -1,0 +1,3 @@
+pub mod Bools
+pub mod Counting
+pub mod Filling

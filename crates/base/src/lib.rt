@@ -1,0 +1,1 @@
+// Laws on booleans and on counting that the kit has not; no code. They stand in proofs/.

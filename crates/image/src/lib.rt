@@ -1,0 +1,130 @@
+// The image: single-word loads and stores, the header test, and the index of each place. Nothing above this crate
+// touches an image in another way.
+ghost use mathlib.Core.Path.{_≡_};
+ghost use Prim.Native.Nat.{ℕ, _-_, _<_, _≤_};
+ghost use lib.ListN.{getD};
+ghost use Rattle.image.specs.Place.{cell, lock, field, own, step, offset};
+ghost use Rattle.image.specs.Image.{put, headerOk, recordAt, indexOf};
+
+// The single words of a worker's record, in their order.
+pub enum Field {
+    Count,
+    Pc,
+    Addr0,
+    Val0,
+    Addr1,
+    Val1,
+    Intent,
+    Owned,
+    Number,
+    Finished,
+}
+
+// The word at an index; 0 past the end.
+pub fn load(image: &[u64], at: usize) -> u64
+    ensures { λ r. ⌜ r ≡ getD (now (image .entry)) at 0 ⌝ }
+{
+    if at < image.len() { image[at] } else { 0 }
+}
+
+// Stores one word while stores are left. A store past the end changes nothing and is taken off all the same.
+pub fn store(image: &mut [u64], at: usize, value: u64, left: &mut u64)
+    ensures image { λ r. ⌜ now (image .exit) ≡ put (now (left .entry)) (now (image .entry)) at value ⌝ }
+    ensures left { λ r. ⌜ now (left .exit) ≡ now (left .entry) - 1 ⌝ }
+{
+    if *left == 0 {
+        return;
+    }
+    if at < image.len() {
+        image[at] = value;
+    }
+    *left -= 1;
+}
+
+// Whether length and words 0 to 7 are right, for an edition with this mark and this number of own words.
+pub fn header_ok(image: &[u64], mark: u64, own: usize) -> bool
+    requires { ⌜ own ≤ 64 ⌝ }
+    ensures { λ r. ⌜ r ≡ headerOk mark own (now (image .entry)) ⌝ }
+{
+    let n = image.len();
+    if n < 8 {
+        return false;
+    }
+    let d = image[1];
+    if d < 1 || 8 < d {
+        return false;
+    }
+    if n != record_at(d as usize, own) {
+        return false;
+    }
+    if image[0] != mark {
+        return false;
+    }
+    image[2] | image[3] | image[4] | image[5] | image[6] | image[7] == 0
+}
+
+// The start of worker d's record; of an image of d workers, its length.
+pub fn record_at(d: usize, own: usize) -> usize
+    requires { ⌜ (d ≤ 8) × (own ≤ 64) ⌝ }
+    ensures { λ r. ⌜ r ≡ recordAt own d ⌝ }
+{
+    584 + (74 + own) * d
+}
+
+// The index of a cell.
+pub fn cell_index(x: u64) -> usize
+    requires { ⌜ x < 512 ⌝ }
+    ensures { λ r. ⌜ ((n : ℕ) → r ≡ indexOf n (cell x)) ⌝ }
+{
+    8 + x as usize
+}
+
+// The index of a lock's owner word.
+pub fn lock_index(b: u64) -> usize
+    requires { ⌜ b < 64 ⌝ }
+    ensures { λ r. ⌜ ((n : ℕ) → r ≡ indexOf n (lock b)) ⌝ }
+{
+    520 + b as usize
+}
+
+// The offset of a single word in its record.
+pub fn offset_of(f: Field) -> usize
+    ensures { λ r. ⌜ r ≡ offset f ⌝ }
+{
+    match f {
+        Field::Count => 0,
+        Field::Pc => 1,
+        Field::Addr0 => 2,
+        Field::Val0 => 3,
+        Field::Addr1 => 4,
+        Field::Val1 => 5,
+        Field::Intent => 6,
+        Field::Owned => 7,
+        Field::Number => 8,
+        Field::Finished => 9,
+    }
+}
+
+// The index of a single word of worker d's record.
+pub fn field_index(f: Field, d: usize, own: usize) -> usize
+    requires { ⌜ (d < 8) × (own ≤ 64) ⌝ }
+    ensures { λ r. ⌜ r ≡ indexOf own (field f d) ⌝ }
+{
+    record_at(d, own) + offset_of(f)
+}
+
+// The index of own word i of worker d.
+pub fn own_index(d: usize, i: usize, n: usize) -> usize
+    requires { ⌜ (d < 8) × (i < n) × (n ≤ 64) ⌝ }
+    ensures { λ r. ⌜ r ≡ indexOf n (own d i) ⌝ }
+{
+    record_at(d, n) + (10 + i)
+}
+
+// The index of instruction i of worker d's section.
+pub fn step_index(d: usize, i: usize, own: usize) -> usize
+    requires { ⌜ (d < 8) × (i < 64) × (own ≤ 64) ⌝ }
+    ensures { λ r. ⌜ r ≡ indexOf own (step d i) ⌝ }
+{
+    record_at(d, own) + (10 + own + i)
+}

@@ -1,0 +1,8 @@
+pub mod Decoding
+pub mod Ranges
+pub mod Held
+pub mod First
+pub mod Steps
+pub mod Facts
+pub mod Passing
+pub mod Whole

@@ -1,0 +1,62 @@
+use mathlib.Core.Path.{_≡_, sym, ap, _∙_}
+use lib.ListN.{length}
+use denote.Ref.{now}
+use Rattle.base.proofs.Bools.{denied, granted}
+use Rattle.section.specs.Check.{codeOf, passes}
+use Rattle.section.proofs.Passing.{passed-is}
+use Rattle.section.proofs.Whole.{check-short, check-long, check-malformed, check-uses, judgeable}
+-- `section::check` meets its contract: the stages in their order.
+use borrow.Author.Needs.{needs}
+use Rattle.section.proofs.check.Statement.{statement}
+use Rattle.section.proofs.check.Tie as tie
+
+returns : tie.Need-returns
+returns c = check-short _ _ _ (c .if1 .taken)
+
+returns-2 : tie.Need-returns-2
+returns-2 c = check-long _ _ _ (c .if2 .taken)
+
+held-sets-requires : tie.Need-held-sets-requires
+held-sets-requires c κs = search needs
+
+passes-requires : tie.Need-passes-requires
+passes-requires c κs = search needs
+
+returns-3 : tie.Need-returns-3
+returns-3 c =
+    let s = c .before .before .before in
+    let S = s .before .before .before .before .args in
+    let w = now (S .words) in
+    let e = s .held-sets .ensures .first in
+    e ∙ check-malformed (S .own) (length w) (codeOf w) (s .before .before .if1 .left) (s .before .if2 .left) (ap passes (sym e) ∙ denied (c .before .passes .ensures) (c .if3 .taken))
+
+slice-aggregate-uses : tie.Need-slice-aggregate-uses
+slice-aggregate-uses c = search needs
+
+uses-requires : tie.Need-uses-requires
+uses-requires c κs =
+    let p = c .before .before in
+    let s = p .before .before in
+    let w = now (s .before .before .before .before .args .words) in
+    let v = passed-is (s .held-sets .result .verdict) (granted (p .passes .ensures) (c .before .if3 .left)) in
+    judgeable (s .before .before .before .before .args .own) w (s .held-sets .result .held) (search needs) (s .before .if2 .left) (sym (s .held-sets .ensures .first) ∙ v) (s .held-sets .ensures .sets v)
+
+returns-4 : tie.Need-returns-4
+returns-4 c =
+    let p = c .before .before .before in
+    let s = p .before .before in
+    let v = passed-is (s .held-sets .result .verdict) (granted (p .passes .ensures) (c .before .before .if3 .left)) in
+    c .uses .ensures ∙ check-uses _ _ _ (s .before .before .if1 .left) (s .before .if2 .left) (sym (s .held-sets .ensures .first) ∙ v)
+
+pub check-spec : {M : Type 1} → statement M
+check-spec =
+    tie.close
+    (tie.spec
+    returns
+    returns-2
+    held-sets-requires
+    passes-requires
+    returns-3
+    slice-aggregate-uses
+    uses-requires
+    returns-4)

@@ -1,0 +1,186 @@
+-- The check of a section: causes 4 to 9. A section is a number of steps n and a word for each step.
+use Prim.Native.Nat.{ℕ, suc, zero, _+_, _/_, _^_}
+use mathlib.Core.Bool.{Bool, true, false, cond, _&&_, _||_, not}
+use mathlib.Core.List.{List}
+use lib.ListN.{length, getD}
+use lib.Dec.{leb, ltb, eqb}
+use Rattle.mask.specs.Mask.{has, with, without}
+use Rattle.section.specs.declared.Expr.{Expr}
+use Rattle.section.specs.declared.Expr.the-variants.{Literal, Sum, Difference, Less}
+use Rattle.section.specs.declared.Op.{Op}
+use Rattle.section.specs.declared.Op.the-variants.{Acquire, Release, Assign, Jump, Finish, Unknown}
+use Rattle.section.specs.declared.Verdict.{Verdict}
+use Rattle.section.specs.declared.Verdict.the-variants.{Pass, Length, Malformed, Unbracketed, Unordered, Unguarded, Unlevel}
+use Rattle.section.specs.Table.{highest, kindOf, fieldA, fieldB, fieldC}
+use Rattle.section.specs.Op.{opOf}
+
+-- the instruction words of a section by their step
+abbrev pub Code : Type 0
+Code = ℕ → ℕ
+
+abbrev pub codeOf : List ℕ → Code
+codeOf ws i = getD ws i 0
+
+-- ---- cause 5
+
+-- the kind is one of the eight and each field in its range
+unfoldable pub inRange : ℕ → ℕ → Bool
+inRange own w =
+    leb 1 (kindOf w) && leb (kindOf w) 8 && leb (fieldA w) (highest own (kindOf w) 0) && leb (fieldB w) (highest own (kindOf w) 1) && leb (fieldC w) (highest own (kindOf w) 2)
+
+-- step i of n is a position that the instruction may have; a jump goes forward and inside
+abbrev pub inPlace : ℕ → ℕ → Op → Bool
+inPlace n i (Acquire a) = ltb (i + 1) n
+inPlace n i (Release a) = ltb (i + 1) n
+inPlace n i (Assign a e) = ltb (i + 1) n
+inPlace n i (Jump a b) = ltb i b && ltb b n
+inPlace n i Finish = eqb (i + 1) n
+inPlace n i Unknown = false
+
+-- step i of n does not fail cause 5
+unfoldable pub wellFormed : ℕ → ℕ → ℕ → ℕ → Bool
+wellFormed own n i w = inRange own w && inPlace n i (opOf w)
+
+-- the instruction's lock, if it has one, is one of the 64
+abbrev pub lockOk : Op → Bool
+lockOk (Acquire a) = ltb a 64
+lockOk (Release a) = ltb a 64
+lockOk (Assign a e) = true
+lockOk (Jump a b) = true
+lockOk Finish = true
+lockOk Unknown = true
+
+-- ---- held sets
+
+-- the held set after an instruction
+unfoldable pub heldAfter : ℕ → Op → ℕ
+heldAfter h (Acquire a) = with h a
+heldAfter h (Release a) = without h a
+heldAfter h (Assign a e) = h
+heldAfter h (Jump a b) = h
+heldAfter h Finish = h
+heldAfter h Unknown = h
+
+-- the held set before step i, by position: jumps are ignored
+unfoldable pub heldBefore : Code → ℕ → ℕ
+heldBefore code zero = 0
+heldBefore code (suc i) = heldAfter (heldBefore code i) (opOf (code i))
+
+-- ---- causes 6 to 9, each the test of an instruction with h held before it
+
+-- word number x is an own word, or its lock is held
+abbrev pub covered : ℕ → ℕ → Bool
+covered h x = leb 512 x || has h (x / 8)
+
+abbrev pub coveredIn : ℕ → Expr → Bool
+coveredIn h (Literal b c) = true
+coveredIn h (Sum b c) = covered h b && covered h c
+coveredIn h (Difference b c) = covered h b && covered h c
+coveredIn h (Less b c) = covered h b && covered h c
+
+-- cause 6: the first step acquires, a later one holds something, a finish holds nothing
+abbrev pub begins : Op → Bool
+begins (Acquire a) = true
+begins (Release a) = false
+begins (Assign a e) = false
+begins (Jump a b) = false
+begins Finish = false
+begins Unknown = false
+
+abbrev pub goesOn : ℕ → Op → Bool
+goesOn h (Acquire a) = not (eqb h 0)
+goesOn h (Release a) = not (eqb h 0)
+goesOn h (Assign a e) = not (eqb h 0)
+goesOn h (Jump a b) = not (eqb h 0)
+goesOn h Finish = eqb h 0
+goesOn h Unknown = false
+
+abbrev pub bracketed : ℕ → ℕ → Op → Bool
+bracketed i h x = cond (eqb i 0) (begins x) (goesOn h x)
+
+-- cause 7: an acquire is above all that is held, a release's lock is held
+abbrev pub ordered : ℕ → Op → Bool
+ordered h (Acquire a) = eqb (h / 2 ^ a) 0
+ordered h (Release a) = has h a
+ordered h (Assign a e) = true
+ordered h (Jump a b) = true
+ordered h Finish = true
+ordered h Unknown = true
+
+-- cause 8: every cell that is read or written has its lock held
+abbrev pub guarded : ℕ → Op → Bool
+guarded h (Acquire a) = true
+guarded h (Release a) = true
+guarded h (Assign a e) = covered h a && coveredIn h e
+guarded h (Jump a b) = covered h a
+guarded h Finish = true
+guarded h Unknown = true
+
+-- cause 9: a jump goes to a step with the same held set
+abbrev pub level : Code → ℕ → Op → Bool
+level code h (Acquire a) = true
+level code h (Release a) = true
+level code h (Assign a e) = true
+level code h (Jump a b) = eqb (heldBefore code b) h
+level code h Finish = true
+level code h Unknown = true
+
+-- ---- the verdict
+
+-- an answer, where it passes the next
+abbrev pub orElse : Verdict → Verdict → Verdict
+orElse Pass v = v
+orElse Length v = Length
+orElse (Malformed i) v = Malformed i
+orElse (Unbracketed i) v = Unbracketed i
+orElse (Unordered i) v = Unordered i
+orElse (Unguarded i) v = Unguarded i
+orElse (Unlevel i) v = Unlevel i
+
+-- the first refusal of k steps from step i on
+unfoldable pub firstOf : (ℕ → Verdict) → ℕ → ℕ → Verdict
+firstOf f i zero = Pass
+firstOf f i (suc k) = orElse (f i) (firstOf f (i + 1) k)
+
+-- step i against cause 5
+unfoldable pub formOf : ℕ → ℕ → Code → ℕ → Verdict
+formOf own n code i = cond (wellFormed own n i (code i)) Pass (Malformed i)
+
+-- an instruction at step i, with h held before it, against causes 6 to 9 in this order; evenly: the test of cause 9
+abbrev pub judged : ℕ → ℕ → Op → Bool → Verdict
+judged i h x evenly = cond (bracketed i h x) (cond (ordered h x) (cond (guarded h x) (cond evenly Pass (Unlevel i)) (Unguarded i)) (Unordered i)) (Unbracketed i)
+
+unfoldable pub useOf : Code → ℕ → Verdict
+useOf code i = judged i (heldBefore code i) (opOf (code i)) (level code (heldBefore code i) (opOf (code i)))
+
+-- cause 4; then 5 over all steps; then 6 to 9 step by step
+unfoldable pub check : ℕ → ℕ → Code → Verdict
+check own n code = cond (leb 3 n && leb n 64) (orElse (firstOf (formOf own n code) 0 n) (firstOf (useOf code) 0 n)) Length
+
+abbrev pub passes : Verdict → Bool
+passes Pass = true
+passes Length = false
+passes (Malformed i) = false
+passes (Unbracketed i) = false
+passes (Unordered i) = false
+passes (Unguarded i) = false
+passes (Unlevel i) = false
+
+-- document 01's number for an answer, and the step that goes with it; 0 where there is none
+abbrev pub causeOf : Verdict → ℕ
+causeOf Pass = 0
+causeOf Length = 4
+causeOf (Malformed i) = 5
+causeOf (Unbracketed i) = 6
+causeOf (Unordered i) = 7
+causeOf (Unguarded i) = 8
+causeOf (Unlevel i) = 9
+
+abbrev pub stepOf : Verdict → ℕ
+stepOf Pass = 0
+stepOf Length = 0
+stepOf (Malformed i) = i
+stepOf (Unbracketed i) = i
+stepOf (Unordered i) = i
+stepOf (Unguarded i) = i
+stepOf (Unlevel i) = i

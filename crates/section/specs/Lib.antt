@@ -1,0 +1,5 @@
+pub mod Table
+pub mod Op
+pub mod Check
+pub mod Valid
+pub mod Pass
