@@ -70,6 +70,10 @@ module _ (n : ℕ) where
   unfolding at
   load-at m p ok = rw ok
 
+  -- the same for a load of an index that is the place's
+  pub read-at : (m : Image) (p : Place) {i r : ℕ} → i ≡ indexOf n p → r ≡ getD m i 0 → valid (workers m) n p ≡ true → r ≡ at n m p
+  read-at m p {i} {r} e h v = h ∙ (ap (λ (j : ℕ). getD m j 0) e ∙ load-at m p v)
+
   -- the memory after a change at a place is the memory with that place changed
   pub at-set : (D : ℕ) (m : Image) (p : Place) (v : ℕ) → Sized n D m → valid D n p ≡ true → (q : Place) → at n (set m (indexOf n p) v) q ≡ upd (at n m) p v q
   unfolding at

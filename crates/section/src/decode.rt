@@ -1,0 +1,161 @@
+// Decoding: the fixed table of the kinds, the fields of an instruction word, the instruction that it says, and cause 5.
+ghost use mathlib.Core.Path.{_≡_};
+ghost use Prim.Native.Nat.{_<_, _≤_};
+ghost use mathlib.Core.Bool.{true};
+ghost use Rattle.section.specs.Table.{entry, highest, turnsOf, kindOf, fieldA, fieldB, fieldC};
+ghost use Rattle.section.specs.Op.{byKind, opOf};
+ghost use Rattle.section.specs.Check.{inRange, inPlace, wellFormed, lockOk, heldAfter};
+use super::Expr;
+use super::Op;
+
+// For each kind the largest a, b and c, and the number of turns. 511, the highest cell, stands for a word number: the own
+// words come above it.
+const TABLE: [[u64; 4]; 8] = [
+    [63, 0, 0, 6],
+    [63, 0, 0, 6],
+    [511, 65535, 65535, 4],
+    [511, 511, 511, 4],
+    [511, 511, 511, 4],
+    [511, 511, 511, 4],
+    [511, 63, 0, 1],
+    [0, 0, 0, 3],
+];
+
+// Entry j of the row of a kind.
+pub fn entry(kind: u64, j: usize) -> u64
+    requires { ⌜ (1 ≤ kind) × (kind ≤ 8) × (j < 4) ⌝ }
+    ensures { λ r. ⌜ r ≡ entry kind j ⌝ }
+{
+    TABLE[kind as usize - 1][j]
+}
+
+// The turns of an instruction word of a known kind.
+pub fn turns(w: u64) -> u64
+    requires { ⌜ (1 ≤ kindOf w) × (kindOf w ≤ 8) ⌝ }
+    ensures { λ r. ⌜ r ≡ turnsOf w ⌝ }
+{
+    entry(kind_of(w), 3)
+}
+
+// The largest value of field j of a kind.
+fn highest(kind: u64, j: usize, own: u16) -> u64
+    requires { ⌜ (1 ≤ kind) × (kind ≤ 8) × (j < 4) ⌝ }
+    ensures { λ r. ⌜ r ≡ highest own kind j ⌝ }
+{
+    let e = entry(kind, j);
+    if e == 511 { 511 + own as u64 } else { e }
+}
+
+pub fn kind_of(w: u64) -> u64
+    ensures { λ r. ⌜ r ≡ kindOf w ⌝ }
+{
+    w >> 48
+}
+
+fn field_a(w: u64) -> u64
+    ensures { λ r. ⌜ r ≡ fieldA w ⌝ }
+{
+    (w >> 32) % 65536
+}
+
+fn field_b(w: u64) -> u64
+    ensures { λ r. ⌜ r ≡ fieldB w ⌝ }
+{
+    (w >> 16) % 65536
+}
+
+fn field_c(w: u64) -> u64
+    ensures { λ r. ⌜ r ≡ fieldC w ⌝ }
+{
+    w % 65536
+}
+
+// The instruction of a kind with these fields.
+fn by_kind(k: u64, a: u64, b: u64, c: u64) -> Op
+    ensures { λ r. ⌜ r ≡ byKind k a b c ⌝ }
+{
+    match k {
+        1 => Op::Acquire(a),
+        2 => Op::Release(a),
+        3 => Op::Assign(a, Expr::Literal(b, c)),
+        4 => Op::Assign(a, Expr::Sum(b, c)),
+        5 => Op::Assign(a, Expr::Difference(b, c)),
+        6 => Op::Assign(a, Expr::Less(b, c)),
+        7 => Op::Jump(a, b),
+        8 => Op::Finish,
+        _ => Op::Unknown,
+    }
+}
+
+// The instruction that a word says.
+pub fn op_of(w: u64) -> Op
+    ensures { λ r. ⌜ r ≡ opOf w ⌝ }
+{
+    by_kind(kind_of(w), field_a(w), field_b(w), field_c(w))
+}
+
+// Whether the kind is known and each field in its range.
+fn in_range(w: u64, own: u16) -> bool
+    ensures { λ r. ⌜ r ≡ inRange own w ⌝ }
+{
+    let k = kind_of(w);
+    if k < 1 {
+        return false;
+    }
+    if 8 < k {
+        return false;
+    }
+    if highest(k, 0, own) < field_a(w) {
+        return false;
+    }
+    if highest(k, 1, own) < field_b(w) {
+        return false;
+    }
+    field_c(w) <= highest(k, 2, own)
+}
+
+// Whether step i of n is a position that the instruction may have.
+fn in_place(x: Op, i: usize, n: usize) -> bool
+    requires { ⌜ i < n ⌝ }
+    ensures { λ r. ⌜ r ≡ inPlace n i x ⌝ }
+{
+    match x {
+        Op::Acquire(_) => i + 1 < n,
+        Op::Release(_) => i + 1 < n,
+        Op::Assign(_, _) => i + 1 < n,
+        Op::Jump(_, b) => {
+            if b <= i as u64 {
+                return false;
+            }
+            b < n as u64
+        }
+        Op::Finish => i + 1 == n,
+        Op::Unknown => false,
+    }
+}
+
+// Whether step i of n does not fail cause 5.
+pub fn well_formed(w: u64, i: usize, n: usize, own: u16) -> bool
+    requires { ⌜ i < n ⌝ }
+    ensures { λ r. ⌜ r ≡ wellFormed own n i w ⌝ }
+{
+    if !in_range(w, own) {
+        return false;
+    }
+    in_place(op_of(w), i, n)
+}
+
+// The held set after an instruction whose lock, if it has one, is in its range.
+pub fn held_after(h: u64, x: Op) -> u64
+    requires { ⌜ lockOk x ≡ true ⌝ }
+    ensures { λ r. ⌜ r ≡ heldAfter h x ⌝ }
+{
+    match x {
+        Op::Acquire(a) => mask::with(h, a),
+        Op::Release(a) => mask::without(h, a),
+        Op::Assign(_, _) => h,
+        Op::Jump(_, _) => h,
+        Op::Finish => h,
+        Op::Unknown => h,
+    }
+}
