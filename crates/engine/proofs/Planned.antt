@@ -1,0 +1,110 @@
+-- What the plan of a turn rests on: the cases of the definitions that go by the number of a turn, for a turn that is known
+-- only by what it is not; where a worker stands; and what a cursor that is ready says of its instruction.
+use Prim.Native.Nat.{ℕ, suc, zero, _+_, _-_, _<_, _≤_}
+use mathlib.Core.Path.{_≡_, refl, ap, _∙_}
+use mathlib.Core.Bool.{Bool, true, false, cond, _&&_, false≢true, true≢false}
+use mathlib.Core.Logic.{_≢_}
+use native.Mathlib.Omega.{arith}
+use lib.ListN.{length, getD}
+use lib.Dec.{leb, ltb, eqb}
+use borrow.Author.Tests.{leb-true, ltb-true}
+use Rattle.base.proofs.Bools.{and-left}
+use Rattle.base.proofs.Filling.{getD-inside}
+use Rattle.mask.specs.Mask.{with}
+use Rattle.image.specs.declared.Field.the-variants.{Count, Owned}
+use Rattle.image.specs.Place.{Place, field, Memory}
+use Rattle.section.specs.Table.{kindOf, turnsOf}
+use Rattle.section.specs.Op.{opOf}
+use Rattle.section.specs.Fits.{fits}
+use Rattle.section.specs.Check.{inRange, inPlace, wellFormed}
+use Rattle.section.proofs.Ranges.{in-range, turns-most}
+use Rattle.engine.specs.declared.Cursors.{Cursors}
+use Rattle.engine.specs.Cursor.{Cursor, idle, on, isIdle, cursorAt}
+use Rattle.engine.specs.Turn.{stored, codeIn, activeVal, logged, acquireTurn, finishTurn, ready}
+
+-- ---- turns by their number
+
+module _ (n : ℕ) (rd : Memory) (d : ℕ) where
+  -- from turn 3 on a logged store stores the logged value at its target
+  pub logged-target : (s t : ℕ) (p : Place) (v : ℕ) (next : Cursor) (j : ℕ) → j ≢ 0 → j ≢ 1 → j ≢ 2
+      → logged n rd d s t p v next j ≡ stored p (rd (field (activeVal n rd d) d)) next
+  logged-target s t p v next zero a b c = absurd (a refl)
+  logged-target s t p v next (suc zero) a b c = absurd (b refl)
+  logged-target s t p v next (suc (suc zero)) a b c = absurd (c refl)
+  logged-target s t p v next (suc (suc (suc j))) a b c = refl
+
+  -- the value matters at turn 1 alone
+  pub logged-value : (s t : ℕ) (p : Place) (v w : ℕ) (next : Cursor) (j : ℕ) → j ≢ 1 → logged n rd d s t p v next j ≡ logged n rd d s t p w next j
+  logged-value s t p v w next zero a = refl
+  logged-value s t p v w next (suc zero) a = absurd (a refl)
+  logged-value s t p v w next (suc (suc zero)) a = refl
+  logged-value s t p v w next (suc (suc (suc j))) a = refl
+
+  -- an acquire from turn 2 on
+  pub acquire-logged : (a s t : ℕ) → t ≢ 0 → t ≢ 1
+      → acquireTurn n rd d a s t ≡ logged n rd d s t (field Owned d) (with (rd (field Owned d)) a) (on (s + 1) 0) (t - 2)
+  acquire-logged a s zero x y = absurd (x refl)
+  acquire-logged a s (suc zero) x y = absurd (y refl)
+  acquire-logged a s (suc (suc t)) x y = let e : suc (suc t) - 2 ≡ t = omega arith in rw e
+
+  -- a finish from turn 2 on
+  pub finish-last : (s t : ℕ) → t ≢ 0 → t ≢ 1 → finishTurn n rd d s t ≡ stored (field Count d) 0 idle
+  finish-last s zero x y = absurd (x refl)
+  finish-last s (suc zero) x y = absurd (y refl)
+  finish-last s (suc (suc t)) x y = refl
+
+-- ---- where a worker stands
+
+pub idle-is : (x : Cursor) → isIdle x ≡ true → x ≡ idle
+idle-is idle e = refl
+idle-is (on s t) e = absurd (false≢true e)
+
+private-on : (b : Bool) (s t : ℕ) → isIdle (cond b idle (on s t)) ≡ false → cond b idle (on s t) ≡ on s t
+private-on true s t e = absurd (true≢false e)
+private-on false s t e = refl
+
+pub on-is : (c : Cursors) (d : ℕ) → d < length (c .turn) → isIdle (cursorAt c d) ≡ false → cursorAt c d ≡ on (getD (c .step) d 0) (getD (c .turn) d 0)
+unfolding cursorAt
+on-is c d h e =
+    private-on (eqb (getD (c .turn) d 255) 255) (getD (c .step) d 0) (getD (c .turn) d 255) e ∙ ap (on (getD (c .step) d 0)) (getD-inside (c .turn) d 255 0 h)
+
+-- ---- cause 5
+
+-- each of five tests
+private-tests : (p q r s t : Bool) → (p && q && r && s && t) ≡ true → (p ≡ true) × (q ≡ true) × (r ≡ true) × (s ≡ true) × (t ≡ true)
+private-tests true true true true true e = (refl, refl, refl, refl, refl)
+private-tests true true true true false e = absurd (false≢true e)
+private-tests true true true false t e = absurd (false≢true e)
+private-tests true true false s t e = absurd (false≢true e)
+private-tests true false r s t e = absurd (false≢true e)
+private-tests false q r s t e = absurd (false≢true e)
+
+pub formed-range : (own k i w : ℕ) → wellFormed own k i w ≡ true → inRange own w ≡ true
+unfolding wellFormed
+formed-range own k i w e = and-left (inRange own w) (inPlace k i (opOf w)) e
+
+-- the kind of a word in its ranges
+pub range-kind : (own w : ℕ) → inRange own w ≡ true → (1 ≤ kindOf w) × (kindOf w ≤ 8)
+unfolding inRange
+range-kind own w e =
+    let h = private-tests (leb 1 (kindOf w)) (leb (kindOf w) 8) _ _ _ e in
+    (leb-true 1 (kindOf w) (h .0), leb-true (kindOf w) 8 (h .1))
+
+-- ---- a cursor that is ready
+
+pub record Ready (n : ℕ) (rd : Memory) (d s t : ℕ) : Type 0 where
+  pub step : s < 64
+  pub turn : t < 6
+  pub form : fits n (opOf (codeIn n rd d s))
+
+pub ready-says : (n : ℕ) (rd : Memory) (d s t : ℕ) → ready n rd d s t ≡ true → Ready n rd d s t
+unfolding ready
+ready-says n rd d s t e =
+    let k = rd (field Count d) in
+    let w = codeIn n rd d s in
+    let h = private-tests (leb 3 k) (leb k 64) (ltb s k) (wellFormed n k s w) (ltb t (turnsOf w)) e in
+    record {
+      step = omega (arith, leb-true k 64 (h .1), ltb-true s k (h .2));
+      turn = omega (arith, ltb-true t (turnsOf w) (h .4), turns-most w);
+      form = in-range n w (formed-range n k s w (h .3));
+    }

@@ -1,0 +1,47 @@
+-- One worker's cursor in the working record: what it is after it was placed, at the same worker and at another.
+use Prim.Native.Nat.{ℕ, _<_, _≤_}
+use mathlib.Core.Path.{_≡_, refl, ap, _∙_, sym}
+use mathlib.Core.Bool.{Bool, true, false, cond}
+use mathlib.Core.Logic.{_≢_}
+use lib.ListN.{length, getD, set}
+use lib.Seq.{getD-set-same, getD-set-other}
+use lib.Dec.{eqb}
+use borrow.Author.Tests.{ne-eqb}
+use Rattle.engine.specs.declared.Cursors.{Cursors}
+use Rattle.engine.specs.Cursor.{Cursor, idle, on, isIdle, stepNo, turnNo, cursorAt, setAt, placed}
+
+private-idle : (b : Bool) (s t : ℕ) → isIdle (cond b idle (on s t)) ≡ b
+private-idle true s t = refl
+private-idle false s t = refl
+
+-- a worker is idle by its turn alone
+pub idle-by : (c : Cursors) (d : ℕ) → isIdle (cursorAt c d) ≡ eqb (getD (c .turn) d 255) 255
+unfolding cursorAt
+idle-by c d = private-idle (eqb (getD (c .turn) d 255) 255) _ _
+
+-- a record of eight workers
+pub record Full (c : Cursors) : Type 0 where
+  pub steps : length (c .step) ≡ 8
+  pub turns : length (c .turn) ≡ 8
+
+-- a cursor that the record can say
+abbrev pub sayable : Cursor → Type 0
+sayable idle = Unit {0}
+sayable (on s t) = t ≢ 255
+
+private-placed : (x : Cursor) → sayable x → cond (eqb (turnNo x) 255) idle (on (stepNo x) (turnNo x)) ≡ x
+private-placed idle h = refl
+private-placed (on s t) h = rw (ne-eqb t 255 h)
+
+pub placed-same : (c : Cursors) (d : ℕ) (x : Cursor) → Full c → d < 8 → sayable x → cursorAt (placed c d x) d ≡ x
+unfolding cursorAt setAt
+placed-same c d x f h s =
+    rw (
+      getD-set-same (c .turn) d (turnNo x) 255 (rw (f .turns) h),
+      getD-set-same (c .step) d (stepNo x) 0 (rw (f .steps) h),
+    )
+    (private-placed x s)
+
+pub placed-other : (c : Cursors) (d e : ℕ) (x : Cursor) → e ≢ d → cursorAt (placed c d x) e ≡ cursorAt c e
+unfolding cursorAt setAt
+placed-other c d e x h = rw (getD-set-other (c .turn) d e (turnNo x) 255 h, getD-set-other (c .step) d e (stepNo x) 0 h)

@@ -1,0 +1,84 @@
+-- `engine::handing::store_own` meets its contract. The loop's invariant, with i words stored: i stores are taken off, and what
+-- the stores of the other words leave of the image as it is now is what the whole row leaves of the first one.
+use Prim.Native.Nat.{_-_, _≤_}
+use borrow.Author.Needs.{needs}
+use mathlib.Core.Path.{_≡_, refl, sym, _∙_}
+use native.Mathlib.Omega.{arith}
+use denote.Ref.{now}
+use lib.ListN.{length, drop}
+use Rattle.image.specs.Image.{putAll}
+use Rattle.image.specs.Place.{own}
+use Rattle.engine.specs.Submit.{assigns}
+use Rattle.engine.proofs.Rows.{row-step, row-end}
+use Rattle.engine.proofs.handing.store_own.Statement.{statement}
+use Rattle.engine.proofs.handing.store_own.Tie as tie
+
+abbrev Inv-loop : tie.InvT-loop
+Inv-loop image₀ d n words left₀ i₀ image left i =
+    (i ≤ length words)
+    × (length image ≡ length image₀)
+    × (left ≡ left₀ - i)
+    × (putAll n left image (assigns (own d) i (drop i words)) ≡ putAll n left₀ image₀ (assigns (own d) 0 words))
+
+abbrev μ-loop : tie.MeasureT-loop
+μ-loop image₀ d n words left₀ i₀ image left i = length words - i
+
+loop-holds : tie.Need-loop-holds Inv-loop μ-loop
+loop-holds c = (omega arith, refl, omega arith, refl)
+
+own-index-requires : tie.Need-own-index-requires Inv-loop μ-loop
+own-index-requires c κs = search needs
+
+mul-store : tie.Need-mul-store Inv-loop μ-loop
+mul-store c = search needs
+
+shared-slice-read-store : tie.Need-shared-slice-read-store Inv-loop μ-loop
+shared-slice-read-store c = search needs
+
+store-requires : tie.Need-store-requires Inv-loop μ-loop
+store-requires c κs = search needs
+
+add-i : tie.Need-add-i Inv-loop μ-loop
+add-i c = search needs
+
+loop-less : tie.Need-loop-less Inv-loop μ-loop
+loop-less c = omega arith
+
+loop-again : tie.Need-loop-again Inv-loop μ-loop
+loop-again c =
+    let x = c .before .before .before .before .before in
+    let L = x .before .before .before in
+    let A = L .before .before .before .args in
+    let s = c .before .before .store in (
+      omega arith,
+      s .kept .0 ∙ L .loop .inv .1,
+      omega (arith, s .ensures .1),
+      row-step (A .n) (own (A .d)) (now (A .words)) (L .loop .i) (x .own-index .result) _ (L .loop .left) _ (L .loop .image) _ (omega arith) (x .own-index .ensures) refl (s .ensures .0) (s .ensures .1)
+          ∙ L .loop .inv .3,
+    )
+
+same-length : tie.Need-same-length Inv-loop μ-loop
+same-length c = c .before .loop .inv .1
+
+returns : tie.Need-returns Inv-loop μ-loop
+returns c =
+    let L = c .before .loop in
+    let A = c .before .before .before .before .args in
+    (sym (row-end (A .n) (own (A .d)) (now (A .words)) (L .i) (L .left) (L .image) (c .loop-test .left)) ∙ L .inv .3, omega arith)
+
+pub store-own-spec : {M : Type 1} → statement M
+store-own-spec =
+    tie.close
+    (tie.spec
+    Inv-loop
+    μ-loop
+    loop-holds
+    own-index-requires
+    mul-store
+    shared-slice-read-store
+    store-requires
+    add-i
+    loop-less
+    loop-again
+    same-length
+    returns)

@@ -1,0 +1,75 @@
+-- `engine::submit` meets its contract, by its answer. A section that is taken has met all causes (`accepted`), so its worker is
+-- one of the eight and it has at most 64 instructions, as handing it in asks.
+use borrow.Author.Needs.{needs}
+use mathlib.Core.Path.{sym}
+use native.Mathlib.Omega.{arith}
+use denote.Ref.{now}
+use Rattle.base.proofs.Bools.{denied, granted}
+use Rattle.image.proofs.Header.{header-workers}
+use Rattle.section.proofs.Facts.{check-parts}
+use Rattle.engine.specs.World.{world}
+use Rattle.engine.specs.Edition.{mark, ownWords}
+use Rattle.engine.proofs.Submission.{accepted, leaves-refused, leaves-taken}
+use Rattle.engine.proofs.submit.Statement.{statement}
+use Rattle.engine.proofs.submit.Tie as tie
+
+judge-requires : tie.Need-judge-requires
+judge-requires c κs = search needs
+
+taken-requires : tie.Need-taken-requires
+taken-requires c κs = search needs
+
+same-length : tie.Need-same-length
+same-length c = search needs
+
+returns : tie.Need-returns
+returns c =
+    let t = c .before in
+    let j = t .before in
+    let A = j .before .before .before .before .args in
+    let w = world (now (A .image)) (A .c) (now (A .left)) in
+    let e = j .judge .ensures (now (A .left)) in
+    let r = denied (t .taken .ensures) (c .if1 .taken) in
+    (e, rw (← e) (sym (leaves-refused ownWords w (A .d) (A .number) (now (A .args)) (now (A .words)) (j .judge .result) r)))
+
+hand-in-requires : tie.Need-hand-in-requires
+hand-in-requires c κs =
+    let t = c .before .before .before in
+    let j = t .before in
+    let A = j .before .before .before .before .args in
+    let w = world (now (A .image)) (A .c) (now (A .left)) in
+    let r = granted (t .taken .ensures) (c .before .before .if1 .left) in
+    let a = accepted mark ownWords w (A .d) (A .number) (now (A .words)) (rw (← j .judge .ensures (now (A .left))) r) in
+    let h = header-workers mark ownWords (now (A .image)) (a .header) in
+    (omega (arith, a .below), omega arith, omega arith, check-parts ownWords _ _ (a .checked) .1)
+
+place-requires : tie.Need-place-requires
+place-requires c κs = search needs
+
+same-length-2 : tie.Need-same-length-2
+same-length-2 c = search needs
+
+returns-2 : tie.Need-returns-2
+returns-2 c =
+    let h = c .before .before .before in
+    let t = h .before .before .before .before in
+    let j = t .before in
+    let A = j .before .before .before .before .args in
+    let w = world (now (A .image)) (A .c) (now (A .left)) in
+    let e = j .judge .ensures (now (A .left)) in
+    let r = granted (t .taken .ensures) (h .before .before .before .if1 .left) in
+    let l = leaves-taken ownWords w (A .d) (A .number) (now (A .args)) (now (A .words)) (j .judge .result) r in
+    (e, rw (← e, l, h .hand-in .ensures .0, h .hand-in .ensures .1, c .place .ensures))
+
+pub submit-spec : {M : Type 1} → statement M
+submit-spec =
+    tie.close
+    (tie.spec
+    judge-requires
+    taken-requires
+    same-length
+    returns
+    hand-in-requires
+    place-requires
+    same-length-2
+    returns-2)

@@ -1,0 +1,49 @@
+-- Document 01's numbers and values for refusals and answers.
+use Prim.Native.Nat.{ℕ}
+use mathlib.Core.Bool.{Bool, true, false}
+use Rattle.section.specs.Check.{causeOf as sectionCause, stepOf}
+use Rattle.engine.specs.declared.Refusal.{Refusal}
+use Rattle.engine.specs.declared.Refusal.the-variants.{Worker, Busy, Number, Section, Image, Cursor}
+use Rattle.engine.specs.declared.Answer.{Answer}
+use Rattle.engine.specs.declared.Answer.the-variants.{Stored, Passed, Waiting, Idle, Refused}
+
+-- the cause
+abbrev pub causeOf : Refusal → ℕ
+causeOf Worker = 1
+causeOf Busy = 2
+causeOf Number = 3
+causeOf (Section v) = sectionCause v
+causeOf Image = 10
+causeOf (Cursor d) = 11
+
+-- the step or the worker that goes with it; 0 where there is none
+abbrev pub valueOf : Refusal → ℕ
+valueOf Worker = 0
+valueOf Busy = 0
+valueOf Number = 0
+valueOf (Section v) = stepOf v
+valueOf Image = 0
+valueOf (Cursor d) = d
+
+-- the index of a store, the lock waited for, or the cause; 0 where there is none
+abbrev pub answerValue : Answer → ℕ
+answerValue (Stored i) = i
+answerValue Passed = 0
+answerValue (Waiting b) = b
+answerValue Idle = 0
+answerValue (Refused r) = causeOf r
+
+abbrev pub isRefused : Answer → Bool
+isRefused (Stored i) = false
+isRefused Passed = false
+isRefused (Waiting b) = false
+isRefused Idle = false
+isRefused (Refused r) = true
+
+-- the refusal of a refused turn
+abbrev pub refusalOf : Answer → Refusal
+refusalOf (Stored i) = Image
+refusalOf Passed = Image
+refusalOf (Waiting b) = Image
+refusalOf Idle = Image
+refusalOf (Refused r) = r

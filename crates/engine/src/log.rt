@@ -1,0 +1,107 @@
+// The worker's log: two entries of an address and a value, of which the pc's top bit names the active one; and the logged
+// store of four turns.
+use crate::Plan;
+use image::Field;
+ghost use mathlib.Core.Path.{_≡_};
+ghost use Prim.Native.Nat.{_+_, _<_};
+ghost use Rattle.image.specs.Place.{Place};
+ghost use Rattle.image.specs.Image.{at, indexOf, Inside};
+ghost use Rattle.engine.specs.Cursor.{on};
+ghost use Rattle.engine.specs.Turn.{second, spareAddr, spareVal, activeVal, switched, logged};
+ghost use Rattle.engine.specs.World.{planOf};
+
+// Whether log entry 1 is active.
+fn second(image: &[u64], d: usize, own: usize) -> bool
+    requires { ⌜ Inside own (now image) d ⌝ }
+    ensures { λ r. ⌜ r ≡ second own (at own (now (image .entry))) d ⌝ }
+{
+    image::read_field(image, Field::Pc, d, own) >> 63 != 0
+}
+
+// The address word of the entry that is not active.
+fn spare_addr(image: &[u64], d: usize, own: usize) -> Field
+    requires { ⌜ Inside own (now image) d ⌝ }
+    ensures { λ r. ⌜ r ≡ spareAddr own (at own (now (image .entry))) d ⌝ }
+{
+    if second(image, d, own) {
+        return Field::Addr0;
+    }
+    Field::Addr1
+}
+
+// Its value word.
+fn spare_val(image: &[u64], d: usize, own: usize) -> Field
+    requires { ⌜ Inside own (now image) d ⌝ }
+    ensures { λ r. ⌜ r ≡ spareVal own (at own (now (image .entry))) d ⌝ }
+{
+    if second(image, d, own) {
+        return Field::Val0;
+    }
+    Field::Val1
+}
+
+// The value word of the active entry.
+fn active_val(image: &[u64], d: usize, own: usize) -> Field
+    requires { ⌜ Inside own (now image) d ⌝ }
+    ensures { λ r. ⌜ r ≡ activeVal own (at own (now (image .entry))) d ⌝ }
+{
+    if second(image, d, own) {
+        return Field::Val1;
+    }
+    Field::Val0
+}
+
+// The pc that names step s and the entry that is not active.
+fn switched(image: &[u64], d: usize, own: usize, s: u8) -> u64
+    requires { ⌜ Inside own (now image) d ⌝ }
+    ensures { λ r. ⌜ r ≡ switched own (at own (now (image .entry))) d s ⌝ }
+{
+    if second(image, d, own) {
+        return s as u64 + 1;
+    }
+    s as u64 + 1 + 9223372036854775808
+}
+
+// Turn j of a logged store of v at an index, at step s, turn t; the cursor after its last turn is step ns, turn nt.
+pub fn logged(
+    image: &[u64],
+    d: usize,
+    own: usize,
+    s: u8,
+    t: u8,
+    target: usize,
+    v: u64,
+    ns: u8,
+    nt: u8,
+    j: u8,
+) -> Plan
+    requires { ⌜ (Inside own (now image) d) × (t < 6) ⌝ }
+    ensures { λ r. ⌜ ((p : Place) → target ≡ indexOf own p → r ≡ planOf own (logged own (at own (now (image .entry))) d s t p v (on ns nt) j)) ⌝ }
+{
+    match j {
+        0 => Plan::Store {
+            at: image::field_index(spare_addr(image, d, own), d, own),
+            value: target as u64,
+            step: s,
+            turn: t + 1,
+        },
+        1 => Plan::Store {
+            at: image::field_index(spare_val(image, d, own), d, own),
+            value: v,
+            step: s,
+            turn: t + 1,
+        },
+        2 => Plan::Store {
+            at: image::field_index(Field::Pc, d, own),
+            value: switched(image, d, own, s),
+            step: s,
+            turn: t + 1,
+        },
+        _ => Plan::Store {
+            at: target,
+            value: image::read_field(image, active_val(image, d, own), d, own),
+            step: ns,
+            turn: nt,
+        },
+    }
+}
