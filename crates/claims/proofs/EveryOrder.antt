@@ -1,0 +1,193 @@
+-- Demand 2, second half: every order that the reference machine follows to its end is had. From an image at rest, level with
+-- the machine's start, each entry of the order has a block of calls that leaves the world level with the machine's next state;
+-- so the cells are the machine's after every block. In the end no section is left, so that all workers are idle and the
+-- sections taken are those given.
+use Prim.Native.Nat.{ℕ, suc, zero, _+_, _^_, _<_, _≤_}
+use mathlib.Core.Path.{_≡_, refl, ap, subst, _∙_, sym}
+use mathlib.Core.Logic.{inl, inr}
+use mathlib.Core.Bool.{true, false≢true}
+use mathlib.Core.Option.{Option, some, none}
+use mathlib.Core.List.{List, [], _∷_, _++_, map, append-nil}
+use lib.ListN.{length, getD, take}
+use lib.Seq.{ext-getD}
+use native.Mathlib.Omega.{arith}
+use Rattle.base.proofs.Bools.{and-left, and-right, and-both}
+use Rattle.image.specs.declared.Field.the-variants.{Finished}
+use Rattle.image.specs.Place.{field}
+use Rattle.image.specs.Image.{Image, at, workers, cellsOf}
+use Rattle.image.proofs.Header.{header-sized}
+use Rattle.image.proofs.Cells.{cells-length, cells-at}
+use Rattle.engine.specs.Cursor.{idle, cursorAt}
+use Rattle.claims.specs.Reference.{Job, State, Given, start, advance, follow, noneLeft, initial}
+use Rattle.claims.specs.Calls.{Traced, Move, move, play, from, callable, ofMove, machine}
+use Rattle.claims.specs.Claims.{EveryOrderHad, concat, ofWorker, callsOf, Rested, Had, admissible}
+use Rattle.claims.proofs.OrderLevel.{Stand, Even}
+use Rattle.claims.proofs.OrderHandIn.{Able}
+use Rattle.claims.proofs.OrderStep.{some-same, none-some}
+use Rattle.claims.proofs.OrderEntry.{Entry, entry}
+use Rattle.claims.proofs.OrderFeed.{rested-even, admitted-able}
+
+-- ---- one list after the other
+
+pub play-append : (mark n : ℕ) (xs ys : List Move) (w : Traced) → play mark n (xs ++ ys) w ≡ play mark n ys (play mark n xs w)
+unfolding play
+play-append mark n [] ys w = refl
+play-append mark n (x ∷ xs) ys w = play-append mark n xs ys (move mark n x w)
+
+pub machine-append : (xs ys : List Move) → machine xs ≡ true → machine ys ≡ true → machine (xs ++ ys) ≡ true
+unfolding machine
+machine-append [] ys p q = q
+machine-append (x ∷ xs) ys p q =
+    and-both (callable (ofMove x)) (machine (xs ++ ys)) (and-left (callable (ofMove x)) (machine xs) p) (machine-append xs ys (and-right (callable (ofMove x)) (machine xs) p) q)
+
+play-nil : (mark n : ℕ) (w : Traced) → play mark n [] w ≡ w
+unfolding play
+play-nil mark n w = refl
+
+machine-nil : machine [] ≡ true
+unfolding machine
+machine-nil = refl
+
+follow-nil : (s t : State) → follow s [] ≡ some t → s ≡ t
+unfolding follow
+follow-nil s t e = some-same e
+
+-- the first entry
+follow-first : (s t : State) (d : ℕ) (ds : List ℕ) → advance s d ≡ some t → follow s (d ∷ ds) ≡ follow t ds
+unfolding follow
+follow-first s t d ds e = rw e
+
+follow-none : (s t : State) (d : ℕ) (ds : List ℕ) → advance s d ≡ none → follow s (d ∷ ds) ≡ some t → ⊥
+unfolding follow
+follow-none s t d ds e h = none-some (rw e at h)
+
+-- a world level with a state has its cells
+even-cells : (mark n D : ℕ) (w : Traced) (s : State) (gs : ℕ → List Given) → Even mark n D w s gs → cellsOf (w .world .image) ≡ s .cells
+even-cells mark n D w s gs E =
+    let z = header-sized mark n (w .world .image) (E .header) in
+    let c = cells-length n (workers (w .world .image)) (w .world .image) z in
+    ext-getD 0 (cellsOf (w .world .image)) (s .cells) (c ∙ sym (E .level .size))
+    (λ x h. let l : x < 512 = omega arith in cells-at n (w .world .image) x l ∙ sym (E .level .cells x l))
+
+-- ---- the blocks of an order
+
+module _ (mark n D : ℕ) (least : 8 ≤ n) (most : n ≤ 64) (final : State) where
+  record Blocks (w : Traced) (s : State) (gs : ℕ → List Given) (order : List ℕ) : Type 0 where
+    blocks : List (List Move)
+    one-each : length blocks ≡ length order
+    by-worker : (i : ℕ) → i < length order → callsOf (getD order i 0) (getD blocks i []) ≡ true
+    words : machine (concat blocks) ≡ true
+    follows : (i : ℕ) → i ≤ length order → (t : State) → follow s (take i order) ≡ some t → cellsOf (play mark n (concat (take i blocks)) w .world .image) ≡ t .cells
+    rests : ℕ → List Given
+    even : Even mark n D (play mark n (concat blocks) w) final rests
+    kept : (e : ℕ) → ofWorker e (play mark n (concat blocks) w .trace .taken) ++ rests e ≡ ofWorker e (w .trace .taken) ++ gs e
+
+  abbrev Has : List ℕ → Type 0
+  Has order = (w : Traced) (s : State) (gs : ℕ → List Given) → Even mark n D w s gs → ((e : ℕ) → e < D → Able n e (gs e)) → follow s order ≡ some final → Blocks w s gs order
+
+  no-blocks : Has []
+  no-blocks w s gs E able f =
+      record {
+        blocks = [];
+        one-each = refl;
+        by-worker = λ i l. absurd (omega arith);
+        words = machine-nil;
+        follows = here;
+        rests = gs;
+        even = rw (play-nil mark n w) (subst (λ (t : State). Even mark n D w t gs) (follow-nil s final f) E);
+        kept = λ e. rw (play-nil mark n w);
+      }
+    where
+      here : (i : ℕ) → i ≤ 0 → (t : State) → follow s (take i []) ≡ some t → cellsOf (play mark n (concat (take i [])) w .world .image) ≡ t .cells
+      here zero l t h = rw (play-nil mark n w) (even-cells mark n D w s gs E ∙ ap (λ (r : State). r .cells) (follow-nil s t h))
+      here (suc i) l t h = absurd (omega arith)
+
+  -- a block, and those of the order behind its entry
+  one-block :
+      (d : ℕ) (ds : List ℕ) (w : Traced) (s t : State) (gs : ℕ → List Given) → Even mark n D w s gs → advance s d ≡ some t → (en : Entry mark n D w d t gs)
+      → Blocks (play mark n (en .moves) w) t (en .rests) ds → Blocks w s gs (d ∷ ds)
+  one-block d ds w s t gs E a en B =
+      let p = play-append mark n (en .moves) (concat (B .blocks)) w in
+      record {
+        blocks = en .moves ∷ B .blocks;
+        one-each = ap suc (B .one-each);
+        by-worker = calls;
+        words = machine-append (en .moves) (concat (B .blocks)) (en .words) (B .words);
+        follows = cells;
+        rests = B .rests;
+        even = rw p (B .even);
+        kept = λ e. rw p (B .kept e ∙ en .kept e);
+      }
+    where
+      calls : (i : ℕ) → i < suc (length ds) → callsOf (getD (d ∷ ds) i 0) (getD (en .moves ∷ B .blocks) i []) ≡ true
+      calls zero l = en .by-worker
+      calls (suc i) l = B .by-worker i (omega arith)
+
+      cells : (i : ℕ) → i ≤ suc (length ds) → (r : State) → follow s (take i (d ∷ ds)) ≡ some r → cellsOf (play mark n (concat (take i (en .moves ∷ B .blocks))) w .world .image) ≡ r .cells
+      cells zero l r h = rw (play-nil mark n w) (even-cells mark n D w s gs E ∙ ap (λ (q : State). q .cells) (follow-nil s r h))
+      cells (suc i) l r h = rw (play-append mark n (en .moves) (concat (take i (B .blocks))) w) (B .follows i (omega arith) r (sym (follow-first s t d (take i ds) a) ∙ h))
+
+  more-blocks : (d : ℕ) (ds : List ℕ) → Has ds → Has (d ∷ ds)
+  more-blocks d ds more w s gs E able f = by (advance s d) refl
+    where
+      by : (o : Option State) → advance s d ≡ o → Blocks w s gs (d ∷ ds)
+      by none a = absurd (follow-none s final d ds a f)
+      by (some t) a =
+          let en = entry mark n D w s t gs E able least most d a in
+          one-block d ds w s t gs E a en (more (play mark n (en .moves) w) t (en .rests) (en .even) (en .able) (sym (follow-first s t d ds a) ∙ f))
+
+  all-blocks : (order : List ℕ) → Has order
+  all-blocks [] = no-blocks
+  all-blocks (d ∷ ds) = more-blocks d ds (all-blocks ds)
+
+-- ---- the end
+
+none-left : (qs : List (List Job)) → noneLeft qs ≡ true → (d : ℕ) → getD qs d [] ≡ []
+unfolding noneLeft
+none-left [] e d = refl
+none-left ([] ∷ qs) e zero = refl
+none-left ([] ∷ qs) e (suc d) = none-left qs e d
+none-left ((j ∷ js) ∷ qs) e d = absurd (false≢true e)
+
+no-map : (n : ℕ) (gs : List Given) → [] ≡ map (start n) gs → gs ≡ []
+no-map n [] e = refl
+no-map n (g ∷ gs) e = cc
+
+-- a worker with an empty queue is idle, and no section of it waits
+rest-idle : (mark n D : ℕ) (w : Traced) (s : State) (gs : ℕ → List Given) → Even mark n D w s gs → noneLeft (s .queues) ≡ true → (d : ℕ) → d < D → (cursorAt (w .world .cursors) d ≡ idle) × (gs d ≡ [])
+rest-idle mark n D w s gs E e d l = by (E .level .stands d l)
+  where
+    by : Stand n (at n (w .world .image)) d (cursorAt (w .world .cursors) d) (getD (s .queues) d []) (gs d) → (cursorAt (w .world .cursors) d ≡ idle) × (gs d ≡ [])
+    by (inl i) = (i .cursor, no-map n (gs d) (sym (none-left (s .queues) e d) ∙ i .queue))
+    by (inr x) =
+        let p : [] ≡ x .first ∷ map (start n) (gs d) = sym (none-left (s .queues) e d) ∙ x .queue in
+        let z : _≡_ {A = ℕ} 0 1 = cc in
+        absurd (omega arith)
+
+-- what `EveryOrderHad` says
+pub orders-had :
+    (mark n : ℕ) → 8 ≤ n → n ≤ 64
+    → (m : Image) → Rested mark n m → (gs : List Given) → admissible mark n (workers m) gs ≡ true
+    → ((d : ℕ) → d < workers m → at n m (field Finished d) + length gs < 2 ^ 64)
+    → (order : List ℕ) (final : State) → follow (initial n (workers m) (cellsOf m) gs) order ≡ some final → noneLeft (final .queues) ≡ true
+    → Had mark n m gs order
+orders-had mark n least most m rested gs admitted room order final followed ended =
+    let D = workers m in
+    let s = initial n D (cellsOf m) gs in
+    let waits : ℕ → List Given = λ d. ofWorker d gs in
+    let B = all-blocks mark n D least most final order (from m) s waits (rested-even mark n m gs rested room) (λ e l. admitted-able mark n D e gs admitted) followed in
+    let end = rest-idle mark n D (play mark n (concat (B .blocks)) (from m)) final (B .rests) (B .even) ended in
+    record {
+      blocks = B .blocks;
+      one-each = B .one-each;
+      by-worker = B .by-worker;
+      words = B .words;
+      follows = B .follows;
+      handed = λ d l. sym (append-nil (ofWorker d (play mark n (concat (B .blocks)) (from m) .trace .taken))) ∙ (rw (end d l .1) at (B .kept d));
+      rests = λ d l. end d l .0;
+    }
+
+-- demand 2, second half
+pub every-order-had : (mark n : ℕ) → 8 ≤ n → n ≤ 64 → EveryOrderHad mark n
+unfolding EveryOrderHad
+every-order-had mark n least most = orders-had mark n least most

@@ -1,0 +1,141 @@
+-- A recovery on an image. The cursors that it answers are those of the memory; each store is at a place of the image, so what a
+-- cut recovery leaves is a prefix of its stores, which a recovery accepts (`recovery-cut`), and what a whole one leaves is live
+-- (`recovery-whole`). A plan has at most 592 stores.
+use Prim.Native.Nat.{ℕ, suc, zero, _+_, _*_, _<_, _≤_}
+use mathlib.Core.Path.{_≡_, refl, fun-ext}
+use mathlib.Core.Bool.{Bool, true, false, cond, _&&_, not}
+use mathlib.Core.List.{List, [], _∷_, _++_}
+use native.Mathlib.Omega.{arith}
+use native.Mathlib.Nat.{suc-mul}
+use lib.ListN.{length, getD, take, length-append}
+use lib.Seq.{take-all}
+use lib.Dec.{eqb}
+use borrow.Author.Tests.{lt-ltb, ne-eqb}
+use Rattle.mask.specs.Mask.{has}
+use Rattle.image.specs.declared.Field.the-variants.{Count, Pc}
+use Rattle.image.specs.Place.{field, Memory, Store, updAll}
+use Rattle.image.specs.Image.{Image, at, workers, headerOk, putAll}
+use Rattle.image.proofs.Header.{header-sized, header-workers}
+use Rattle.image.proofs.Lists.{at-all}
+use Rattle.section.specs.declared.Op.{Op}
+use Rattle.section.specs.declared.Op.the-variants.{Acquire, Release, Assign, Jump, Finish, Unknown}
+use Rattle.engine.specs.Cursor.{Cursor, idle, on, stepNo, turnNo, cursorAt}
+use Rattle.engine.proofs.Standing.{Full, sayable}
+use Rattle.recovery.specs.Recovery.{plan, owed, intended, namedStep, namedOp, targetTurn, resumed, resumedAt, resumedAll}
+use Rattle.claims.specs.Reference.{Given}
+use Rattle.claims.proofs.Invariant.{Live, Crashed}
+use Rattle.claims.proofs.StoreRows.{rows}
+use Rattle.claims.proofs.Stages.{unlockRow, intentRow, withdrawRow, relockRow, unlocks-rows, intents-rows, withdraws-rows, all-relocks-rows, plan-prefix}
+use Rattle.claims.proofs.Recovered.{plan-valid, recovered-live}
+
+-- ---- cursors
+
+module _ (n : ℕ) (rd : Memory) (D : ℕ) where
+  private-turn : (d : ℕ) → d < 8 → getD (resumedAll n rd D .turn) d 255 ≡ turnNo (resumedAt n rd D d)
+  unfolding resumedAll
+  private-turn zero l = refl
+  private-turn (suc zero) l = refl
+  private-turn (suc (suc zero)) l = refl
+  private-turn (suc (suc (suc zero))) l = refl
+  private-turn (suc (suc (suc (suc zero)))) l = refl
+  private-turn (suc (suc (suc (suc (suc zero))))) l = refl
+  private-turn (suc (suc (suc (suc (suc (suc zero)))))) l = refl
+  private-turn (suc (suc (suc (suc (suc (suc (suc zero))))))) l = refl
+  private-turn (suc (suc (suc (suc (suc (suc (suc (suc d)))))))) l = absurd (omega arith)
+
+  private-step : (d : ℕ) → d < 8 → getD (resumedAll n rd D .step) d 0 ≡ stepNo (resumedAt n rd D d)
+  unfolding resumedAll
+  private-step zero l = refl
+  private-step (suc zero) l = refl
+  private-step (suc (suc zero)) l = refl
+  private-step (suc (suc (suc zero))) l = refl
+  private-step (suc (suc (suc (suc zero)))) l = refl
+  private-step (suc (suc (suc (suc (suc zero))))) l = refl
+  private-step (suc (suc (suc (suc (suc (suc zero)))))) l = refl
+  private-step (suc (suc (suc (suc (suc (suc (suc zero))))))) l = refl
+  private-step (suc (suc (suc (suc (suc (suc (suc (suc d)))))))) l = absurd (omega arith)
+
+  pub resumed-full : Full (resumedAll n rd D)
+  unfolding resumedAll
+  resumed-full = record { steps = refl; turns = refl }
+
+  private-target : (d : ℕ) (x : Op) → sayable (on (namedStep n rd d) (targetTurn n rd d x))
+  private-target d (Acquire a) = λ e. omega arith
+  private-target d (Release a) = λ e. omega arith
+  private-target d (Assign a x) = λ e. omega arith
+  private-target d (Jump a b) = λ e. omega arith
+  private-target d Finish = λ e. omega arith
+  private-target d Unknown = λ e. omega arith
+
+  private-sayable : (d : ℕ) → sayable (resumed n rd d)
+  unfolding resumed
+  private-sayable d = by (eqb (rd (field Pc d)) 0)
+    where
+      by : (t : Bool) → sayable (cond t idle (on (namedStep n rd d) (targetTurn n rd d (namedOp n rd d))))
+      by true = tt
+      by false = private-target d (namedOp n rd d)
+
+  private-said : (x : Cursor) → sayable x → cond (eqb (turnNo x) 255) idle (on (stepNo x) (turnNo x)) ≡ x
+  private-said idle h = refl
+  private-said (on s t) h = rw (ne-eqb t 255 h)
+
+  -- the cursors that a recovery answers
+  pub resumed-cursor : (d : ℕ) → d < D → D ≤ 8 → cursorAt (resumedAll n rd D) d ≡ resumed n rd d
+  unfolding cursorAt
+  resumed-cursor d l u = rw (private-turn d (omega arith), private-step d (omega arith), lt-ltb d D l) (private-said (resumed n rd d) (private-sayable d))
+
+-- ---- how many stores
+
+rows-length : (f : ℕ → List Store) (i k c : ℕ) → ((j : ℕ) → length (f j) ≤ c) → length (rows f i k) ≤ k * c
+unfolding rows
+rows-length f i zero c h = omega arith
+rows-length f i (suc k) c h =
+    let r = rows-length f (i + 1) k c h in
+    let o = h i in
+    let m : suc k * c ≡ k * c + c = suc-mul k c in
+    rw (length-append (f i) (rows f (i + 1) k)) (omega arith)
+
+cond-length : (t : Bool) (s : Store) → length (cond t (s ∷ []) []) ≤ 1
+cond-length true s = omega arith
+cond-length false s = omega arith
+
+module _ (n : ℕ) (rd : Memory) (D : ℕ) where
+  pub plan-length : D ≤ 8 → length (plan n rd D) ≤ 592
+  unfolding plan
+  plan-length h =
+      let us = rows (unlockRow n rd D) 0 64 in
+      let is = rows (intentRow n rd D) 0 D in
+      let ws = rows (withdrawRow n rd D) 0 D in
+      let rs = rows (λ e. rows (relockRow n rd D e) 0 64) 0 D in
+      let u : length us ≤ 64 * 1 = rows-length (unlockRow n rd D) 0 64 1 (λ b. cond-length (intended n rd D b D) _) in
+      let i : length is ≤ D * 1 = rows-length (intentRow n rd D) 0 D 1 (λ d. omega arith) in
+      let w : length ws ≤ D * 1 = rows-length (withdrawRow n rd D) 0 D 1 (λ d. cond-length (eqb (rd (field Pc d)) 0 && not (eqb (rd (field Count d)) 0)) _) in
+      let r : length rs ≤ D * 64 = rows-length (λ e. rows (relockRow n rd D e) 0 64) 0 D 64 (λ e. let q : length (rows (relockRow n rd D e) 0 64) ≤ 64 * 1 = rows-length (relockRow n rd D e) 0 64 1 (λ b. cond-length (has (owed n rd e) b) _) in omega arith) in
+      rw (unlocks-rows n rd D 0 64, intents-rows n rd D 0 D, withdraws-rows n rd D 0 D, all-relocks-rows n rd D 0 D)
+      (rw (length-append us (is ++ (ws ++ rs)), length-append is (ws ++ rs), length-append ws rs) (omega arith))
+
+-- ---- the image
+
+-- cursors matter only below the number of workers
+pub live-cursors : (n D : ℕ) (rd : Memory) (c c′ : ℕ → Cursor) (locks jumps : ℕ → ℕ) (given : ℕ → Given) → ((d : ℕ) → d < D → c′ d ≡ c d) → Live n D rd c locks jumps given → Live n D rd c′ locks jumps given
+live-cursors n D rd c c′ locks jumps given e v = record { phase = λ d l. rw (e d l) (v .phase d l); locked = v .locked; owner = v .owner }
+
+module _ (mark n : ℕ) (m : Image) (h : headerOk mark n m ≡ true) where
+  pub recovery-at : (left : ℕ) → at n (putAll n left m (plan n (at n m) (workers m))) ≡ updAll (at n m) (take left (plan n (at n m) (workers m)))
+  recovery-at left =
+      fun-ext (at-all n (workers m) left m (plan n (at n m) (workers m)) (header-sized mark n m h) (plan-valid n (at n m) (workers m)))
+
+  -- a recovery that is cut
+  pub recovery-cut : Crashed n (workers m) (at n m) → (left : ℕ) → Crashed n (workers m) (at n (putAll n left m (plan n (at n m) (workers m))))
+  recovery-cut c left = rw (recovery-at left) (plan-prefix n (workers m) (at n m) c left)
+
+  -- and one that is not
+  pub recovery-whole : Crashed n (workers m) (at n m) → (left : ℕ) → 592 ≤ left → (given : ℕ → Given)
+      → Live n (workers m) (at n (putAll n left m (plan n (at n m) (workers m)))) (cursorAt (resumedAll n (at n m) (workers m))) (owed n (at n m)) (λ d. 0) given
+  recovery-whole c left l given =
+      let few = header-workers mark n m h .1 in
+      let short = plan-length n (at n m) (workers m) few in
+      rw (recovery-at left, take-all left (plan n (at n m) (workers m)) (omega arith))
+      (live-cursors n (workers m) (updAll (at n m) (plan n (at n m) (workers m))) (resumed n (at n m)) (cursorAt (resumedAll n (at n m) (workers m))) (owed n (at n m)) (λ d. 0) given
+      (λ d u. resumed-cursor n (at n m) (workers m) d u few)
+      (recovered-live n (at n m) (workers m) c given))

@@ -1,0 +1,225 @@
+-- Lists of calls, any of them cut, and what they leave. The effects are those of the engine's and the recovery's
+-- definitions; beside them a trace is kept of the sections taken and begun and of the order of whole instructions.
+use Prim.Native.Nat.{ℕ, suc, zero, _+_, _-_, _^_}
+use mathlib.Core.List.{List, [], _∷_, _++_}
+use mathlib.Core.Bool.{Bool, true, false, cond, _&&_, _||_, not}
+use lib.ListN.{length, getD, set, replicate}
+use lib.Dec.{ltb, eqb}
+use Rattle.image.specs.declared.Field.the-variants.{Count, Pc, Addr0, Val0, Addr1, Val1, Intent, Owned, Number, Finished}
+use Rattle.image.specs.declared.Field.{Field}
+use Rattle.image.specs.Place.{Place, cell, lock, field, own, step}
+use Rattle.image.specs.Image.{Image, at, workers, headerOk, putAll}
+use Rattle.engine.specs.declared.Cursors.{Cursors}
+use Rattle.engine.specs.declared.Submitted.{Submitted}
+use Rattle.engine.specs.declared.Submitted.the-variants.{Taken, Refused}
+use Rattle.engine.specs.Cursor.{allIdle}
+use Rattle.engine.specs.Turn.{Outcome, stored, jumped, unheld, waiting, resting, refused}
+use Rattle.engine.specs.World.{World, world, leaves, outcomeAt, outcome}
+use Rattle.engine.specs.Submit.{submitAnswer, submitLeaves}
+use Rattle.engine.specs.Run.{anyOpen}
+use Rattle.recovery.specs.Recovery.{Recovered, accepted, misshapen, unsoundRecord, wrongLock, recovery}
+use Rattle.claims.specs.Reference.{Given, given}
+
+-- What the claims speak of besides the calls' own effects; no call reads it. The section last taken from each worker, the
+-- sections taken and the sections begun so far, newest last, and the order of whole instructions so far: a worker is in it
+-- once for each instruction that counts. An instruction counts when the pc that names it is stored (finish: when the pc is
+-- set to 0), and the jumps made since the last one count with it. `jumps` has these, for each worker.
+pub record Trace : Type 0 where
+  pub last : ℕ → Given
+  pub taken : List Given
+  pub begun : List Given
+  pub jumps : ℕ → ℕ
+  pub order : List ℕ
+
+abbrev pub nothing : Given
+nothing = given 0 [] []
+
+-- nothing traced yet
+abbrev pub blank : Trace
+blank = record { last = λ d. nothing; taken = []; begun = []; jumps = λ d. 0; order = [] }
+
+-- a function changed at one number
+abbrev pub but : {A : Type 0} → (ℕ → A) → ℕ → A → ℕ → A
+but f d x e = cond (eqb e d) x (f e)
+
+-- the jumps of cursors that are lost do not count
+abbrev pub forgetful : Trace → Trace
+forgetful g = record { last = g .last; taken = g .taken; begun = g .begun; jumps = λ d. 0; order = g .order }
+
+-- worker d makes a jump
+abbrev pub jumping : Trace → ℕ → Trace
+jumping g d = record { last = g .last; taken = g .taken; begun = g .begun; jumps = but (g .jumps) d (suc (g .jumps d)); order = g .order }
+
+-- worker d's pc is stored: it was 0, so that the section last taken is begun, or not
+abbrev pub recorded : Trace → ℕ → Bool → Trace
+recorded g d starts =
+    record {
+      last = g .last;
+      taken = g .taken;
+      begun = cond starts (g .begun ++ (g .last d ∷ [])) (g .begun);
+      jumps = but (g .jumps) d 0;
+      order = g .order ++ replicate (suc (g .jumps d)) d;
+    }
+
+-- a section is taken
+abbrev pub taking : Trace → Given → Trace
+taking g x = record { last = but (g .last) (x .worker) x; taken = g .taken ++ (x ∷ []); begun = g .begun; jumps = but (g .jumps) (x .worker) 0; order = g .order }
+
+abbrev pub isPc : Place → Bool
+isPc (cell x) = false
+isPc (lock b) = false
+isPc (field f d) = isPcField f
+  where
+    isPcField : Field → Bool
+    isPcField Count = false
+    isPcField Pc = true
+    isPcField Addr0 = false
+    isPcField Val0 = false
+    isPcField Addr1 = false
+    isPcField Val1 = false
+    isPcField Intent = false
+    isPcField Owned = false
+    isPcField Number = false
+    isPcField Finished = false
+isPc (own d i) = false
+isPc (step d i) = false
+
+-- what a list of calls leaves
+pub record Traced : Type 0 where
+  pub world : World
+  pub trace : Trace
+
+abbrev pub traced : World → Trace → Traced
+traced w g = record { world = w; trace = g }
+
+pub data Call : Type 0 where
+  -- worker, number, arguments, instruction words
+  submits : ℕ → ℕ → List ℕ → List ℕ → Call
+  turns : ℕ → Call
+  runs : ℕ → Call
+  recovers : Call
+
+-- a call, uncut or given k stores
+pub data Move : Type 0 where
+  whole : Call → Move
+  cut : ℕ → Call → Move
+
+-- mark: word 0 of an image; n: own words in a record
+module _ (mark n : ℕ) where
+  -- the trace after worker d's turn with an outcome; a store that is not made leaves none
+  abbrev pub turnTrace : Traced → ℕ → Outcome → Trace
+  turnTrace w d (stored p v c) =
+      cond (isPc p && not (eqb (w .world .left) 0)) (recorded (w .trace) d (eqb (at n (w .world .image) (field Pc d)) 0)) (w .trace)
+  turnTrace w d (jumped c) = jumping (w .trace) d
+  turnTrace w d (unheld c) = w .trace
+  turnTrace w d (waiting b) = w .trace
+  turnTrace w d resting = w .trace
+  turnTrace w d (refused r) = w .trace
+
+  abbrev pub turnBy : Traced → ℕ → Outcome → Traced
+  turnBy w d o = traced (leaves n (w .world) d o) (turnTrace w d o)
+
+  -- worker d's turn in a run, where the header is right
+  unfoldable pub turnedAt : Traced → ℕ → Traced
+  turnedAt w d = turnBy w d (outcomeAt n (w .world) d)
+
+  abbrev pub refuses : Outcome → Bool
+  refuses (stored p v c) = false
+  refuses (jumped c) = false
+  refuses (unheld c) = false
+  refuses (waiting b) = false
+  refuses resting = false
+  refuses (refused r) = true
+
+  -- a turn of each of k workers from d on, and then the rest; a refused turn ends the run
+  unfoldable pub round : (Traced → Traced) → Traced → ℕ → ℕ → Traced
+  round rest w d zero = rest w
+  round rest w d (suc k) = cond (refuses (outcomeAt n (w .world) d)) w (round rest (turnedAt w d) (d + 1) k)
+
+  unfoldable pub rounds : ℕ → ℕ → Traced → Traced
+  rounds zero D w = w
+  rounds (suc r) D w = cond (anyOpen D 0 (w .world .cursors)) (round (rounds r D) w 0 D) w
+
+  unfoldable pub ranBy : Traced → ℕ → Traced
+  ranBy w r = cond (headerOk mark n (w .world .image)) (rounds r (workers (w .world .image)) w) w
+
+  abbrev pub submitTrace : Trace → Given → Submitted → Trace
+  submitTrace g x Taken = taking g x
+  submitTrace g x (Refused r) = g
+
+  abbrev pub recoveredBy : Traced → Recovered → Traced
+  recoveredBy w (accepted ss cs) = traced (world (putAll n (w .world .left) (w .world .image) ss) cs (w .world .left - length ss)) (forgetful (w .trace))
+  recoveredBy w misshapen = traced (world (w .world .image) allIdle (w .world .left)) (forgetful (w .trace))
+  recoveredBy w (unsoundRecord d) = traced (world (w .world .image) allIdle (w .world .left)) (forgetful (w .trace))
+  recoveredBy w (wrongLock b) = traced (world (w .world .image) allIdle (w .world .left)) (forgetful (w .trace))
+
+  unfoldable pub call : Call → Traced → Traced
+  call (submits d k args ws) w =
+      let answer = submitAnswer mark n (w .world) d k ws in
+      traced (submitLeaves n (w .world) d k args ws answer) (submitTrace (w .trace) (given d args ws) answer)
+  call (turns d) w = turnBy w d (outcome mark n (w .world) d)
+  call (runs r) w = ranBy w r
+  call recovers w = recoveredBy w (recovery mark n (w .world .image))
+
+  abbrev pub lent : ℕ → Traced → Traced
+  lent k w = traced (world (w .world .image) (w .world .cursors) k) (w .trace)
+
+  -- what a cut leaves: the image; the working record is lost
+  abbrev pub lost : Traced → Traced
+  lost w = traced (world (w .world .image) allIdle 0) (forgetful (w .trace))
+
+  -- an uncut call is given more stores than any call makes
+  unfoldable pub move : Move → Traced → Traced
+  move (whole c) w = call c (lent (2 ^ 64 - 1) w)
+  move (cut k c) w = lost (call c (lent k w))
+
+  unfoldable pub play : List Move → Traced → Traced
+  play [] w = w
+  play (x ∷ xs) w = play xs (move x w)
+
+-- at an image that rests, with all workers idle
+abbrev pub from : Image → Traced
+from m = traced (world m allIdle 0) blank
+
+abbrev pub recovering : Call → Bool
+recovering (submits d k args ws) = false
+recovering (turns d) = false
+recovering (runs r) = false
+recovering recovers = true
+
+-- a recovery is the next call after each cut
+unfoldable pub legal : Bool → List Move → Bool
+legal owing [] = true
+legal owing (whole c ∷ xs) = (not owing || recovering c) && legal false xs
+legal owing (cut k c ∷ xs) = (not owing || recovering c) && legal true xs
+
+-- whether the list's last call is cut
+unfoldable pub endsCut : Bool → List Move → Bool
+endsCut was [] = was
+endsCut was (whole c ∷ xs) = endsCut false xs
+endsCut was (cut k c ∷ xs) = endsCut true xs
+
+-- no cut and no recovery
+unfoldable pub plain : List Move → Bool
+plain [] = true
+plain (whole c ∷ xs) = not (recovering c) && plain xs
+plain (cut k c ∷ xs) = false
+
+unfoldable pub areWords : List ℕ → Bool
+areWords [] = true
+areWords (v ∷ vs) = ltb v (2 ^ 64) && areWords vs
+
+-- every number is one that a caller can hand over
+abbrev pub callable : Call → Bool
+callable (submits d k args ws) = ltb d (2 ^ 64) && ltb k (2 ^ 64) && eqb (length args) 8 && areWords args && areWords ws
+callable (turns d) = ltb d (2 ^ 64)
+callable (runs r) = ltb r (2 ^ 16)
+callable recovers = true
+
+abbrev pub ofMove : Move → Call
+ofMove (whole c) = c
+ofMove (cut k c) = c
+
+unfoldable pub machine : List Move → Bool
+machine [] = true
+machine (x ∷ xs) = callable (ofMove x) && machine xs

@@ -1,0 +1,206 @@
+-- Recovery: which images it accepts, its stores in order, and where the workers go on.
+use Prim.Native.Nat.{ℕ, suc, zero, _+_, _-_, _%_, _^_}
+use mathlib.Core.List.{List, [], _∷_, _++_}
+use mathlib.Core.Bool.{Bool, true, false, cond, _&&_, _||_, not}
+use lib.Dec.{leb, ltb, eqb}
+use Rattle.mask.specs.Mask.{has}
+use Rattle.image.specs.declared.Field.the-variants.{Count, Pc, Intent, Owned, Number, Finished}
+use Rattle.image.specs.Place.{Place, lock, field, Memory, Store}
+use Rattle.image.specs.Image.{Image, indexOf, at, workers, headerOk}
+use Rattle.section.specs.declared.Op.{Op}
+use Rattle.section.specs.declared.Op.the-variants.{Acquire, Release, Assign, Jump, Finish, Unknown}
+use Rattle.section.specs.Op.{opOf}
+use Rattle.section.specs.Check.{heldBefore, check, passes}
+use Rattle.engine.specs.declared.Cursors.{Cursors}
+use Rattle.engine.specs.Cursor.{Cursor, idle, on, stepNo, turnNo}
+use Rattle.engine.specs.Turn.{operand, codeIn, activeAddr, activeVal}
+
+infixl 60 _≔_
+abbrev pub _≔_ : Place → ℕ → Store
+p ≔ v = record { place = p; value = v }
+
+-- every lock of `small`, below b, is in `big`
+unfoldable pub covers : ℕ → ℕ → ℕ → Bool
+covers big small zero = true
+covers big small (suc b) = (not (has small b) || has big b) && covers big small b
+
+-- the place at which an instruction's logged store is made; of the others the first is named
+abbrev pub targetOf : ℕ → Op → Place
+targetOf d (Acquire a) = field Owned d
+targetOf d (Release a) = field Owned d
+targetOf d (Assign a e) = operand d a
+targetOf d (Jump a b) = field Owned d
+targetOf d Finish = field Owned d
+targetOf d Unknown = field Owned d
+
+-- n: own words in a record
+module _ (n : ℕ) (rd : Memory) where
+  module _ (d : ℕ) where
+    -- the step that the pc names, its instruction, and the held sets before and after it
+    unfoldable pub namedStep : ℕ
+    namedStep = rd (field Pc d) % 2 ^ 63 - 1
+
+    unfoldable pub namedOp : Op
+    namedOp = opOf (codeIn n rd d namedStep)
+
+    abbrev pub heldHere : ℕ
+    heldHere = heldBefore (codeIn n rd d) namedStep
+
+    abbrev pub heldNext : ℕ
+    heldNext = heldBefore (codeIn n rd d) (suc namedStep)
+
+    abbrev pub owedBy : Op → ℕ
+    owedBy (Acquire a) = heldNext
+    owedBy (Release a) = rd (field Owned d)
+    owedBy (Assign a e) = rd (field Owned d)
+    owedBy (Jump a b) = rd (field Owned d)
+    owedBy Finish = rd (field Owned d)
+    owedBy Unknown = rd (field Owned d)
+
+    -- the locks that worker d is to have (document 01: the owed set)
+    unfoldable pub owed : ℕ
+    owed = cond (eqb (rd (field Pc d)) 0) 0 (owedBy namedOp)
+
+    -- no section, or one that passes the check, with a number that may be under way
+    unfoldable pub sectionOk : Bool
+    sectionOk =
+        cond (eqb (rd (field Count d)) 0) (eqb (rd (field Pc d)) 0)
+        (passes (check n (rd (field Count d)) (codeIn n rd d)) && leb 1 (rd (field Number d)) && leb (rd (field Finished d)) (rd (field Number d)))
+
+    -- the named instruction is logged, at the active entry's address; of an acquire or a release its value is the held set after it
+    abbrev pub entryOk : Op → Bool
+    entryOk (Acquire a) = eqb (rd (field (activeAddr n rd d) d)) (indexOf n (field Owned d)) && eqb (rd (field (activeVal n rd d) d)) heldNext
+    entryOk (Release a) = eqb (rd (field (activeAddr n rd d) d)) (indexOf n (field Owned d)) && eqb (rd (field (activeVal n rd d) d)) heldNext
+    entryOk (Assign a e) = eqb (rd (field (activeAddr n rd d) d)) (indexOf n (operand d a))
+    entryOk (Jump a b) = false
+    entryOk Finish = false
+    entryOk Unknown = false
+
+    -- the pc names no step, with nothing owned, or one whose entry is right, with the set before or after it owned
+    unfoldable pub pcOk : Bool
+    pcOk =
+        cond (eqb (rd (field Pc d)) 0) (eqb (rd (field Owned d)) 0)
+        (leb 1 (rd (field Pc d) % 2 ^ 63) && ltb namedStep (rd (field Count d)) && entryOk namedOp && (eqb (rd (field Owned d)) heldHere || eqb (rd (field Owned d)) heldNext))
+
+    -- the record is sound (else cause 12)
+    unfoldable pub sound : Bool
+    sound = sectionOk && pcOk && covers (rd (field Intent d)) owed 64
+
+    -- the turn of the target store
+    abbrev pub targetTurn : Op → ℕ
+    targetTurn (Acquire a) = 5
+    targetTurn (Release a) = 3
+    targetTurn (Assign a e) = 3
+    targetTurn (Jump a b) = 0
+    targetTurn Finish = 0
+    targetTurn Unknown = 0
+
+    -- where worker d goes on
+    unfoldable pub resumed : Cursor
+    resumed = cond (eqb (rd (field Pc d)) 0) idle (on namedStep (targetTurn namedOp))
+
+  -- D: the number of workers
+  module _ (D : ℕ) where
+    -- the first worker, of k from d on, whose record is not sound
+    unfoldable pub unsound : ℕ → ℕ → List ℕ
+    unsound d zero = []
+    unsound d (suc k) = cond (sound d) (unsound (d + 1) k) (d ∷ [])
+
+    -- how many of the first k workers are owed lock b
+    unfoldable pub claimants : ℕ → ℕ → ℕ
+    claimants b zero = 0
+    claimants b (suc k) = cond (has (owed k) b) 1 0 + claimants b k
+
+    -- an owner word that is not 0 names a worker that intends the lock
+    abbrev pub ownerOk : ℕ → ℕ → Bool
+    ownerOk b zero = true
+    ownerOk b (suc d) = ltb d D && has (rd (field Intent d)) b
+
+    -- no two workers are owed lock b, and its owner word is right (else cause 13)
+    unfoldable pub lockOk : ℕ → Bool
+    lockOk b = leb (claimants b D) 1 && ownerOk b (rd (lock b))
+
+    -- the first lock, of k from b on, that is not
+    unfoldable pub badLock : ℕ → ℕ → List ℕ
+    badLock b zero = []
+    badLock b (suc k) = cond (lockOk b) (badLock (b + 1) k) (b ∷ [])
+
+    -- one of the first k workers intends lock b
+    unfoldable pub intended : ℕ → ℕ → Bool
+    intended b zero = false
+    intended b (suc k) = intended b k || has (rd (field Intent k)) b
+
+    -- stage 1: every lock that anybody intends is freed, from b on
+    unfoldable pub unlocks : ℕ → ℕ → List Store
+    unlocks b zero = []
+    unlocks b (suc k) = cond (intended b D) ((lock b ≔ 0) ∷ unlocks (b + 1) k) (unlocks (b + 1) k)
+
+    -- stage 2: each worker intends what it is owed
+    unfoldable pub intents : ℕ → ℕ → List Store
+    intents d zero = []
+    intents d (suc k) = (field Intent d ≔ owed d) ∷ intents (d + 1) k
+
+    -- stage 3: sections that were not begun are withdrawn
+    unfoldable pub withdraws : ℕ → ℕ → List Store
+    withdraws d zero = []
+    withdraws d (suc k) = cond (eqb (rd (field Pc d)) 0 && not (eqb (rd (field Count d)) 0)) ((field Count d ≔ 0) ∷ withdraws (d + 1) k) (withdraws (d + 1) k)
+
+    -- stage 4: each worker has the locks that it is owed
+    unfoldable pub relocks : ℕ → ℕ → ℕ → List Store
+    relocks d b zero = []
+    relocks d b (suc k) = cond (has (owed d) b) ((lock b ≔ d + 1) ∷ relocks d (b + 1) k) (relocks d (b + 1) k)
+
+    unfoldable pub allRelocks : ℕ → ℕ → List Store
+    allRelocks d zero = []
+    allRelocks d (suc k) = relocks d 0 64 ++ allRelocks (d + 1) k
+
+    -- the stores of an accepted recovery, in order
+    unfoldable pub plan : List Store
+    plan = unlocks 0 64 ++ (intents 0 D ++ (withdraws 0 D ++ allRelocks 0 D))
+
+    -- the cursors after it: the begun go on, all others are idle
+    abbrev pub resumedAt : ℕ → Cursor
+    resumedAt d = cond (ltb d D) (resumed d) idle
+
+    unfoldable pub resumedAll : Cursors
+    resumedAll = record { step = numbers (λ d. stepNo (resumedAt d)) 8; turn = numbers (λ d. turnNo (resumedAt d)) 8 }
+      where
+        numbers : (ℕ → ℕ) → ℕ → List ℕ
+        numbers f zero = []
+        numbers f (suc k) = f 0 ∷ numbers (λ d. f (suc d)) k
+
+-- what a recovery answers: its stores and cursors, or the refusal (10; 12 by worker; 13 by lowest lock)
+pub data Recovered : Type 0 where
+  accepted : List Store → Cursors → Recovered
+  misshapen : Recovered
+  unsoundRecord : ℕ → Recovered
+  wrongLock : ℕ → Recovered
+
+abbrev pub byLocks : Recovered → List ℕ → Recovered
+byLocks good [] = good
+byLocks good (b ∷ bs) = wrongLock b
+
+abbrev pub byRecords : Recovered → List ℕ → Recovered
+byRecords good [] = good
+byRecords good (d ∷ ds) = unsoundRecord d
+
+unfoldable pub recovery : ℕ → ℕ → Image → Recovered
+recovery mark n m =
+    cond (headerOk mark n m)
+    (byRecords
+    (byLocks (accepted (plan n (at n m) (workers m)) (resumedAll n (at n m) (workers m))) (badLock n (at n m) (workers m) 0 64))
+    (unsound n (at n m) (workers m) 0 (workers m)))
+    misshapen
+
+-- document 01's number, and the worker or lock that goes with it
+abbrev pub causeOf : Recovered → ℕ
+causeOf (accepted ss cs) = 0
+causeOf misshapen = 10
+causeOf (unsoundRecord d) = 12
+causeOf (wrongLock b) = 13
+
+abbrev pub valueOf : Recovered → ℕ
+valueOf (accepted ss cs) = 0
+valueOf misshapen = 0
+valueOf (unsoundRecord d) = d
+valueOf (wrongLock b) = b

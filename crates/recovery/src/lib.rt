@@ -1,0 +1,1 @@
+// Recovery: what it accepts, its stores and the cursors it resumes, as definitions in specs/. No function yet.
