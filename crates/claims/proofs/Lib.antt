@@ -54,3 +54,7 @@ pub mod OrderEntry
 pub mod OrderFeed
 pub mod EveryOrder
 pub mod Agreement
+pub mod Feeding
+pub mod Pending
+pub mod Pairing
+pub mod Linear
