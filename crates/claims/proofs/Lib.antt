@@ -58,3 +58,4 @@ pub mod Feeding
 pub mod Pending
 pub mod Pairing
 pub mod Linear
+pub mod Worked

@@ -1,3 +1,4 @@
 pub mod Reference
 pub mod Calls
 pub mod Claims
+pub mod Examples
