@@ -59,3 +59,4 @@ pub mod Pending
 pub mod Pairing
 pub mod Linear
 pub mod Worked
+pub mod Demands
