@@ -2,16 +2,16 @@
 -- definitions leave. For a hand-in, a turn and a recovery that is their definition; a run is worked out turn by turn here, and
 -- agrees with the run of the contract.
 use Prim.Native.Nat.{ℕ, suc, zero, _+_}
-use mathlib.Core.Path.{_≡_, refl, ap, subst, _∙_, sym}
+use mathlib.Core.Path.{_≡_, refl, ap}
 use mathlib.Core.Bool.{Bool, true, false, cond}
 use mathlib.Core.List.{List}
-use Rattle.image.specs.Image.{at, workers, headerOk}
 use Rattle.tally.specs.Tally.{none}
+use Rattle.image.specs.Image.{workers, headerOk}
 use Rattle.engine.specs.Turn.{Outcome, stored, jumped, unheld, waiting, resting, refused}
 use Rattle.engine.specs.World.{World, leaves, outcomeAt, outcome}
 use Rattle.engine.specs.Submit.{submitAnswer, submitLeaves}
-use Rattle.engine.specs.Run.{anyOpen, counted, Counting, counting, Ran, ran, Sweep, through, halted, turned, swept, sweep, afterSweep, roundsOf, runOf}
-use Rattle.claims.specs.Calls.{Traced, turnBy, turnedAt, refuses, round, rounds, ranBy, call, submits, turns, runs}
+use Rattle.engine.specs.Run.{anyOpen, Counting, counting, Ran, ran, Sweep, turned, swept, sweep, afterSweep, roundsOf, runOf}
+use Rattle.claims.specs.Calls.{Traced, turnedAt, refuses, round, rounds, ranBy, call, submits, turns, runs}
 
 -- one turn
 pub turn-agrees : (mark n d : ℕ) (w : Traced) → call mark n (turns d) w .world ≡ leaves n (w .world) d (outcome mark n (w .world) d)

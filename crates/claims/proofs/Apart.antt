@@ -6,14 +6,13 @@
 use Prim.Native.Nat.{ℕ, suc, _+_, _-_, _/_, _<_, _≤_}
 use mathlib.Core.Path.{_≡_, refl, sym, subst, _∙_}
 use mathlib.Core.Logic.{_≢_, _⊎_, inl, inr}
-use mathlib.Core.Bool.{Bool, true, false, cond, _||_, false≢true}
+use mathlib.Core.Bool.{Bool, true, false, cond, _||_}
 use native.Mathlib.Omega.{arith}
 use native.Mathlib.Decide.{ℕ-discrete}
 use lib.ListN.{getD}
 use lib.Dec.{leb, ltb}
-use borrow.Author.Tests.{ltb-true, ltb-false, lt-leb, eq-eqb}
-use Rattle.mask.specs.Mask.{has, with, without}
-use Rattle.mask.proofs.Laws.{has-with, has-with-other, has-without, has-without-other}
+use borrow.Author.Tests.{ltb-true, ltb-false, lt-leb, eq-eqb, ne-eqb}
+use Rattle.mask.specs.Mask.{has}
 use Rattle.image.specs.declared.Field.{Field}
 use Rattle.image.specs.declared.Field.the-variants.{Pc, Intent, Owned}
 use Rattle.image.specs.Place.{Place, cell, lock, field, own, step, same, Memory}
@@ -28,24 +27,10 @@ use Rattle.engine.specs.Turn.{operand, codeIn, wordIn, activeVal}
 use Rattle.recovery.specs.Recovery.{targetOf, namedOp}
 use Rattle.claims.specs.Reference.{Given, Job, State, readIn}
 use Rattle.claims.proofs.Virtual.{misses, entryOf, virtual, virtual-none, virtual-due}
-use Rattle.claims.proofs.Invariant.{opAt, heldAt, Sectioned, logsHeld, Named, Nearing, Due, Phase, resting, fresh, due, unlocking, unlocked, between, ended, Live, JobOf, Mirrors}
-use Rattle.claims.proofs.Entries.{apart-of, belongs, differ, entry-none, entry-due, entry-named}
-
--- ---- sets
-
-pub with-within : (m a b : ℕ) → has m b ≡ true → has (with m a) b ≡ true
-with-within m a b h = by (ℕ-discrete a b)
-  where
-    by : Dec (a ≡ b) → has (with m a) b ≡ true
-    by (yes e) = rw e (has-with m b)
-    by (no e) = has-with-other m a b e ∙ h
-
-pub without-within : (m a b : ℕ) → has (without m a) b ≡ true → has m b ≡ true
-without-within m a b h = by (ℕ-discrete a b)
-  where
-    by : Dec (a ≡ b) → has m b ≡ true
-    by (yes e) = absurd (false≢true (sym (has-without m b) ∙ (rw e at h)))
-    by (no e) = sym (has-without-other m a b e) ∙ h
+use Rattle.claims.proofs.Invariant.{opAt, heldAt, Sectioned, Named, Nearing, Due, Phase, resting, fresh, due, unlocking, unlocked, between, ended, Live, JobOf, Mirrors}
+use Rattle.claims.proofs.Entries.{apart-of, belongs, entry-none, entry-due, entry-named, named-logs}
+use Rattle.claims.proofs.Sets.{within-with, without-within}
+use Rattle.claims.proofs.LiveTurn.{one-owner}
 
 -- ---- every phase with a step named
 
@@ -94,7 +79,7 @@ module _ (n : ℕ) (rd : Memory) (d : ℕ) where
     where
       by : (c : Bool) → leb t 1 ≡ c → has locks b ≡ true
       by true e = rw (N .2, e) l
-      by false e = rw (N .2, e) (with-within h a b l)
+      by false e = rw (N .2, e) (within-with h a b l)
   near-within s t h locks (Release a) N b l = rw (N .2) l
   near-within s t h locks (Assign a e) N b l = rw (N .2) l
   near-within s t h locks (Jump a c) N b l = rw (N .2) l
@@ -166,16 +151,16 @@ field-operand f e d a = by (ltb a 512)
 -- a word of worker d's record is no target of another worker
 target-elsewhere : (d e : ℕ) (x : Op) → e ≢ d → belongs d (targetOf e x) ≡ false
 unfolding operand
-target-elsewhere d e (Acquire a) h = differ e d h
-target-elsewhere d e (Release a) h = differ e d h
+target-elsewhere d e (Acquire a) h = ne-eqb e d h
+target-elsewhere d e (Release a) h = ne-eqb e d h
 target-elsewhere d e (Assign a y) h = by (ltb a 512)
   where
     by : (b : Bool) → belongs d (cond b (cell a) (own e (a - 512))) ≡ false
     by true = refl
-    by false = differ e d h
-target-elsewhere d e (Jump a b) h = differ e d h
-target-elsewhere d e Finish h = differ e d h
-target-elsewhere d e Unknown h = differ e d h
+    by false = ne-eqb e d h
+target-elsewhere d e (Jump a b) h = ne-eqb e d h
+target-elsewhere d e Finish h = ne-eqb e d h
+target-elsewhere d e Unknown h = ne-eqb e d h
 
 pub misses-none : (n : ℕ) (rd : Memory) (e : ℕ) (q : Place) → rd (field Pc e) ≡ 0 → misses (entryOf n rd e) q
 misses-none n rd e q z = rw (entry-none n rd e z) tt
@@ -194,17 +179,13 @@ module _ (n D : ℕ) (rd : Memory) (cursor : ℕ → Cursor) (locks jumps : ℕ 
   pub busy : (e : ℕ) → e < D → rd (field Pc e) ≢ 0 → (s : ℕ) × Busy n rd e (locks e) s
   busy e l z = busy-of n rd e (given e) (L .phase e l) z
 
-  -- two workers have no lock in common
-  pub one-owner : (b d e : ℕ) → b < 64 → d < D → e < D → has (locks d) b ≡ true → has (locks e) b ≡ true → d ≡ e
-  one-owner b d e h l m p q = let x = L .locked b d h l p in let y = L .locked b e h m q in omega arith
-
   misses-cell : (d e x : ℕ) → d < D → e < D → e ≢ d → x < 512 → has (locks d) (x / 8) ≡ true → misses (entryOf n rd e) (cell x)
   misses-cell d e x l m h lx p = by (ℕ-discrete (rd (field Pc e)) 0)
     where
       apart : (s : ℕ) → Busy n rd e (locks e) s → (t : Bool) → same (cell x) (targetOf e (opAt n rd e s)) ≡ t → same (cell x) (targetOf e (opAt n rd e s)) ≡ false
       apart s B true i =
           let k : Guarded e (locks e) (cell x) = subst (Guarded e (locks e)) (sym (same-place (cell x) (targetOf e (opAt n rd e s)) i)) (target-guarded n rd e (locks e) s B) in
-          absurd (h (one-owner (x / 8) e d (omega arith) m l (k .1) p))
+          absurd (h (one-owner L (x / 8) e d (omega arith) m l (k .1) p))
       apart s B false i = i
 
       by : Dec (rd (field Pc e) ≡ 0) → misses (entryOf n rd e) (cell x)
@@ -257,16 +238,13 @@ module _ (n D : ℕ) (rd : Memory) (cursor : ℕ → Cursor) (locks jumps : ℕ 
     pub virtual-owned : virtual n rd D (field Owned d) ≡ heldAt n rd d (suc s)
     virtual-owned = by (opAt n rd d s) refl
       where
-        logged : (x : Op) → opAt n rd d s ≡ x → logsHeld n rd d s x
-        logged x o = subst (logsHeld n rd d s) o (B .named .logs)
-
         by : (x : Op) → opAt n rd d s ≡ x → virtual n rd D (field Owned d) ≡ heldAt n rd d (suc s)
-        by (Acquire a) o = (rw o at virtual-target) ∙ logged (Acquire a) o
-        by (Release a) o = (rw o at virtual-target) ∙ logged (Release a) o
+        by (Acquire a) o = (rw o at virtual-target) ∙ named-logs n rd d s (B .named) (Acquire a) o
+        by (Release a) o = (rw o at virtual-target) ∙ named-logs n rd d s (B .named) (Release a) o
         by (Assign a e) o = virtual-beside (field Owned d) refl (rw o (field-operand Owned d d a)) ∙ B .owned a e o
-        by (Jump a b) o = absurd (logged (Jump a b) o)
-        by Finish o = absurd (logged Finish o)
-        by Unknown o = absurd (logged Unknown o)
+        by (Jump a b) o = absurd (named-logs n rd d s (B .named) (Jump a b) o)
+        by Finish o = absurd (named-logs n rd d s (B .named) Finish o)
+        by Unknown o = absurd (named-logs n rd d s (B .named) Unknown o)
 
     -- what the worker reads where its locks are held, the machine reads
     pub reads-same :
@@ -281,12 +259,6 @@ module _ (n D : ℕ) (rd : Memory) (cursor : ℕ → Cursor) (locks jumps : ℕ 
         by : (b : Bool) → ltb x 512 ≡ b → cond (ltb x 512) (getD (S .cells) x 0) (getD (j .own) (x - 512) 0) ≡ rd (cond (ltb x 512) (cell x) (own d (x - 512)))
         by true e = rw e (M .cells x (ltb-true x 512 e) ∙ (rw e at settled))
         by false e = let g : 512 ≤ x = ltb-false x 512 e in rw e (J .own (x - 512) (omega arith) ∙ (rw e at settled))
-
-    -- the same said at step k, to which jumps lead with the same held set
-    pub reads-between :
-        rd (targetOf d (opAt n rd d s)) ≡ rd (field (activeVal n rd d) d) → (k : ℕ) → heldAt n rd d k ≡ heldAt n rd d (suc s) → (S : State) (j : Job)
-        → Mirrors n D rd S → JobOf n D rd d j → (x : ℕ) → covered (heldAt n rd d k) x ≡ true → x < 512 + n → readIn (S .cells) (j .own) x ≡ wordIn n rd d x
-    reads-between made k e S j M J x c h = reads-same made S j M J x (rw e at c) h
 
   -- the machine's owned sets have only locks of the worker
   pub held-within : (e b : ℕ) → e < D → rd (field Pc e) ≢ 0 → has (virtual n rd D (field Owned e)) b ≡ true → has (locks e) b ≡ true

@@ -1,12 +1,12 @@
 -- From images to memories: after a store at a place the image has, the memory is changed at that place; and a memory with a
 -- change at one place, read at the next.
-use Prim.Native.Nat.{ℕ, suc, zero, _<_}
+use Prim.Native.Nat.{ℕ, _<_}
 use mathlib.Core.Path.{_≡_, fun-ext}
 use mathlib.Core.Bool.{true}
 use mathlib.Core.List.{List}
 use lib.ListN.{take}
-use Rattle.image.specs.Place.{Place, valid, Memory, upd, updAll, Store}
-use Rattle.image.specs.Image.{Image, indexOf, at, workers, put, putAll}
+use Rattle.image.specs.Place.{Place, valid, upd, updAll, Store}
+use Rattle.image.specs.Image.{Image, indexOf, at, put, putAll}
 use Rattle.image.proofs.Header.{Sized}
 use Rattle.image.proofs.Stores.{at-store}
 use Rattle.image.proofs.Lists.{allValid, at-all}

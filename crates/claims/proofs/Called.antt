@@ -1,46 +1,46 @@
--- Each call keeps the invariant: an uncut one leaves the world running, a cut one leaves an image that a recovery accepts; and
--- what the image stands for is what the reference machine has reached.
-use Prim.Native.Nat.{ℕ, suc, zero, _+_, _-_, _*_, _^_, _<_, _≤_}
-use mathlib.Core.Path.{_≡_, refl, ap, subst, _∙_, sym}
-use mathlib.Core.Logic.{_≢_, _⊎_, inl, inr}
-use mathlib.Core.Bool.{Bool, true, false, cond, _&&_, not, true≢false, false≢true}
-use mathlib.Core.List.{List, [], _∷_, _++_}
-use lib.ListN.{length, take, replicate, length-append, length-replicate}
+-- Each call keeps the invariant: an uncut one leaves the world running, a cut one leaves an image that a recovery accepts
+-- (`Recoverable`); and what the image stands for is what the reference machine has reached.
+use Prim.Native.Nat.{ℕ, _+_, _-_, _<_, _≤_}
+use mathlib.Core.Path.{_≡_, ap, subst, _∙_, sym}
+use mathlib.Core.Bool.{true, _&&_}
+use mathlib.Core.List.{List, []}
+use lib.ListN.{length, take}
 use lib.Seq.{take-all}
-use lib.Dec.{eqb, ltb}
-use borrow.Author.Tests.{ltb-true, eqb-true, lt-ltb}
+use lib.Dec.{eqb}
+use borrow.Author.Tests.{eqb-true}
 use native.Mathlib.Omega.{arith}
 use Rattle.base.proofs.Bools.{and-left, and-right}
 use Rattle.image.specs.declared.Field.the-variants.{Count, Pc, Finished}
 use Rattle.image.specs.Place.{Place, field, Memory, updAll}
 use Rattle.image.specs.Image.{Image, at, workers, headerOk, putAll}
-use Rattle.image.proofs.Header.{header-workers}
 use Rattle.image.proofs.Lists.{header-all, workers-all}
-use Rattle.section.specs.declared.Verdict.{Verdict}
-use Rattle.section.specs.declared.Verdict.the-variants.{Pass, Length, Malformed, Unbracketed, Unordered, Unguarded, Unlevel}
+use Rattle.section.specs.declared.Verdict.the-variants.{Pass}
 use Rattle.section.specs.Check.{codeOf, check}
 use Rattle.section.proofs.Facts.{check-parts}
-use Rattle.engine.specs.declared.Submitted.{Submitted}
-use Rattle.engine.specs.declared.Submitted.the-variants.{Taken, Refused}
-use Rattle.engine.specs.Cursor.{Cursor, idle, on, isIdle, cursorAt, placed, allIdle}
+use Rattle.engine.specs.declared.Submitted.the-variants.{Taken}
+use Rattle.engine.specs.Cursor.{on, isIdle, cursorAt, placed}
 use Rattle.engine.specs.World.{World, world}
-use Rattle.engine.specs.Submit.{submission, verdictAnswer, free, submitAnswer, submitLeaves}
-use Rattle.engine.proofs.Standing.{Full}
+use Rattle.engine.specs.Submit.{submission, free, submitAnswer, isTaken}
+use Rattle.engine.proofs.Planned.{idle-is}
+use Rattle.engine.proofs.Submission.{submission-length, accepted as met}
 use Rattle.recovery.specs.Recovery.{plan, resumedAll, recovery, accepted, owed}
 use Rattle.claims.specs.Reference.{Given, given}
-use Rattle.claims.specs.Calls.{Trace, Traced, traced, but, taking, forgetful, lent, lost, call, submits, recovers, submitTrace, recoveredBy}
+use Rattle.claims.specs.Calls.{Trace, Traced, traced, but, taking, forgetful}
 use Rattle.claims.proofs.Invariant.{Live, Crashed, Mirrors}
-use Rattle.claims.proofs.Submitting.{handedTo, submit-live, Resting, idle-rests}
+use Rattle.claims.proofs.Submitting.{submit-live}
 use Rattle.claims.proofs.Covers.{crashed-accepted}
 use Rattle.claims.proofs.LiveCrashed.{live-crashed}
 use Rattle.claims.proofs.RecoveryImage.{resumed-full, recovery-at, recovery-cut, recovery-whole}
-use Rattle.claims.proofs.SubmissionImage.{submission-length, submission-at, submission-cut}
+use Rattle.claims.proofs.SubmissionImage.{submission-at, submission-cut}
 use Rattle.claims.proofs.Unseen.{unseen-mirrors, plan-unseen, submission-unseen}
-use Rattle.claims.proofs.Held.{Reached, Running, Frozen, few, full-set, live-cursors, cursors-placed}
+use Rattle.claims.proofs.Held.{Reached, Running, few}
+use Rattle.claims.proofs.LiveTurn.{live-cursors}
+use Rattle.claims.proofs.Cursors.{full-set, cursors-placed}
+use Rattle.claims.proofs.Laid.{handedTo}
 
 -- ---- what an image is worth after a cut, whatever the cursors
 
-pub record Kept (mark n D : ℕ) (cells : List ℕ) (m : Image) (begun : List Given) (order : List ℕ) : Type 0 where
+pub record Recoverable (mark n D : ℕ) (cells : List ℕ) (m : Image) (begun : List Given) (order : List ℕ) : Type 0 where
   pub reached : Reached mark n D cells m begun order
   pub crashed : Crashed n D (at n m)
 
@@ -53,7 +53,7 @@ reached-all mark n D cells m begun order left ss r h =
 
 -- ---- recovery
 
-module _ (mark n D : ℕ) (cells : List ℕ) (m : Image) (begun : List Given) (order : List ℕ) (k : Kept mark n D cells m begun order) where
+module _ (mark n D : ℕ) (cells : List ℕ) (m : Image) (begun : List Given) (order : List ℕ) (k : Recoverable mark n D cells m begun order) where
   crash : Crashed n (workers m) (at n m)
   crash = subst (λ (e : ℕ). Crashed n e (at n m)) (sym (k .reached .many)) (k .crashed)
 
@@ -68,7 +68,7 @@ module _ (mark n D : ℕ) (cells : List ℕ) (m : Image) (begun : List Given) (o
       (k .reached .state) (k .reached .mirrors)))
 
   -- a recovery cut anywhere leaves an image that the next accepts
-  pub recover-cut : (left : ℕ) → Kept mark n D cells (putAll n left m (plan n (at n m) (workers m))) begun order
+  pub recover-cut : (left : ℕ) → Recoverable mark n D cells (putAll n left m (plan n (at n m) (workers m))) begun order
   recover-cut left =
       record {
         reached = recovered-reached left;
@@ -98,47 +98,23 @@ pub record TakenAs (mark n : ℕ) (w : World) (d k : ℕ) (ws : List ℕ) : Type
   pub numbered : at n (w .image) (field Finished d) < k
   pub passes : check n (length ws) (codeOf ws) ≡ Pass
 
-refused-not-taken : (t : Bool) (a b : Submitted) → (b ≡ Taken → ⊥) → cond t a b ≡ Taken → (t ≡ true) × (a ≡ Taken)
-refused-not-taken true a b n e = (refl, e)
-refused-not-taken false a b n e = absurd (n e)
-
-not-taken : (r : Rattle.engine.specs.declared.Refusal.Refusal) → Refused r ≡ Taken → ⊥
-not-taken r e = let z : _≡_ {A = ℕ} 0 1 = cc in omega arith
-
-verdict-taken : (v : Verdict) → verdictAnswer v ≡ Taken → v ≡ Pass
-verdict-taken Pass e = refl
-verdict-taken Length e = absurd (not-taken _ e)
-verdict-taken (Malformed i) e = absurd (not-taken _ e)
-verdict-taken (Unbracketed i) e = absurd (not-taken _ e)
-verdict-taken (Unordered i) e = absurd (not-taken _ e)
-verdict-taken (Unguarded i) e = absurd (not-taken _ e)
-verdict-taken (Unlevel i) e = absurd (not-taken _ e)
-
 pub taken-as : (mark n : ℕ) (w : World) (d k : ℕ) (ws : List ℕ) → submitAnswer mark n w d k ws ≡ Taken → TakenAs mark n w d k ws
-unfolding submitAnswer free
+unfolding free
 taken-as mark n w d k ws e =
-    let a = refused-not-taken (headerOk mark n (w .image)) _ _ (not-taken _) e in
-    let b = refused-not-taken (ltb d (workers (w .image))) _ _ (not-taken _) (a .1) in
-    let c = refused-not-taken (isIdle (cursorAt (w .cursors) d) && eqb (at n (w .image) (field Count d)) 0 && eqb (at n (w .image) (field Pc d)) 0) _ _ (not-taken _) (b .1) in
-    let f = refused-not-taken (ltb (at n (w .image) (field Finished d)) k) _ _ (not-taken _) (c .1) in
-    let ic = and-left (isIdle (cursorAt (w .cursors) d) && eqb (at n (w .image) (field Count d)) 0) (eqb (at n (w .image) (field Pc d)) 0) (c .0) in
+    let a = met mark n w d k ws (ap isTaken e) in
+    let i = isIdle (cursorAt (w .cursors) d) in
+    let c = eqb (at n (w .image) (field Count d)) 0 in
+    let p = eqb (at n (w .image) (field Pc d)) 0 in
+    let ic = and-left (i && c) p (a .unused) in
     record {
-      header = a .0;
-      below = ltb-true d (workers (w .image)) (b .0);
-      idles = and-left (isIdle (cursorAt (w .cursors) d)) (eqb (at n (w .image) (field Count d)) 0) ic;
-      count = eqb-true _ 0 (and-right (isIdle (cursorAt (w .cursors) d)) (eqb (at n (w .image) (field Count d)) 0) ic);
-      pc = eqb-true _ 0 (and-right (isIdle (cursorAt (w .cursors) d) && eqb (at n (w .image) (field Count d)) 0) (eqb (at n (w .image) (field Pc d)) 0) (c .0));
-      numbered = ltb-true _ k (f .0);
-      passes = verdict-taken (check n (length ws) (codeOf ws)) (f .1);
+      header = a .header;
+      below = a .below;
+      idles = and-left i c ic;
+      count = eqb-true _ 0 (and-right i c ic);
+      pc = eqb-true _ 0 (and-right (i && c) p (a .unused));
+      numbered = a .newer;
+      passes = a .checked;
     }
-
-pub idle-is : (c : Cursor) → isIdle c ≡ true → c ≡ idle
-idle-is idle e = refl
-idle-is (on s t) e = absurd (false≢true e)
-
--- n own words, of which eight are the arguments
-own-size : (n : ℕ) (args : List ℕ) → 8 ≤ n → length args ≡ 8 → length (args ++ replicate (n - 8) 0) ≡ n
-own-size n args wide full = simp (length-append, length-replicate) (omega arith)
 
 module _ (mark n D : ℕ) (cells : List ℕ) (w : Traced) (d k : ℕ) (args ws : List ℕ) (wide : 8 ≤ n) (full8 : length args ≡ 8) (r : Running mark n D cells w) (t : TakenAs mark n (w .world) d k ws) where
   abbrev m : Image
@@ -151,7 +127,7 @@ module _ (mark n D : ℕ) (cells : List ℕ) (w : Traced) (d k : ℕ) (args ws :
   dl = subst (λ (e : ℕ). d < e) (r .reached .many) (t .below)
 
   submitted-at : (left : ℕ) → at n (putAll n left m (submission n d k args ws)) ≡ updAll rd (take left (submission n d k args ws))
-  submitted-at left = submission-at mark n m (t .header) d k args ws (t .below) (own-size n args wide full8) (t .passes) left
+  submitted-at left = submission-at mark n m (t .header) d k args ws (t .below) wide full8 (t .passes) left
 
   submitted-reached : (left : ℕ) → Reached mark n D cells (putAll n left m (submission n d k args ws)) (w .trace .begun) (w .trace .order)
   submitted-reached left =
@@ -159,13 +135,13 @@ module _ (mark n D : ℕ) (cells : List ℕ) (w : Traced) (d k : ℕ) (args ws :
       (rw (submitted-at left) (unseen-mirrors n D rd _ (submission-unseen n D d k args ws rd (t .count) (t .pc) left) (r .reached .state) (r .reached .mirrors)))
 
   -- a submission cut anywhere leaves an image that a recovery accepts
-  pub submit-cut : (left : ℕ) → Kept mark n D cells (putAll n left m (submission n d k args ws)) (w .trace .begun) (w .trace .order)
+  pub submit-cut : (left : ℕ) → Recoverable mark n D cells (putAll n left m (submission n d k args ws)) (w .trace .begun) (w .trace .order)
   submit-cut left =
       let crash = subst (λ (e : ℕ). Crashed n e rd) (sym (r .reached .many)) (live-crashed n D rd _ _ _ _ (r .live)) in
       record {
         reached = submitted-reached left;
         crashed = subst (λ (e : ℕ). Crashed n e (at n (putAll n left m (submission n d k args ws)))) (r .reached .many)
-            (submission-cut mark n m (t .header) d k args ws (t .below) (own-size n args wide full8) (t .passes) crash (t .count) (t .pc) (t .numbered) left);
+            (submission-cut mark n m (t .header) d k args ws (t .below) wide full8 (t .passes) crash (t .count) (t .pc) (t .numbered) left);
       }
 
   -- an uncut one leaves the worker at its first turn
@@ -173,8 +149,7 @@ module _ (mark n D : ℕ) (cells : List ℕ) (w : Traced) (d k : ℕ) (args ws :
       → Running mark n D cells (traced (world (putAll n left m (submission n d k args ws)) (placed (w .world .cursors) d (on 0 0)) (left - length (submission n d k args ws))) (taking (w .trace) (given d args ws)))
   submit-whole left l =
       let few64 = check-parts n (length ws) (codeOf ws) (t .passes) .1 in
-      let size = own-size n args wide full8 in
-      let enough : length (submission n d k args ws) ≤ left = rw (submission-length n d k args ws, size) (omega arith) in
+      let enough : length (submission n d k args ws) ≤ left = rw (submission-length n d k args ws full8 wide) (omega arith) in
       let e = submitted-at left ∙ ap (updAll rd) (take-all left (submission n d k args ws) enough) in
       let L = submit-live n D rd (cursorAt (w .world .cursors)) (r .locks) (w .trace .jumps) (w .trace .last) d k args ws (r .live) dl (idle-is _ (t .idles)) wide full8 (t .passes) (t .numbered) in
       record {

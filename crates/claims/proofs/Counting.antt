@@ -13,7 +13,7 @@ use native.Mathlib.Decide.{ℕ-discrete}
 use lib.ListN.{length, getD, set, length-set}
 use lib.Seq.{getD-set-same, getD-set-other, set-set}
 use lib.Dec.{ltb}
-use borrow.Author.Tests.{ltb-false, eq-eqb}
+use borrow.Author.Tests.{ltb-false, eq-eqb, ne-eqb}
 use Rattle.mask.specs.Mask.{has, with, without}
 use Rattle.image.specs.declared.Field.the-variants.{Count, Pc, Owned}
 use Rattle.image.specs.Place.{Place, cell, field, own, step, same, Memory, upd}
@@ -28,9 +28,9 @@ use Rattle.claims.specs.Reference.{Given, Job, job, State, state, readIn
 use Rattle.claims.proofs.Virtual.{virtual}
 use Rattle.claims.proofs.Invariant.{opAt, Live, JobOf, Mirrors}
 use Rattle.claims.proofs.Machine.{taken-false, advance-acquire, advance-release, advance-assign, advance-finish}
-use Rattle.claims.proofs.Entries.{differ}
-use Rattle.claims.proofs.Apart.{Guarded, one-owner, held-within}
+use Rattle.claims.proofs.Apart.{Guarded, held-within}
 use Rattle.claims.proofs.Switching.{after, switched-some, switched-step, Freed, virtual-new, virtual-old, mirror-set}
+use Rattle.claims.proofs.LiveTurn.{one-owner}
 
 -- worker d's section as a job whose next step is k
 pub record Poised (n D : ℕ) (rd : Memory) (d k : ℕ) (j : Job) : Type 0 where
@@ -82,9 +82,9 @@ module _ (n D : ℕ) (rd : Memory) (cursor : ℕ → Cursor) (locks jumps : ℕ 
       let p = field Owned d in
       mirror-set n D rd d (switched n rd d k) S (S .cells) (job (j .code) (suc (j .next)) (j .own) h ∷ []) l M (M .size)
       (λ x y. M .cells x y ∙ sym (old p (cell x) t refl refl))
-      (λ f i. old p (field Owned f) t refl (differ f d i))
+      (λ f i. old p (field Owned f) t refl (ne-eqb f d i))
       (λ f x i. old p (own f x) t refl refl)
-      (λ z. absurd (switched-some n rd d k short z))
+      (λ z. absurd (switched-some n rd d k z))
       (λ z. (
         job (j .code) (suc (j .next)) (j .own) h,
         refl,
@@ -108,7 +108,7 @@ module _ (n D : ℕ) (rd : Memory) (cursor : ℕ → Cursor) (locks jumps : ℕ 
       (λ x y. by x y (ℕ-discrete x a))
       (λ f i. old p (field Owned f) t refl refl)
       (λ f x i. old p (own f x) t refl refl)
-      (λ z. absurd (switched-some n rd d k short z))
+      (λ z. absurd (switched-some n rd d k z))
       (λ z. (
         job (j .code) (suc (j .next)) (j .own) (j .held),
         refl,
@@ -123,7 +123,7 @@ module _ (n D : ℕ) (rd : Memory) (cursor : ℕ → Cursor) (locks jumps : ℕ 
     where
       by : (x : ℕ) → x < 512 → Dec (x ≡ a) → getD (set (S .cells) a v) x 0 ≡ virtual n (after n rd d k) D (cell x)
       by x y (yes i) = rw i (getD-set-same (S .cells) a v 0 (rw (M .size) (g .0)) ∙ sym (new (cell a) v t g e))
-      by x y (no i) = getD-set-other (S .cells) a x v 0 i ∙ (M .cells x y ∙ sym (old (cell a) (cell x) t refl (differ x a i)))
+      by x y (no i) = getD-set-other (S .cells) a x v 0 i ∙ (M .cells x y ∙ sym (old (cell a) (cell x) t refl (ne-eqb x a i)))
 
   assign-own :
       (a v : ℕ) → targetOf d (opAt n rd d k) ≡ own d a → a < n → rd (field (spareVal n rd d) d) ≡ v
@@ -133,8 +133,8 @@ module _ (n D : ℕ) (rd : Memory) (cursor : ℕ → Cursor) (locks jumps : ℕ 
       mirror-set n D rd d (switched n rd d k) S (S .cells) (job (j .code) (suc (j .next)) (set (j .own) a v) (j .held) ∷ []) l M (M .size)
       (λ x y. M .cells x y ∙ sym (old p (cell x) t refl refl))
       (λ f i. old p (field Owned f) t refl refl)
-      (λ f x i. old p (own f x) t refl (rw (differ f d i)))
-      (λ z. absurd (switched-some n rd d k short z))
+      (λ f x i. old p (own f x) t refl (rw (ne-eqb f d i)))
+      (λ z. absurd (switched-some n rd d k z))
       (λ z. (
         job (j .code) (suc (j .next)) (set (j .own) a v) (j .held),
         refl,
@@ -149,7 +149,7 @@ module _ (n D : ℕ) (rd : Memory) (cursor : ℕ → Cursor) (locks jumps : ℕ 
     where
       by : (i : ℕ) → i < n → Dec (i ≡ a) → getD (set (j .own) a v) i 0 ≡ virtual n (after n rd d k) D (own d i)
       by i m (yes h) = rw h (getD-set-same (j .own) a v 0 (rw (P .size) g) ∙ sym (new (own d a) v t refl e))
-      by i m (no h) = getD-set-other (j .own) a i v 0 h ∙ (P .own i m ∙ sym (old (own d a) (own d i) t refl (rw (eq-eqb d d refl, differ i a h))))
+      by i m (no h) = getD-set-other (j .own) a i v 0 h ∙ (P .own i m ∙ sym (old (own d a) (own d i) t refl (rw (eq-eqb d d refl, ne-eqb i a h))))
 
   -- ---- a lock that worker d has, and that its section does not hold yet, is not taken
 
@@ -158,7 +158,7 @@ module _ (n D : ℕ) (rd : Memory) (cursor : ℕ → Cursor) (locks jumps : ℕ 
     where
       unheld : (e : ℕ) → e < D → e ≢ d → (q : Job) → JobOf n D rd e q → rd (field Pc e) ≢ 0 → (t : Bool) → has (q .held) a ≡ t → has (q .held) a ≡ false
       unheld e m i q J z true t =
-          absurd (i (one-owner n D rd cursor locks jumps given L a e d h m l (held-within n D rd cursor locks jumps given L e a m z (rw (J .held) at t)) p))
+          absurd (i (one-owner L a e d h m l (held-within n D rd cursor locks jumps given L e a m z (rw (J .held) at t)) p))
       unheld e m i q J z false t = t
 
       other : (e : ℕ) → e < D → e ≢ d → Dec (rd (field Pc e) ≡ 0) → heldIn (getD (S .queues) e []) a ≡ false

@@ -1,11 +1,11 @@
--- What the tests of a recovery say, both ways: `covers` is inclusion, at most one claimant is that no two workers are owed one
--- lock, a record is sound and a lock is right by their parts, and the lists of refusals are empty exactly if every record is
--- sound and every lock is right. So a recovery accepts an image with a right header exactly if its memory is `Crashed`.
--- By induction on the number of locks or workers, with the head's test by cases.
+-- What the tests of a recovery say: `covers` is inclusion, at most one claimant is that no two workers are owed one lock, and a
+-- record is sound and a lock is right by their parts; so that what a recovery accepts is known by its parts (`Parts`), both
+-- ways. With every record sound and every lock right there is no refusal, so a recovery accepts an image with a right header
+-- whose memory is `Crashed`. By induction on the number of locks or workers, with the head's test by cases.
 use Prim.Native.Nat.{ℕ, suc, zero, _+_, _<_, _≤_}
 use mathlib.Core.Path.{_≡_, refl}
 use mathlib.Core.Bool.{Bool, true, false, cond, _&&_, _||_, not, false≢true}
-use mathlib.Core.List.{List, [], _∷_}
+use mathlib.Core.List.{[]}
 use native.Mathlib.Omega.{arith}
 use native.Mathlib.Decide.{ℕ-discrete, decLt}
 use lib.Dec.{leb, ltb}
@@ -13,10 +13,9 @@ use borrow.Author.Tests.{ltb-true, lt-ltb, leb-true, le-leb}
 use Rattle.base.proofs.Bools.{and-left, and-right, and-both}
 use Rattle.mask.specs.Mask.{has}
 use Rattle.image.specs.declared.Field.the-variants.{Intent}
-use Rattle.image.specs.Place.{lock, field, Memory, Store}
+use Rattle.image.specs.Place.{lock, field, Memory}
 use Rattle.image.specs.Image.{Image, at, workers, headerOk}
-use Rattle.engine.specs.declared.Cursors.{Cursors}
-use Rattle.recovery.specs.Recovery.{covers, owed, sectionOk, pcOk, sound, unsound, claimants, ownerOk, lockOk, badLock, plan, resumedAll, Recovered, accepted, misshapen, byLocks, byRecords, recovery}
+use Rattle.recovery.specs.Recovery.{covers, owed, sectionOk, pcOk, sound, unsound, claimants, ownerOk, lockOk, badLock, plan, resumedAll, accepted, recovery}
 use Rattle.claims.proofs.Invariant.{Crashed}
 
 -- ---- inclusion
@@ -134,11 +133,12 @@ module _ (n : ℕ) (rd : Memory) (D b : ℕ) where
 
 -- ---- a record is sound
 
-abbrev pub Within : ℕ → ℕ → Type 0
-Within small big = (b : ℕ) → b < 64 → has small b ≡ true → has big b ≡ true
+-- every lock of the one is in the other, of the 64 that there are
+abbrev pub Covered : ℕ → ℕ → Type 0
+Covered small big = (b : ℕ) → b < 64 → has small b ≡ true → has big b ≡ true
 
 module _ (n : ℕ) (rd : Memory) (d : ℕ) where
-  pub sound-parts : sound n rd d ≡ true → (sectionOk n rd d ≡ true) × (pcOk n rd d ≡ true) × Within (owed n rd d) (rd (field Intent d))
+  pub sound-parts : sound n rd d ≡ true → (sectionOk n rd d ≡ true) × (pcOk n rd d ≡ true) × Covered (owed n rd d) (rd (field Intent d))
   unfolding sound
   sound-parts h =
       let p = and-left (sectionOk n rd d && pcOk n rd d) (covers (rd (field Intent d)) (owed n rd d) 64) h in (
@@ -147,7 +147,7 @@ module _ (n : ℕ) (rd : Memory) (d : ℕ) where
         covers-all _ _ 64 (and-right (sectionOk n rd d && pcOk n rd d) (covers (rd (field Intent d)) (owed n rd d) 64) h),
       )
 
-  pub parts-sound : sectionOk n rd d ≡ true → pcOk n rd d ≡ true → Within (owed n rd d) (rd (field Intent d)) → sound n rd d ≡ true
+  pub parts-sound : sectionOk n rd d ≡ true → pcOk n rd d ≡ true → Covered (owed n rd d) (rd (field Intent d)) → sound n rd d ≡ true
   unfolding sound
   parts-sound s p w =
       and-both (sectionOk n rd d && pcOk n rd d) (covers (rd (field Intent d)) (owed n rd d) 64) (and-both (sectionOk n rd d) (pcOk n rd d) s p) (all-covers _ _ 64 w)
@@ -157,7 +157,7 @@ module _ (n : ℕ) (rd : Memory) (d : ℕ) where
 pub record Parts (n D : ℕ) (rd : Memory) : Type 0 where
   pub section : (d : ℕ) → d < D → sectionOk n rd d ≡ true
   pub pc : (d : ℕ) → d < D → pcOk n rd d ≡ true
-  pub meant : (d : ℕ) → d < D → Within (owed n rd d) (rd (field Intent d))
+  pub meant : (d : ℕ) → d < D → Covered (owed n rd d) (rd (field Intent d))
   pub alone : (b : ℕ) → b < 64 → Alone n rd D b D
   pub names : (b : ℕ) → b < 64 → Names D rd b
 
@@ -181,32 +181,10 @@ parts-crashed n D rd p =
 -- ---- no refusal
 
 module _ (n : ℕ) (rd : Memory) (D : ℕ) where
-  pub sound-all : (d k : ℕ) → unsound n rd D d k ≡ [] → (e : ℕ) → d ≤ e → e < d + k → sound n rd e ≡ true
-  unfolding unsound
-  sound-all d zero h e l m = absurd (omega arith)
-  sound-all d (suc k) h e l m = by (sound n rd d) refl h (λ r. sound-all (d + 1) k r e) (ℕ-discrete d e)
-    where
-      by : (t : Bool) → sound n rd d ≡ t → cond t (unsound n rd D (d + 1) k) (d ∷ []) ≡ []
-          → (unsound n rd D (d + 1) k ≡ [] → d + 1 ≤ e → e < d + 1 + k → sound n rd e ≡ true) → Dec (d ≡ e) → sound n rd e ≡ true
-      by true s r more (yes i) = rw (← i) s
-      by true s r more (no i) = more r (omega arith) (omega arith)
-      by false s r more i = absurd (let z : _≡_ {A = ℕ} 0 1 = cc in omega arith)
-
   pub all-sound : (d k : ℕ) → ((e : ℕ) → d ≤ e → e < d + k → sound n rd e ≡ true) → unsound n rd D d k ≡ []
   unfolding unsound
   all-sound d zero h = refl
   all-sound d (suc k) h = rw (h d (omega arith) (omega arith)) (all-sound (d + 1) k (λ e l m. h e (omega arith) (omega arith)))
-
-  pub right-all : (b k : ℕ) → badLock n rd D b k ≡ [] → (c : ℕ) → b ≤ c → c < b + k → lockOk n rd D c ≡ true
-  unfolding badLock
-  right-all b zero h c l m = absurd (omega arith)
-  right-all b (suc k) h c l m = by (lockOk n rd D b) refl h (λ r. right-all (b + 1) k r c) (ℕ-discrete b c)
-    where
-      by : (t : Bool) → lockOk n rd D b ≡ t → cond t (badLock n rd D (b + 1) k) (b ∷ []) ≡ []
-          → (badLock n rd D (b + 1) k ≡ [] → b + 1 ≤ c → c < b + 1 + k → lockOk n rd D c ≡ true) → Dec (b ≡ c) → lockOk n rd D c ≡ true
-      by true s r more (yes i) = rw (← i) s
-      by true s r more (no i) = more r (omega arith) (omega arith)
-      by false s r more i = absurd (let z : _≡_ {A = ℕ} 0 1 = cc in omega arith)
 
   pub all-right : (b k : ℕ) → ((c : ℕ) → b ≤ c → c < b + k → lockOk n rd D c ≡ true) → badLock n rd D b k ≡ []
   unfolding badLock
@@ -215,32 +193,8 @@ module _ (n : ℕ) (rd : Memory) (D : ℕ) where
 
 -- ---- acceptance
 
-private-by : (t : Bool) (good : Recovered) (ls ds : List ℕ) (ss : List Store) (cs : Cursors)
-    → cond t (byRecords (byLocks good ls) ds) misshapen ≡ accepted ss cs → (t ≡ true) × (ls ≡ []) × (ds ≡ []) × (good ≡ accepted ss cs)
-private-by true good [] [] ss cs h = (refl, refl, refl, h)
-private-by true good [] (d ∷ ds) ss cs h = absurd (let z : _≡_ {A = ℕ} 0 1 = cc in omega arith)
-private-by true good (b ∷ bs) [] ss cs h = absurd (let z : _≡_ {A = ℕ} 0 1 = cc in omega arith)
-private-by true good (b ∷ bs) (d ∷ ds) ss cs h = absurd (let z : _≡_ {A = ℕ} 0 1 = cc in omega arith)
-private-by false good ls ds ss cs h = absurd (let z : _≡_ {A = ℕ} 0 1 = cc in omega arith)
-
 module _ (mark n : ℕ) (m : Image) where
   pub crashed-accepted : headerOk mark n m ≡ true → Crashed n (workers m) (at n m) → recovery mark n m ≡ accepted (plan n (at n m) (workers m)) (resumedAll n (at n m) (workers m))
   unfolding recovery
   crashed-accepted h c =
       rw (h, all-right n (at n m) (workers m) 0 64 (λ b l u. c .locks b (omega arith)), all-sound n (at n m) (workers m) 0 (workers m) (λ d l u. c .sounds d (omega arith)))
-
-  -- an accepted image has a right header, and its memory is what a recovery accepts
-  pub accepted-crashed : (ss : List Store) (cs : Cursors) → recovery mark n m ≡ accepted ss cs
-      → (headerOk mark n m ≡ true) × Crashed n (workers m) (at n m) × (ss ≡ plan n (at n m) (workers m)) × (cs ≡ resumedAll n (at n m) (workers m))
-  unfolding recovery
-  accepted-crashed ss cs h =
-      let p = private-by (headerOk mark n m) _ (badLock n (at n m) (workers m) 0 64) (unsound n (at n m) (workers m) 0 (workers m)) ss cs h in
-      let e = p .3 in (
-        p .0,
-        record {
-          sounds = λ d l. sound-all n (at n m) (workers m) 0 (workers m) (p .2) d (omega arith) (omega arith);
-          locks = λ b l. right-all n (at n m) (workers m) 0 64 (p .1) b (omega arith) (omega arith);
-        },
-        (cc),
-        (cc),
-      )

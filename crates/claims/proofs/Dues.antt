@@ -2,7 +2,7 @@
 -- finish the count. Each keeps the worker's part of the invariant. Where a turn is the step's last, the worker stands before
 -- the next step (`over`), which there is, since only a finish is last.
 use Prim.Native.Nat.{ℕ, suc, _+_, _-_, _/_, _<_, _≤_}
-use mathlib.Core.Path.{_≡_, refl, sym, ap, subst, _∙_}
+use mathlib.Core.Path.{_≡_, refl, sym, ap, _∙_}
 use mathlib.Core.Logic.{_⊎_, inl, inr}
 use mathlib.Core.Bool.{Bool, true, false, cond}
 use native.Mathlib.Omega.{arith}
@@ -25,16 +25,17 @@ use Rattle.engine.specs.Cursor.{on}
 use Rattle.engine.specs.Turn.{operand, codeIn, activeVal, opTurn, turnAt, stored, unheld}
 use Rattle.recovery.specs.Recovery.{targetOf, targetTurn}
 use Rattle.claims.specs.Reference.{Given}
-use Rattle.claims.proofs.Invariant.{opAt, heldAt, Sectioned, logsHeld, Named, Due, stay, resting, unlocking, unlocked}
+use Rattle.claims.proofs.Invariant.{opAt, heldAt, Sectioned, Named, Due, stay, resting, unlocking, unlocked}
 use Rattle.claims.proofs.Turns.{inRecord, ownWord, ownCell, frees, Stepped}
-use Rattle.claims.proofs.Fields.{Keeps, keeps-field, keeps-lock, keeps-cell, keeps-own}
+use Rattle.claims.proofs.Fields.{KeepsNamed, keeps-field, keeps-lock, keeps-cell, keeps-own}
 use Rattle.claims.proofs.Ready.{turn-op, step-behind}
 use Rattle.claims.proofs.Origins.{op-kept, held-kept, value-kept, sectioned-kept, named-kept, after, Before, arrive}
+use Rattle.claims.proofs.Entries.{named-logs}
 
 module _ (n : ℕ) (rd : Memory) (d : ℕ) (g : Given) (s locks : ℕ) (sec : Sectioned n rd d) (m : Named n rd d s) where
   -- step s is over in rd′
   over :
-      (rd′ : Memory) (x : Op) → Keeps n rd rd′ d → rd′ (field Number d) ≡ rd (field Number d) → rd′ (field Finished d) ≤ rd′ (field Number d) → opAt n rd d s ≡ x → ends x ≡ false
+      (rd′ : Memory) (x : Op) → KeepsNamed n rd rd′ d → rd′ (field Number d) ≡ rd (field Number d) → rd′ (field Finished d) ≤ rd′ (field Number d) → opAt n rd d s ≡ x → ends x ≡ false
       → rd′ (targetOf d x) ≡ rd (field (activeVal n rd d) d) → rd′ (field Owned d) ≡ heldAt n rd d (suc s) → Before n rd′ d g (suc s) 0
   over rd′ x k e f o i done w =
       record {
@@ -44,9 +45,6 @@ module _ (n : ℕ) (rd : Memory) (d : ℕ) (g : Given) (s locks : ℕ) (sec : Se
         owned = w ∙ sym (held-kept n rd rd′ d k (suc s));
       }
 
-  logged-as : (x : Op) → opAt n rd d s ≡ x → logsHeld n rd d s x
-  logged-as x o = subst (λ (y : Op). logsHeld n rd d s y) o (m .logs)
-
   -- ---- target stores
 
   due-acquire : (a : ℕ) → opAt n rd d s ≡ Acquire a → Due n rd d s locks (Acquire a) → Stepped n rd d g locks 0 (opTurn n rd d s 5 (Acquire a))
@@ -54,7 +52,7 @@ module _ (n : ℕ) (rd : Memory) (d : ℕ) (g : Given) (s locks : ℕ) (sec : Se
       let v = rd (field (activeVal n rd d) d) in
       let rd′ = upd rd (field Owned d) v in
       let done : rd′ (field Owned d) ≡ v = upd-same rd (field Owned d) v in
-      let b = over rd′ (Acquire a) (keeps-field n rd d v Owned refl refl refl refl refl refl) refl (sec .unfinished) o refl done (done ∙ logged-as (Acquire a) o) in
+      let b = over rd′ (Acquire a) (keeps-field n rd d v Owned refl refl refl refl refl refl) refl (sec .unfinished) o refl done (done ∙ named-logs n rd d s m (Acquire a) o) in
       (locks, inRecord Owned v, rw (add-one s) (arrive n rd′ d g (suc s) 0 locks b (u .1) (u .2)))
 
   due-release : (a : ℕ) → opAt n rd d s ≡ Release a → Due n rd d s locks (Release a) → Stepped n rd d g locks 0 (opTurn n rd d s 3 (Release a))
@@ -63,7 +61,7 @@ module _ (n : ℕ) (rd : Memory) (d : ℕ) (g : Given) (s locks : ℕ) (sec : Se
       let rd′ = upd rd (field Owned d) v in
       let k = keeps-field n rd d v Owned refl refl refl refl refl refl in
       let sec′ = sectioned-kept n rd rd′ d k refl (sec .unfinished) sec in
-      let w = upd-same rd (field Owned d) v ∙ logged-as (Release a) o in
+      let w = upd-same rd (field Owned d) v ∙ named-logs n rd d s m (Release a) o in
       (locks, inRecord Owned v, unlocking s a locks sec′ (named-kept n rd rd′ d k s m) o w (either (u .0)) (u .1))
     where
       either :
@@ -171,7 +169,7 @@ module _ (n : ℕ) (rd : Memory) (d : ℕ) (g : Given) (s locks : ℕ) (sec : Se
     intent-op e =
         let v = without (rd (field Intent d)) a in
         let rd′ = upd rd (field Intent d) v in
-        let done : rd (field Owned d) ≡ rd (field (activeVal n rd d) d) = w ∙ sym (logged-as (Release a) o) in
+        let done : rd (field Owned d) ≡ rd (field (activeVal n rd d) d) = w ∙ sym (named-logs n rd d s m (Release a) o) in
         let b = over rd′ (Release a) (keeps-field n rd d v Intent refl refl refl refl refl refl) refl (sec .unfinished) o refl done w in
         (locks, inRecord Intent v, rw (add-one s) (arrive n rd′ d g (suc s) 0 locks b (upd-same rd (field Intent d) v ∙ intent-without) e))
 

@@ -1,10 +1,10 @@
 -- Demand 3: from any image at rest, after any list of calls and cuts with a recovery after each cut, a recovery is accepted,
 -- and 384 rounds for each worker, in one run or several, leave every worker idle, every lock free, and the cells those that the
 -- reference machine gives for the sections begun.
-use Prim.Native.Nat.{ℕ, suc, zero, _+_, _*_, _^_, _-_, _<_, _≤_}
-use mathlib.Core.Path.{_≡_, refl, ap, subst, _∙_, sym}
+use Prim.Native.Nat.{ℕ, suc, zero, _+_, _*_, _≤_}
+use mathlib.Core.Path.{_≡_, refl}
 use mathlib.Core.Logic.{_⊎_, inl, inr, ⊎-elim}
-use mathlib.Core.Bool.{Bool, true, false, cond, _&&_, true≢false}
+use mathlib.Core.Bool.{Bool, true, false, cond}
 use mathlib.Core.List.{List, [], _∷_, _++_, map}
 use native.Mathlib.Omega.{arith}
 use Rattle.image.specs.declared.Field.the-variants.{Count, Pc, Intent, Owned}
@@ -13,19 +13,16 @@ use Rattle.image.specs.Image.{Image, at, workers, cellsOf}
 use Rattle.engine.specs.Cursor.{cursorAt}
 use Rattle.engine.specs.Run.{anyOpen}
 use Rattle.engine.proofs.Formats.{formatted-header, formatted-at}
-use Rattle.claims.specs.Calls.{Traced, Call, runs, recovers, Move, whole, cut, call, lent, move, play, from, legal, endsCut, machine, ranBy, rounds}
-use Rattle.claims.specs.Claims.{total, Rested, FormattedRests, Idle, Settled, Durable, DurableAlways, after, mended}
+use Rattle.claims.specs.Calls.{Traced, runs, recovers, Move, whole, call, lent, move, play, from, legal, endsCut, machine, rounds}
+use Rattle.claims.specs.Claims.{total, FormattedRests, Idle, Settled, DurableAlways, after, mended}
 use Rattle.claims.proofs.Progress.{rankSum-most}
 use Rattle.claims.proofs.Held.{Running}
-use Rattle.claims.proofs.Settling.{sum, Ran, settles, no-rank-idle}
-use Rattle.claims.proofs.Called.{Kept, accepts}
-use Rattle.claims.proofs.Played.{plenty, Worth, running-lent, running-worth, spare-lent, ran-is, Good, play-good}
-use Rattle.claims.proofs.Resting.{rested-running, idle-all, idle-rested, idle-gives}
-
-pub play-append : (mark n : ℕ) (xs ys : List Move) (w : Traced) → play mark n (xs ++ ys) w ≡ play mark n ys (play mark n xs w)
-unfolding play
-play-append mark n [] ys w = refl
-play-append mark n (x ∷ xs) ys w = play-append mark n xs ys (move mark n x w)
+use Rattle.claims.proofs.Settling.{sum, settles, no-rank-idle}
+use Rattle.claims.proofs.Called.{accepts}
+use Rattle.claims.proofs.Played.{plenty, Worth, running-worth, spare-lent, ran-is, Good, play-good}
+use Rattle.claims.proofs.Resting.{rested-running, idle-rested, idle-gives}
+use Rattle.claims.proofs.Cursors.{idle-all}
+use Rattle.claims.proofs.Moves.{play-append}
 
 rounds-idle : (mark n D r : ℕ) (w : Traced) → anyOpen D 0 (w .world .cursors) ≡ false → rounds mark n r D w ≡ w
 unfolding rounds

@@ -1,7 +1,7 @@
--- Places told apart by a test, the fields of the active and the spare log entry, and the log entry of a worker: what it is by
--- its pc, and when two memories have the same.
+-- Places told apart by a test, the fields of the active and the spare log entry, which are no pc, and the log entry of a worker:
+-- what it is by its pc, and when two memories have the same.
 use Prim.Native.Nat.{ℕ, suc, _-_, _%_, _^_}
-use mathlib.Core.Path.{_≡_, refl, sym, ap, _∙_}
+use mathlib.Core.Path.{_≡_, refl, sym, ap, _∙_, subst}
 use mathlib.Core.Logic.{_≢_}
 use mathlib.Core.Bool.{Bool, true, false, cond, false≢true}
 use native.Mathlib.Omega.{arith}
@@ -16,8 +16,10 @@ use Rattle.section.specs.declared.Op.{Op}
 use Rattle.section.specs.declared.Op.the-variants.{Acquire, Release, Assign, Jump, Finish, Unknown}
 use Rattle.engine.specs.Turn.{operand, second, spareAddr, spareVal, activeVal}
 use Rattle.recovery.specs.Recovery.{targetOf, namedStep, namedOp}
+use Rattle.claims.specs.Calls.{isPc}
 use Rattle.claims.proofs.Virtual.{none, due, entryOf}
-use Rattle.claims.proofs.Invariant.{opAt}
+use Rattle.claims.proofs.Invariant.{opAt, Named, logsHeld}
+use Rattle.claims.proofs.Fields.{active-val-kept}
 
 -- ---- places told apart
 
@@ -68,9 +70,6 @@ belongs d (field f e) = eqb e d
 belongs d (own e i) = eqb e d
 belongs d (step e i) = eqb e d
 
-pub differ : (d e : ℕ) → d ≢ e → eqb d e ≡ false
-differ d e h = ne-eqb d e h
-
 -- ---- active and spare entries
 
 -- both values' fields are other than f
@@ -109,11 +108,33 @@ spare-addr-apart n rd d f a b = by (second n rd d)
 pub active-not-addr : (n : ℕ) (rd : Memory) (d e : ℕ) → sameField (activeVal n rd d) (spareAddr n rd e) ≡ false
 active-not-addr n rd d e = active-apart n rd d (spareAddr n rd e) (spare-addr-apart n rd e Val0 refl refl) (spare-addr-apart n rd e Val1 refl refl)
 
--- ---- what a pc names
+-- ---- no pc
 
-pub active-cong : (n : ℕ) (rd rd′ : Memory) (d : ℕ) → rd′ (field Pc d) ≡ rd (field Pc d) → activeVal n rd′ d ≡ activeVal n rd d
-unfolding activeVal second
-active-cong n rd rd′ d e = rw e
+pub operand-no-pc : (d a : ℕ) → isPc (operand d a) ≡ false
+unfolding operand
+operand-no-pc d a = by (ltb a 512)
+  where
+    by : (b : Bool) → isPc (cond b (cell a) (own d (a - 512))) ≡ false
+    by true = refl
+    by false = refl
+
+pub addr-no-pc : (n : ℕ) (rd : Memory) (d : ℕ) → isPc (field (spareAddr n rd d) d) ≡ false
+unfolding spareAddr
+addr-no-pc n rd d = by (second n rd d)
+  where
+    by : (b : Bool) → isPc (field (cond b Addr0 Addr1) d) ≡ false
+    by true = refl
+    by false = refl
+
+pub val-no-pc : (n : ℕ) (rd : Memory) (d : ℕ) → isPc (field (spareVal n rd d) d) ≡ false
+unfolding spareVal
+val-no-pc n rd d = by (second n rd d)
+  where
+    by : (b : Bool) → isPc (field (cond b Val0 Val1) d) ≡ false
+    by true = refl
+    by false = refl
+
+-- ---- what a pc names
 
 pub named-cong : (n : ℕ) (rd rd′ : Memory) (d : ℕ) → rd′ (field Pc d) ≡ rd (field Pc d) → namedStep n rd′ d ≡ namedStep n rd d
 unfolding namedStep
@@ -139,6 +160,10 @@ pub entry-named : (n : ℕ) (rd : Memory) (d s : ℕ) → rd (field Pc d) % 2 ^ 
 unfolding namedOp
 entry-named n rd d s e = entry-due n rd d (named-pc n rd d s e) ∙ rw (named-step n rd d s e)
 
+-- what the step that is named has logged
+pub named-logs : (n : ℕ) (rd : Memory) (d s : ℕ) → Named n rd d s → (x : Op) → opAt n rd d s ≡ x → logsHeld n rd d s x
+named-logs n rd d s m x o = subst (logsHeld n rd d s) o (m .logs)
+
 -- two memories with one entry
 pub entry-cong :
     (n : ℕ) (rd rd′ : Memory) (d : ℕ) → rd′ (field Pc d) ≡ rd (field Pc d) → (rd (field Pc d) ≢ 0 → (i : ℕ) → rd′ (step d i) ≡ rd (step d i))
@@ -150,4 +175,4 @@ entry-cong n rd rd′ d p c v = by (ℕ-discrete (rd (field Pc d)) 0)
     by (yes e) = entry-none n rd′ d (p ∙ e) ∙ sym (entry-none n rd d e)
     by (no e) =
         entry-due n rd′ d (λ z. e (sym p ∙ z))
-        ∙ (rw (named-cong n rd rd′ d p, active-cong n rd rd′ d p, c e (namedStep n rd d), v e) (sym (entry-due n rd d e)))
+        ∙ (rw (named-cong n rd rd′ d p, active-val-kept n rd rd′ d p, c e (namedStep n rd d), v e) (sym (entry-due n rd d e)))

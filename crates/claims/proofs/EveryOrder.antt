@@ -19,20 +19,17 @@ use Rattle.image.proofs.Header.{header-sized}
 use Rattle.image.proofs.Cells.{cells-length, cells-at}
 use Rattle.engine.specs.Cursor.{idle, cursorAt}
 use Rattle.claims.specs.Reference.{Job, State, Given, start, advance, follow, noneLeft, initial}
-use Rattle.claims.specs.Calls.{Traced, Move, move, play, from, callable, ofMove, machine}
+use Rattle.claims.specs.Calls.{Traced, Move, play, from, callable, ofMove, machine}
 use Rattle.claims.specs.Claims.{EveryOrderHad, concat, ofWorker, callsOf, Rested, Had, admissible}
 use Rattle.claims.proofs.OrderLevel.{Stand, Even}
 use Rattle.claims.proofs.OrderHandIn.{Able}
 use Rattle.claims.proofs.OrderStep.{some-same, none-some}
-use Rattle.claims.proofs.OrderEntry.{Entry, entry}
+use Rattle.claims.proofs.OrderEntry.{EntryHad, entry}
 use Rattle.claims.proofs.OrderFeed.{rested-even, admitted-able}
+use Rattle.claims.proofs.Moves.{play-append}
+use Rattle.claims.proofs.Machine.{follow-first}
 
 -- ---- one list after the other
-
-pub play-append : (mark n : ℕ) (xs ys : List Move) (w : Traced) → play mark n (xs ++ ys) w ≡ play mark n ys (play mark n xs w)
-unfolding play
-play-append mark n [] ys w = refl
-play-append mark n (x ∷ xs) ys w = play-append mark n xs ys (move mark n x w)
 
 pub machine-append : (xs ys : List Move) → machine xs ≡ true → machine ys ≡ true → machine (xs ++ ys) ≡ true
 unfolding machine
@@ -52,14 +49,9 @@ follow-nil : (s t : State) → follow s [] ≡ some t → s ≡ t
 unfolding follow
 follow-nil s t e = some-same e
 
--- the first entry
-follow-first : (s t : State) (d : ℕ) (ds : List ℕ) → advance s d ≡ some t → follow s (d ∷ ds) ≡ follow t ds
+follow-stuck : (s t : State) (d : ℕ) (ds : List ℕ) → advance s d ≡ none → follow s (d ∷ ds) ≡ some t → ⊥
 unfolding follow
-follow-first s t d ds e = rw e
-
-follow-none : (s t : State) (d : ℕ) (ds : List ℕ) → advance s d ≡ none → follow s (d ∷ ds) ≡ some t → ⊥
-unfolding follow
-follow-none s t d ds e h = none-some (rw e at h)
+follow-stuck s t d ds e h = none-some (rw e at h)
 
 -- a world level with a state has its cells
 even-cells : (mark n D : ℕ) (w : Traced) (s : State) (gs : ℕ → List Given) → Even mark n D w s gs → cellsOf (w .world .image) ≡ s .cells
@@ -104,7 +96,7 @@ module _ (mark n D : ℕ) (least : 8 ≤ n) (most : n ≤ 64) (final : State) wh
 
   -- a block, and those of the order behind its entry
   one-block :
-      (d : ℕ) (ds : List ℕ) (w : Traced) (s t : State) (gs : ℕ → List Given) → Even mark n D w s gs → advance s d ≡ some t → (en : Entry mark n D w d t gs)
+      (d : ℕ) (ds : List ℕ) (w : Traced) (s t : State) (gs : ℕ → List Given) → Even mark n D w s gs → advance s d ≡ some t → (en : EntryHad mark n D w d t gs)
       → Blocks (play mark n (en .moves) w) t (en .rests) ds → Blocks w s gs (d ∷ ds)
   one-block d ds w s t gs E a en B =
       let p = play-append mark n (en .moves) (concat (B .blocks)) w in
@@ -131,7 +123,7 @@ module _ (mark n D : ℕ) (least : 8 ≤ n) (most : n ≤ 64) (final : State) wh
   more-blocks d ds more w s gs E able f = by (advance s d) refl
     where
       by : (o : Option State) → advance s d ≡ o → Blocks w s gs (d ∷ ds)
-      by none a = absurd (follow-none s final d ds a f)
+      by none a = absurd (follow-stuck s final d ds a f)
       by (some t) a =
           let en = entry mark n D w s t gs E able least most d a in
           one-block d ds w s t gs E a en (more (play mark n (en .moves) w) t (en .rests) (en .even) (en .able) (sym (follow-first s t d ds a) ∙ f))

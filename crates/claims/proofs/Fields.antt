@@ -1,5 +1,5 @@
 -- What one store of a worker leaves of its record, and which log entry is active afterwards. A store is known by the words
--- that it keeps (`Keeps`, `Quiet`), so that what rests on these words is carried over by one lemma for every store. Which
+-- that it keeps (`KeepsNamed`, `Quiet`), so that what rests on these words is carried over by one lemma for every store. Which
 -- entry is active is read off the pc alone: other stores leave it, and the store of the next pc exchanges the entries.
 use Prim.Native.Nat.{ℕ, suc, _+_, _-_, _/_, _%_, _^_, _<_}
 use mathlib.Core.Path.{_≡_, refl, ap, _∙_}
@@ -14,7 +14,7 @@ use Rattle.image.proofs.Places.{upd-same}
 use Rattle.engine.specs.Turn.{operand, second, spareAddr, spareVal, activeAddr, activeVal, switched}
 
 -- what every store but those of the pc, the count and the active entry keeps
-pub record Keeps (n : ℕ) (rd rd′ : Memory) (d : ℕ) : Type 0 where
+pub record KeepsNamed (n : ℕ) (rd rd′ : Memory) (d : ℕ) : Type 0 where
   pub steps : (i : ℕ) → rd′ (step d i) ≡ rd (step d i)
   pub count : rd′ (field Count d) ≡ rd (field Count d)
   pub pc : rd′ (field Pc d) ≡ rd (field Pc d)
@@ -23,7 +23,7 @@ pub record Keeps (n : ℕ) (rd rd′ : Memory) (d : ℕ) : Type 0 where
 
 -- and the stores that are no target store
 pub record Quiet (n : ℕ) (rd rd′ : Memory) (d : ℕ) : Type 0 where
-  pub keeps : Keeps n rd rd′ d
+  pub keeps : KeepsNamed n rd rd′ d
   pub owned : rd′ (field Owned d) ≡ rd (field Owned d)
   pub number : rd′ (field Number d) ≡ rd (field Number d)
   pub owns : (i : ℕ) → rd′ (own d i) ≡ rd (own d i)
@@ -86,7 +86,7 @@ module _ (n : ℕ) (rd : Memory) (d v : ℕ) where
   -- a single word that is neither count, pc nor of the log
   pub keeps-field :
       (f : Field) → sameField Count f ≡ false → sameField Pc f ≡ false → sameField Addr0 f ≡ false → sameField Val0 f ≡ false → sameField Addr1 f ≡ false → sameField Val1 f ≡ false
-      → Keeps n rd (upd rd (field f d) v) d
+      → KeepsNamed n rd (upd rd (field f d) v) d
   unfolding activeAddr activeVal
   keeps-field f c p a0 v0 a1 v1 =
       record {
@@ -97,13 +97,13 @@ module _ (n : ℕ) (rd : Memory) (d v : ℕ) where
         value = reads rd d v f Val1 Val0 (second n rd d) v1 v0;
       }
 
-  pub keeps-lock : (a : ℕ) → Keeps n rd (upd rd (lock a) v) d
+  pub keeps-lock : (a : ℕ) → KeepsNamed n rd (upd rd (lock a) v) d
   keeps-lock a = record { steps = λ i. refl; count = refl; pc = refl; address = refl; value = refl }
 
-  pub keeps-cell : (x : ℕ) → Keeps n rd (upd rd (cell x) v) d
+  pub keeps-cell : (x : ℕ) → KeepsNamed n rd (upd rd (cell x) v) d
   keeps-cell x = record { steps = λ i. refl; count = refl; pc = refl; address = refl; value = refl }
 
-  pub keeps-own : (i : ℕ) → Keeps n rd (upd rd (own d i) v) d
+  pub keeps-own : (i : ℕ) → KeepsNamed n rd (upd rd (own d i) v) d
   keeps-own i = record { steps = λ j. refl; count = refl; pc = refl; address = refl; value = refl }
 
   pub quiet-intent : Quiet n rd (upd rd (field Intent d) v) d

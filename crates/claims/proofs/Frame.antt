@@ -1,32 +1,36 @@
 -- A worker's phase looks only at its own record, its own words and the cells whose locks it has: where two memories agree on
--- these, it stands in the one as in the other.
-use Prim.Native.Nat.{ℕ, suc, zero, _+_, _-_, _/_, _%_, _^_, _<_, _≤_}
-use mathlib.Core.Path.{_≡_, refl, ap, ap₂, subst, _∙_, sym, fun-ext}
-use mathlib.Core.Logic.{_≢_, _⊎_, inl, inr}
-use mathlib.Core.Bool.{Bool, true, false, cond, true≢false}
-use lib.ListN.{getD}
+-- these (`Agree`), it stands in the one as in the other (`phase-same`). An expression and a jump of a valid section read only
+-- words that the held set covers, and what is held is among the locks (`nearing-within`); the rest is the record's own words,
+-- kept as by a store of another word (`keeps`). By cases on the phase.
+use Prim.Native.Nat.{ℕ, suc, _-_, _/_, _<_, _+_}
+use mathlib.Core.Path.{_≡_, refl, subst, _∙_, sym}
+use mathlib.Core.Logic.{_⊎_, inl, inr}
+use mathlib.Core.Bool.{Bool, true, false, cond, and-eq-true-iff}
 use lib.Dec.{leb, ltb, eqb}
-use borrow.Author.Tests.{leb-true, leb-false, lt-ltb, le-ltb}
+use borrow.Author.Tests.{leb-true}
 use native.Mathlib.Omega.{arith}
-use Rattle.base.proofs.Bools.{and-left, and-right}
 use Rattle.mask.specs.Mask.{has, with}
-use Rattle.mask.proofs.Laws.{has-none, has-with, has-with-other}
 use Rattle.image.specs.declared.Field.{Field}
 use Rattle.image.specs.declared.Field.the-variants.{Count, Pc, Intent, Owned, Number, Finished}
-use Rattle.image.specs.Place.{Place, cell, field, own, step, Memory}
+use Rattle.image.specs.Place.{cell, field, own, step, Memory}
 use Rattle.section.specs.declared.Expr.{Expr}
 use Rattle.section.specs.declared.Expr.the-variants.{Literal, Sum, Difference, Less}
 use Rattle.section.specs.declared.Op.{Op}
 use Rattle.section.specs.declared.Op.the-variants.{Acquire, Release, Assign, Jump, Finish, Unknown}
-use Rattle.section.specs.Op.{opOf, eval}
+use Rattle.section.specs.Op.{eval}
 use Rattle.section.specs.Check.{Code, heldBefore, covered, coveredIn}
 use Rattle.section.specs.Valid.{Valid}
+use Rattle.section.specs.Fits.{ranged}
 use Rattle.section.proofs.Held.{held-zero, after-jump, after-assign}
+use Rattle.section.proofs.Ranges.{expr-range}
 use Rattle.engine.specs.Cursor.{Cursor, on}
-use Rattle.engine.specs.Turn.{operand, codeIn, wordIn, second, spareAddr, spareVal, activeAddr, activeVal}
+use Rattle.engine.specs.Turn.{operand, codeIn, wordIn, spareAddr, spareVal, activeAddr, activeVal}
 use Rattle.recovery.specs.Recovery.{targetOf, targetTurn}
 use Rattle.claims.specs.Reference.{Given}
-use Rattle.claims.proofs.Invariant.{opAt, heldAt, Sectioned, logsHeld, Named, Nearing, Due, Jumps, stay, leap, Handed, Phase, resting, fresh, due, unlocking, unlocked, between, ended}
+use Rattle.claims.proofs.Invariant.{opAt, heldAt, Sectioned, Nearing, Due, Jumps, stay, leap, Phase, resting, fresh, due, unlocking, unlocked, between, ended}
+use Rattle.claims.proofs.Sets.{Within, within-refl, within-with, within-none}
+use Rattle.claims.proofs.Fields.{KeepsNamed, spare-addr-kept, spare-val-kept}
+use Rattle.claims.proofs.Origins.{op-kept, held-kept, value-kept, sectioned-kept, named-kept, handed-kept}
 
 -- the memories agree on what worker e, which has these locks, looks at
 pub record Agree (rd rd′ : Memory) (e locks : ℕ) : Type 0 where
@@ -37,30 +41,20 @@ pub record Agree (rd rd′ : Memory) (e locks : ℕ) : Type 0 where
 
 -- ---- expressions
 
--- an expression reads only words that are covered
-pub eval-covered : (f g : ℕ → ℕ) (h : ℕ) (e : Expr) → coveredIn h e ≡ true → ((x : ℕ) → covered h x ≡ true → f x ≡ g x) → eval f e ≡ eval g e
+-- an expression reads only words that are covered and in range
+pub eval-same :
+    (n h : ℕ) (f g : ℕ → ℕ) → ((x : ℕ) → covered h x ≡ true → x < 512 + n → f x ≡ g x) → (e : Expr) → coveredIn h e ≡ true → ranged n e → eval f e ≡ eval g e
 unfolding eval
-eval-covered f g h (Literal b c) v s = refl
-eval-covered f g h (Sum b c) v s = rw (s b (and-left (covered h b) (covered h c) v), s c (and-right (covered h b) (covered h c) v))
-eval-covered f g h (Difference b c) v s = rw (s b (and-left (covered h b) (covered h c) v), s c (and-right (covered h b) (covered h c) v))
-eval-covered f g h (Less b c) v s = rw (s b (and-left (covered h b) (covered h c) v), s c (and-right (covered h b) (covered h c) v))
-
--- h is within locks
-abbrev pub Within : ℕ → ℕ → Type 0
-Within h locks = (b : ℕ) → has h b ≡ true → has locks b ≡ true
-
-pub within-refl : (h : ℕ) → Within h h
-within-refl h b e = e
-
-pub within-with : (h a : ℕ) → Within h (with h a)
-within-with h a b e = by (native.Mathlib.Decide.ℕ-discrete a b)
-  where
-    by : Dec (a ≡ b) → has (with h a) b ≡ true
-    by (yes p) = rw (← p) (has-with h a)
-    by (no p) = has-with-other h a b p ∙ e
-
-pub within-none : (locks : ℕ) → Within 0 locks
-within-none locks b e = absurd (true≢false (sym e ∙ has-none b))
+eval-same n h f g r (Literal b c) k l = refl
+eval-same n h f g r (Sum b c) k l =
+    let (p, q) = and-eq-true-iff (covered h b) (covered h c) .0 k in
+    rw (r b p (l .0), r c q (l .1))
+eval-same n h f g r (Difference b c) k l =
+    let (p, q) = and-eq-true-iff (covered h b) (covered h c) .0 k in
+    rw (r b p (l .0), r c q (l .1))
+eval-same n h f g r (Less b c) k l =
+    let (p, q) = and-eq-true-iff (covered h b) (covered h c) .0 k in
+    rw (r b p (l .0), r c q (l .1))
 
 -- a step that has come near its pc has what it holds among its locks
 pub nearing-within : (n : ℕ) (rd : Memory) (e s t h locks : ℕ) (x : Op) → Nearing n rd e s t h locks x → Within h locks
@@ -90,34 +84,19 @@ jumps-held n rd e i j k v (leap jj kk a b js l o) =
     ∙ jumps-held n rd e i jj kk v js
 
 module _ (n : ℕ) (rd rd′ : Memory) (e locks : ℕ) (A : Agree rd rd′ e locks) where
-  code-same : codeIn n rd′ e ≡ codeIn n rd e
-  code-same = fun-ext (λ i. A .steps i)
+  -- the pc, the section and the active entry are kept
+  keeps : KeepsNamed n rd rd′ e
+  keeps = record { steps = A .steps; count = A .fields Count; pc = A .fields Pc; address = A .fields (activeAddr n rd e); value = A .fields (activeVal n rd e) }
 
-  second-same : second n rd′ e ≡ second n rd e
-  unfolding second
-  second-same = rw (A .fields Pc)
-
+  -- and so is the spare one
   spareAddr-same : rd′ (field (spareAddr n rd′ e) e) ≡ rd (field (spareAddr n rd e) e)
-  unfolding spareAddr
-  spareAddr-same = rw second-same (A .fields _)
+  spareAddr-same = rw (spare-addr-kept n rd rd′ e (A .fields Pc)) (A .fields (spareAddr n rd e))
 
   spareVal-same : rd′ (field (spareVal n rd′ e) e) ≡ rd (field (spareVal n rd e) e)
-  unfolding spareVal
-  spareVal-same = rw second-same (A .fields _)
+  spareVal-same = rw (spare-val-kept n rd rd′ e (A .fields Pc)) (A .fields (spareVal n rd e))
 
-  activeAddr-same : rd′ (field (activeAddr n rd′ e) e) ≡ rd (field (activeAddr n rd e) e)
-  unfolding activeAddr
-  activeAddr-same = rw second-same (A .fields _)
-
-  activeVal-same : rd′ (field (activeVal n rd′ e) e) ≡ rd (field (activeVal n rd e) e)
-  unfolding activeVal
-  activeVal-same = rw second-same (A .fields _)
-
-  op-same : (i : ℕ) → opAt n rd′ e i ≡ opAt n rd e i
-  op-same i = ap opOf (A .steps i)
-
-  held-same : (i : ℕ) → heldAt n rd′ e i ≡ heldAt n rd e i
-  held-same i = ap (λ (c : Code). heldBefore c i) code-same
+  sectioned-same : Sectioned n rd e → Sectioned n rd′ e
+  sectioned-same s = sectioned-kept n rd rd′ e keeps (A .fields Number) (rw (A .fields Number, A .fields Finished) (s .unfinished)) s
 
   -- a covered word
   word-same : (h x : ℕ) → Within h locks → covered h x ≡ true → wordIn n rd′ e x ≡ wordIn n rd e x
@@ -132,34 +111,9 @@ module _ (n : ℕ) (rd rd′ : Memory) (e locks : ℕ) (A : Agree rd rd′ e loc
           in-cell false v = rw v at c
       by false t u v = rw t (A .owns (x - 512))
 
-  sectioned-same : Sectioned n rd e → Sectioned n rd′ e
-  sectioned-same s =
-      record {
-        valid = rw (A .fields Count) (subst (λ (c : Code). Valid n (rd (field Count e)) c) (sym code-same) (s .valid));
-        numbered = rw (A .fields Number) (s .numbered);
-        unfinished = rw (A .fields Number, A .fields Finished) (s .unfinished);
-      }
-
-  logs-same : (s : ℕ) (x : Op) → logsHeld n rd e s x → logsHeld n rd′ e s x
-  logs-same s (Acquire a) h = activeVal-same ∙ (h ∙ sym (held-same (suc s)))
-  logs-same s (Release a) h = activeVal-same ∙ (h ∙ sym (held-same (suc s)))
-  logs-same s (Assign a x) h = h
-  logs-same s (Jump a b) h = h
-  logs-same s Finish h = h
-  logs-same s Unknown h = h
-
-  named-same : (s : ℕ) → Named n rd e s → Named n rd′ e s
-  named-same s h =
-      record {
-        pc = rw (A .fields Pc) (h .pc);
-        below = rw (A .fields Count) (h .below);
-        address = activeAddr-same ∙ rw (op-same s) (h .address);
-        logs = subst (logsHeld n rd′ e s) (sym (op-same s)) (logs-same s (opAt n rd e s) (h .logs));
-      }
-
   -- how far a step has come: the words that an assignment reads are covered by h, which is within the locks
   nearing-same :
-      (s t h : ℕ) (x : Op) → Within h locks → ((a : ℕ) (z : Expr) → x ≡ Assign a z → coveredIn h z ≡ true) → Nearing n rd e s t h locks x → Nearing n rd′ e s t h locks x
+      (s t h : ℕ) (x : Op) → Within h locks → ((a : ℕ) (z : Expr) → x ≡ Assign a z → (coveredIn h z ≡ true) × ranged n z) → Nearing n rd e s t h locks x → Nearing n rd′ e s t h locks x
   nearing-same s t h (Acquire a) w c (p, i, l, u, v) = (p, A .fields Intent ∙ i, l, λ m. spareAddr-same ∙ u m, λ m. spareVal-same ∙ v m)
   nearing-same s t h (Release a) w c (p, i, l, u, v) = (p, A .fields Intent ∙ i, l, λ m. spareAddr-same ∙ u m, λ m. spareVal-same ∙ v m)
   nearing-same s t h (Assign a z) w c (p, i, l, u, v) = (
@@ -167,49 +121,40 @@ module _ (n : ℕ) (rd rd′ : Memory) (e locks : ℕ) (A : Agree rd rd′ e loc
     A .fields Intent ∙ i,
     l,
     λ m. spareAddr-same ∙ u m,
-    λ m. spareVal-same ∙ (v m ∙ eval-covered (wordIn n rd e) (wordIn n rd′ e) h z (c a z refl) (λ x k. sym (word-same h x w k))),
+    λ m. spareVal-same ∙ (v m ∙ eval-same n h (wordIn n rd e) (wordIn n rd′ e) (λ x k l. sym (word-same h x w k)) z (c a z refl .0) (c a z refl .1)),
   )
   nearing-same s t h (Jump a b) w c (p, i, l) = (p, A .fields Intent ∙ i, l)
   nearing-same s t h Finish w c (p, i, l) = (p, A .fields Intent ∙ i, l)
   nearing-same s t h Unknown w c z = z
 
   due-same : (s : ℕ) (x : Op) → Due n rd e s locks x → Due n rd′ e s locks x
-  due-same s (Acquire a) (o, i, l) = (by o, A .fields Intent ∙ (i ∙ sym (held-same (suc s))), l ∙ sym (held-same (suc s)))
+  due-same s (Acquire a) (o, i, l) = (by o, A .fields Intent ∙ (i ∙ sym (held-kept n rd rd′ e keeps (suc s))), l ∙ sym (held-kept n rd rd′ e keeps (suc s)))
     where
       by : (rd (field Owned e) ≡ heldAt n rd e s) ⊎ (rd (field Owned e) ≡ heldAt n rd e (suc s)) → (rd′ (field Owned e) ≡ heldAt n rd′ e s) ⊎ (rd′ (field Owned e) ≡ heldAt n rd′ e (suc s))
-      by (inl h) = inl (A .fields Owned ∙ (h ∙ sym (held-same s)))
-      by (inr h) = inr (A .fields Owned ∙ (h ∙ sym (held-same (suc s))))
+      by (inl h) = inl (A .fields Owned ∙ (h ∙ sym (held-kept n rd rd′ e keeps s)))
+      by (inr h) = inr (A .fields Owned ∙ (h ∙ sym (held-kept n rd rd′ e keeps (suc s))))
   due-same s (Release a) (o, l) = (by o, l ∙ sym (A .fields Intent))
     where
       by :
           ((rd (field Owned e) ≡ heldAt n rd e s) × (rd (field Intent e) ≡ heldAt n rd e s)) ⊎ ((rd (field Owned e) ≡ heldAt n rd e (suc s)) × (rd (field Intent e) ≡ heldAt n rd e (suc s)))
           → ((rd′ (field Owned e) ≡ heldAt n rd′ e s) × (rd′ (field Intent e) ≡ heldAt n rd′ e s)) ⊎ ((rd′ (field Owned e) ≡ heldAt n rd′ e (suc s)) × (rd′ (field Intent e) ≡ heldAt n rd′ e (suc s)))
-      by (inl h) = inl (A .fields Owned ∙ (h .0 ∙ sym (held-same s)), A .fields Intent ∙ (h .1 ∙ sym (held-same s)))
-      by (inr h) = inr (A .fields Owned ∙ (h .0 ∙ sym (held-same (suc s))), A .fields Intent ∙ (h .1 ∙ sym (held-same (suc s))))
-  due-same s (Assign a z) (o, i, l) = (A .fields Owned ∙ (o ∙ sym (held-same s)), A .fields Intent ∙ (i ∙ sym (held-same s)), l ∙ sym (held-same s))
+      by (inl h) = inl (A .fields Owned ∙ (h .0 ∙ sym (held-kept n rd rd′ e keeps s)), A .fields Intent ∙ (h .1 ∙ sym (held-kept n rd rd′ e keeps s)))
+      by (inr h) = inr (A .fields Owned ∙ (h .0 ∙ sym (held-kept n rd rd′ e keeps (suc s))), A .fields Intent ∙ (h .1 ∙ sym (held-kept n rd rd′ e keeps (suc s))))
+  due-same s (Assign a z) (o, i, l) = (A .fields Owned ∙ (o ∙ sym (held-kept n rd rd′ e keeps s)), A .fields Intent ∙ (i ∙ sym (held-kept n rd rd′ e keeps s)), l ∙ sym (held-kept n rd rd′ e keeps s))
   due-same s (Jump a b) h = h
   due-same s Finish h = h
   due-same s Unknown h = h
 
   intent-same : (s : ℕ) → (rd (field Intent e) ≡ heldAt n rd e s) ⊎ (rd (field Intent e) ≡ heldAt n rd e (suc s)) → (rd′ (field Intent e) ≡ heldAt n rd′ e s) ⊎ (rd′ (field Intent e) ≡ heldAt n rd′ e (suc s))
-  intent-same s (inl h) = inl (A .fields Intent ∙ (h ∙ sym (held-same s)))
-  intent-same s (inr h) = inr (A .fields Intent ∙ (h ∙ sym (held-same (suc s))))
+  intent-same s (inl h) = inl (A .fields Intent ∙ (h ∙ sym (held-kept n rd rd′ e keeps s)))
+  intent-same s (inr h) = inr (A .fields Intent ∙ (h ∙ sym (held-kept n rd rd′ e keeps (suc s))))
 
   jumps-same : (i j k : ℕ) → Valid n (rd (field Count e)) (codeIn n rd e) → Within (heldAt n rd e i) locks → Jumps n rd e i j k → Jumps n rd′ e i j k
   jumps-same i j k v w stay = stay
   jumps-same i j k v w (leap jj kk a b js l o) =
       let c = subst (λ (h : ℕ). covered h a ≡ true) (jumps-held n rd e i jj kk v js) (v .tests kk a b l o) in
       subst (λ (x : ℕ). Jumps n rd′ e i (suc jj) (cond (eqb x 0) b (suc kk))) (word-same (heldAt n rd e i) a w c)
-      (leap jj kk a b (jumps-same i jj kk v w js) (rw (A .fields Count) l) (op-same kk ∙ o))
-
-  handed-same : (g : Given) → Handed n rd e g → Handed n rd′ e g
-  handed-same g h =
-      record {
-        by = h .by;
-        code = λ i l. h .code i (rw (A .fields Count) at l) ∙ sym (A .steps i);
-        size = h .size;
-        args = λ i l. h .args i l ∙ sym (A .owns i);
-      }
+      (leap jj kk a b (jumps-same i jj kk v w js) (rw (A .fields Count) l) (op-kept n rd rd′ e keeps kk ∙ o))
 
   -- a target that stands on a word covered by h
   target-same : (h s : ℕ) → Within h locks → ((a : ℕ) (z : Expr) → opAt n rd e s ≡ Assign a z → covered h a ≡ true) → rd′ (targetOf e (opAt n rd e s)) ≡ rd (targetOf e (opAt n rd e s))
@@ -229,19 +174,19 @@ phase-same n rd rd′ e g c locks j (resting k p i o) A = resting (A .fields Cou
 phase-same n rd rd′ e g c locks j (fresh t l s h p o m) A =
     let m′ =
     nearing-same n rd rd′ e l A 0 t 0 (opAt n rd e 0) (within-none l)
-    (λ a z q. subst (λ (h : ℕ). coveredIn h z ≡ true) (held-zero (codeIn n rd e)) (s .valid .operands 0 a z (some-steps (s .valid)) q)) m
+    (λ a z q. (subst (λ (h : ℕ). coveredIn h z ≡ true) (held-zero (codeIn n rd e)) (s .valid .operands 0 a z (some-steps (s .valid)) q), expr-range n (codeIn n rd e 0) a z (s .valid .ranges 0 (some-steps (s .valid))) q)) m
     in
-    fresh t l (sectioned-same n rd rd′ e l A s) (handed-same n rd rd′ e l A g h) (A .fields Pc ∙ p) (A .fields Owned ∙ o)
-    (subst (Nearing n rd′ e 0 t 0 l) (sym (op-same n rd rd′ e l A 0)) m′)
+    fresh t l (sectioned-same n rd rd′ e l A s) (handed-kept n rd rd′ e (keeps n rd rd′ e l A) (A .owns) g h) (A .fields Pc ∙ p) (A .fields Owned ∙ o)
+    (subst (Nearing n rd′ e 0 t 0 l) (sym (op-kept n rd rd′ e (keeps n rd rd′ e l A) 0)) m′)
 phase-same n rd rd′ e g c locks j (due s l k m q) A =
-    subst (λ (x : Op). Phase n rd′ e g (on s (targetTurn n rd′ e x)) l 0) (op-same n rd rd′ e l A s)
-    (due s l (sectioned-same n rd rd′ e l A k) (named-same n rd rd′ e l A s m) (subst (Due n rd′ e s l) (sym (op-same n rd rd′ e l A s)) (due-same n rd rd′ e l A s (opAt n rd e s) q)))
+    subst (λ (x : Op). Phase n rd′ e g (on s (targetTurn n rd′ e x)) l 0) (op-kept n rd rd′ e (keeps n rd rd′ e l A) s)
+    (due s l (sectioned-same n rd rd′ e l A k) (named-kept n rd rd′ e (keeps n rd rd′ e l A) s m) (subst (Due n rd′ e s l) (sym (op-kept n rd rd′ e (keeps n rd rd′ e l A) s)) (due-same n rd rd′ e l A s (opAt n rd e s) q)))
 phase-same n rd rd′ e g c locks j (unlocking s a l k m o w i q) A =
-    unlocking s a l (sectioned-same n rd rd′ e l A k) (named-same n rd rd′ e l A s m) (op-same n rd rd′ e l A s ∙ o) (A .fields Owned ∙ (w ∙ sym (held-same n rd rd′ e l A (suc s))))
+    unlocking s a l (sectioned-same n rd rd′ e l A k) (named-kept n rd rd′ e (keeps n rd rd′ e l A) s m) (op-kept n rd rd′ e (keeps n rd rd′ e l A) s ∙ o) (A .fields Owned ∙ (w ∙ sym (held-kept n rd rd′ e (keeps n rd rd′ e l A) (suc s))))
     (intent-same n rd rd′ e l A s i) (q ∙ sym (A .fields Intent))
 phase-same n rd rd′ e g c locks j (unlocked s a l k m o w i q) A =
-    unlocked s a l (sectioned-same n rd rd′ e l A k) (named-same n rd rd′ e l A s m) (op-same n rd rd′ e l A s ∙ o) (A .fields Owned ∙ (w ∙ sym (held-same n rd rd′ e l A (suc s))))
-    (intent-same n rd rd′ e l A s i) (q ∙ sym (held-same n rd rd′ e l A (suc s)))
+    unlocked s a l (sectioned-same n rd rd′ e l A k) (named-kept n rd rd′ e (keeps n rd rd′ e l A) s m) (op-kept n rd rd′ e (keeps n rd rd′ e l A) s ∙ o) (A .fields Owned ∙ (w ∙ sym (held-kept n rd rd′ e (keeps n rd rd′ e l A) (suc s))))
+    (intent-same n rd rd′ e l A s i) (q ∙ sym (held-kept n rd rd′ e (keeps n rd rd′ e l A) (suc s)))
 phase-same n rd rd′ e g c locks j (between s k t l jj q m f u z o h y) A =
     let w = nearing-within n rd e k t (heldAt n rd e k) l (opAt n rd e k) y in
     let f′ =
@@ -249,14 +194,14 @@ phase-same n rd rd′ e g c locks j (between s k t l jj q m f u z o h y) A =
     (λ a x p. subst (λ (g : ℕ). covered g a ≡ true) (sym (h ∙ after-assign (codeIn n rd e) s a x p)) (q .valid .targets s a x (m .below) p))
     in
     let y′ =
-    nearing-same n rd rd′ e l A k t (heldAt n rd e k) (opAt n rd e k) w (λ a x p. q .valid .operands k a x z p) y
+    nearing-same n rd rd′ e l A k t (heldAt n rd e k) (opAt n rd e k) w (λ a x p. (q .valid .operands k a x z p, expr-range n (codeIn n rd e k) a x (q .valid .ranges k z) p)) y
     in
-    between s k t l jj (sectioned-same n rd rd′ e l A q) (named-same n rd rd′ e l A s m)
-    (rw (op-same n rd rd′ e l A s) (f′ ∙ (f ∙ sym (activeVal-same n rd rd′ e l A))))
+    between s k t l jj (sectioned-same n rd rd′ e l A q) (named-kept n rd rd′ e (keeps n rd rd′ e l A) s m)
+    (rw (op-kept n rd rd′ e (keeps n rd rd′ e l A) s) (f′ ∙ (f ∙ sym (value-kept n rd rd′ e (keeps n rd rd′ e l A)))))
     (jumps-same n rd rd′ e l A (suc s) jj k (q .valid) (subst (λ (x : ℕ). Within x l) h w) u)
     (rw (A .fields Count) z)
-    (A .fields Owned ∙ (o ∙ sym (held-same n rd rd′ e l A k)))
-    (held-same n rd rd′ e l A k ∙ (h ∙ sym (held-same n rd rd′ e l A (suc s))))
-    (subst (Nearing n rd′ e k t (heldAt n rd′ e k) l) (sym (op-same n rd rd′ e l A k)) (subst (λ (x : ℕ). Nearing n rd′ e k t x l (opAt n rd e k)) (sym (held-same n rd rd′ e l A k)) y′))
+    (A .fields Owned ∙ (o ∙ sym (held-kept n rd rd′ e (keeps n rd rd′ e l A) k)))
+    (held-kept n rd rd′ e (keeps n rd rd′ e l A) k ∙ (h ∙ sym (held-kept n rd rd′ e (keeps n rd rd′ e l A) (suc s))))
+    (subst (Nearing n rd′ e k t (heldAt n rd′ e k) l) (sym (op-kept n rd rd′ e (keeps n rd rd′ e l A) k)) (subst (λ (x : ℕ). Nearing n rd′ e k t x l (opAt n rd e k)) (sym (held-kept n rd rd′ e (keeps n rd rd′ e l A) k)) y′))
 phase-same n rd rd′ e g c locks j (ended s k p o i b q) A =
-    ended s (sectioned-same n rd rd′ e 0 A k) (A .fields Pc ∙ p) (A .fields Owned ∙ o) (A .fields Intent ∙ i) (rw (A .fields Count) b) (op-same n rd rd′ e 0 A s ∙ q)
+    ended s (sectioned-same n rd rd′ e 0 A k) (A .fields Pc ∙ p) (A .fields Owned ∙ o) (A .fields Intent ∙ i) (rw (A .fields Count) b) (op-kept n rd rd′ e (keeps n rd rd′ e 0 A) s ∙ q)

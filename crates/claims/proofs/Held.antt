@@ -1,39 +1,35 @@
 -- The invariant of a whole world between calls: running, with the cursors known, or cut, with only the image left; and that
 -- every turn keeps it, whether a store is left for it or not.
-use Prim.Native.Nat.{ℕ, suc, zero, _+_, _-_, _%_, _^_, _<_, _≤_}
-use mathlib.Core.Path.{_≡_, refl, ap, subst, _∙_, sym, fun-ext}
-use mathlib.Core.Logic.{_≢_, _⊎_, inl, inr}
-use mathlib.Core.Bool.{Bool, true, false, cond, _&&_, not, true≢false}
+use Prim.Native.Nat.{ℕ, suc, _<_, _≤_}
+use mathlib.Core.Path.{_≡_, refl, subst, _∙_, sym, fun-ext}
+use mathlib.Core.Bool.{Bool, true, false, cond, _&&_, not}
 use mathlib.Core.Option.{some}
-use mathlib.Core.List.{List, [], _∷_, _++_}
-use lib.ListN.{length, replicate, length-set}
+use mathlib.Core.List.{List, []}
 use lib.Dec.{eqb, ltb}
-use borrow.Author.Tests.{lt-ltb, ne-eqb, eq-eqb, eqb-true}
+use borrow.Author.Tests.{lt-ltb, ne-eqb}
 use native.Mathlib.Omega.{arith}
-use native.Mathlib.Decide.{ℕ-discrete}
 use Rattle.base.proofs.Bools.{and-both}
-use Rattle.image.specs.declared.Field.the-variants.{Count, Pc}
-use Rattle.image.specs.Place.{Place, cell, lock, field, own, valid, Memory, upd}
+use Rattle.image.specs.declared.Field.the-variants.{Pc}
+use Rattle.image.specs.Place.{Place, field, valid, Memory, upd}
 use Rattle.image.specs.Image.{Image, indexOf, at, workers, headerOk, put}
 use Rattle.image.proofs.Header.{Sized, header-sized, header-workers}
-use Rattle.image.proofs.Stores.{header-store, workers-store, put-none}
+use Rattle.image.proofs.Stores.{header-store, workers-store}
 use Rattle.section.specs.declared.Op.{Op}
 use Rattle.section.specs.declared.Op.the-variants.{Acquire, Release, Assign, Jump, Finish, Unknown}
-use Rattle.engine.specs.declared.Cursors.{Cursors}
-use Rattle.engine.specs.Cursor.{Cursor, idle, on, cursorAt, setAt, placed}
-use Rattle.engine.specs.declared.Refusal.the-variants.{Cursor as CursorRefused}
-use Rattle.engine.specs.Turn.{Outcome, stored, jumped, unheld, waiting, resting as rests, refused, ready, turnAt}
-use Rattle.engine.specs.World.{World, world, leaves, outcomeAt}
-use Rattle.engine.proofs.Standing.{Full, sayable, placed-same, placed-other}
+use Rattle.engine.specs.Cursor.{Cursor, cursorAt, placed}
+use Rattle.engine.specs.Turn.{Outcome, stored, jumped, unheld, waiting, resting as rests, refused, turnAt}
+use Rattle.engine.specs.World.{world, leaves}
+use Rattle.engine.proofs.Standing.{Full, sayable}
 use Rattle.recovery.specs.Recovery.{targetTurn}
-use Rattle.claims.specs.Reference.{Given, State, follow, initial, enqueue, andThen}
-use Rattle.claims.specs.Calls.{Trace, Traced, traced, but, recorded, jumping, forgetful, isPc, turnTrace, turnBy, turnedAt, lost}
-use Rattle.claims.proofs.Invariant.{opAt, heldAt, Named, Nearing, Phase, resting, fresh, due, unlocking, unlocked, between, ended, Live, Crashed, Mirrors}
+use Rattle.claims.specs.Reference.{Given, State, follow, initial}
+use Rattle.claims.specs.Calls.{Traced, but, recorded, isPc, turnTrace, turnBy}
+use Rattle.claims.proofs.Invariant.{opAt, heldAt, Nearing, Phase, resting, fresh, due, unlocking, unlocked, between, ended, Live, Crashed, Mirrors}
 use Rattle.claims.proofs.Turns.{Touches, inRecord, ownWord, ownCell, takes, frees, Stepped, Went}
-use Rattle.claims.proofs.LiveTurn.{live-turn, but-same, but-other, but-self}
+use Rattle.claims.proofs.LiveTurn.{live-turn, but-same, but-self, live-cursors}
 use Rattle.claims.proofs.AtStore.{memory-store}
 use Rattle.claims.proofs.OwnTurn.{own-turn}
 use Rattle.claims.proofs.MirrorTurn.{Mirrored, mirror-turn, mirror-still, mirror-counts, order-grows}
+use Rattle.claims.proofs.Cursors.{full-set, cursors-placed}
 
 -- the image has D workers, and stands for the state that the reference machine has reached over these cells
 pub record Reached (mark n D : ℕ) (cells : List ℕ) (m : Image) (begun : List Given) (order : List ℕ) : Type 0 where
@@ -98,23 +94,6 @@ phase-sayable n rd d g c locks j (unlocking s a l k m o w i q) = λ r. omega ari
 phase-sayable n rd d g c locks j (unlocked s a l k m o w i q) = λ r. omega arith
 phase-sayable n rd d g c locks j (between s k t l jj q m f u z o h y) = let e = nearing-early n rd d k t (heldAt n rd d k) l (opAt n rd d k) y in λ r. omega arith
 phase-sayable n rd d g c locks j (ended s k p o i b q) = λ r. omega arith
-
-pub full-set : (c : Cursors) (d s t : ℕ) → Full c → Full (setAt c d s t)
-unfolding setAt
-full-set c d s t f = record { steps = length-set (c .step) d s ∙ f .steps; turns = length-set (c .turn) d t ∙ f .turns }
-
--- the cursors after one was placed
-pub cursors-placed : (D : ℕ) (c : Cursors) (d : ℕ) (x : Cursor) → Full c → D ≤ 8 → d < D → sayable x → (e : ℕ) → e < D → but (cursorAt c) d x e ≡ cursorAt (placed c d x) e
-cursors-placed D c d x f few dl s e el = by (ℕ-discrete e d)
-  where
-    by : Dec (e ≡ d) → but (cursorAt c) d x e ≡ cursorAt (placed c d x) e
-    by (yes r) = rw r (but-same (cursorAt c) d x ∙ sym (placed-same c d x f (omega arith) s))
-    by (no r) = but-other (cursorAt c) d x e r ∙ sym (placed-other c d e x r)
-
--- the phases look at the cursors of the workers alone
-pub live-cursors : (n D : ℕ) (rd : Memory) (c c′ : ℕ → Cursor) (locks jumps : ℕ → ℕ) (given : ℕ → Given) → ((e : ℕ) → e < D → c e ≡ c′ e) → Live n D rd c locks jumps given → Live n D rd c′ locks jumps given
-live-cursors n D rd c c′ locks jumps given same L =
-    record { phase = λ d l. subst (λ (x : Cursor). Phase n rd d (given d) x (locks d) (jumps d)) (same d l) (L .phase d l); locked = L .locked; owner = L .owner }
 
 -- ---- a turn for which a store is left
 

@@ -2,16 +2,16 @@
 -- a recovery accepts (`Crashed`), and which state of the reference machine a memory stands for (`Mirrors`).
 -- rd: a memory; n: own words in a record; D: the number of workers; h: a held set; locks: the locks whose owner words name a
 -- worker; j: the jumps that it has made since its last instruction was counted; g: the section last taken from it.
-use Prim.Native.Nat.{ℕ, suc, zero, _+_, _-_, _%_, _^_, _<_, _≤_}
+use Prim.Native.Nat.{ℕ, suc, _+_, _-_, _%_, _^_, _<_, _≤_}
 use mathlib.Core.Path.{_≡_}
 use mathlib.Core.Logic.{_≢_, _⊎_}
-use mathlib.Core.Bool.{Bool, true, false, cond}
-use mathlib.Core.List.{List, [], _∷_, _++_}
+use mathlib.Core.Bool.{true, cond}
+use mathlib.Core.List.{[], _∷_, _++_}
 use lib.ListN.{length, getD, replicate}
 use lib.Dec.{leb, eqb}
 use Rattle.mask.specs.Mask.{has, with, without}
 use Rattle.image.specs.declared.Field.the-variants.{Count, Pc, Intent, Owned, Number, Finished}
-use Rattle.image.specs.Place.{Place, cell, lock, field, own, step, Memory}
+use Rattle.image.specs.Place.{cell, lock, field, own, step, Memory}
 use Rattle.image.specs.Image.{indexOf}
 use Rattle.section.specs.declared.Op.{Op}
 use Rattle.section.specs.declared.Op.the-variants.{Acquire, Release, Assign, Jump, Finish, Unknown}

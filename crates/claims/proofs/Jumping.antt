@@ -1,9 +1,9 @@
 -- The jumps that a worker has made since its last instruction counted, on the reference machine: they change only the number of
 -- the job's next step. A jump keeps the held set, so that all of them read words whose locks are held, and these are the same
--- in the memory and in the state; so is the value of an expression. By induction on the jumps.
+-- in the memory and in the state. By induction on the jumps.
 use Prim.Native.Nat.{ℕ, suc, _+_, _<_}
-use mathlib.Core.Path.{_≡_, refl, ap, _∙_}
-use mathlib.Core.Bool.{Bool, true, false, cond, and-eq-true-iff}
+use mathlib.Core.Path.{_≡_, ap, _∙_}
+use mathlib.Core.Bool.{true, cond}
 use mathlib.Core.List.{List, [], _∷_}
 use mathlib.Core.Option.{some}
 use lib.ListN.{length, getD, replicate}
@@ -11,49 +11,22 @@ use lib.Seq.{getD-set-same, set-set}
 use lib.Dec.{eqb}
 use Rattle.image.specs.declared.Field.the-variants.{Count}
 use Rattle.image.specs.Place.{field, step, Memory}
-use Rattle.section.specs.declared.Expr.{Expr}
-use Rattle.section.specs.declared.Expr.the-variants.{Literal, Sum, Difference, Less}
 use Rattle.section.specs.declared.Op.the-variants.{Jump}
-use Rattle.section.specs.Op.{opOf, eval}
-use Rattle.section.specs.Fits.{ranged}
-use Rattle.section.specs.Check.{covered, coveredIn}
+use Rattle.section.specs.Op.{opOf}
+use Rattle.section.specs.Check.{covered}
 use Rattle.section.specs.Valid.{Valid}
-use Rattle.section.proofs.Held.{after-jump}
 use Rattle.section.proofs.Ranges.{jump-range}
 use Rattle.engine.specs.Turn.{codeIn, wordIn}
 use Rattle.claims.specs.Reference.{Job, job, State, state, readIn, onto, advance, follow}
 use Rattle.claims.proofs.Invariant.{opAt, heldAt, Jumps, stay, leap}
 use Rattle.claims.proofs.Machine.{follow-none, follow-last, advance-jump}
-
--- an expression's value, where its operands are covered and read alike
-pub eval-same :
-    (n h : ℕ) (f g : ℕ → ℕ) → ((x : ℕ) → covered h x ≡ true → x < 512 + n → f x ≡ g x) → (e : Expr) → coveredIn h e ≡ true → ranged n e → eval f e ≡ eval g e
-unfolding eval
-eval-same n h f g r (Literal b c) k l = refl
-eval-same n h f g r (Sum b c) k l =
-    let (p, q) = and-eq-true-iff (covered h b) (covered h c) .0 k in
-    rw (r b p (l .0), r c q (l .1))
-eval-same n h f g r (Difference b c) k l =
-    let (p, q) = and-eq-true-iff (covered h b) (covered h c) .0 k in
-    rw (r b p (l .0), r c q (l .1))
-eval-same n h f g r (Less b c) k l =
-    let (p, q) = and-eq-true-iff (covered h b) (covered h c) .0 k in
-    rw (r b p (l .0), r c q (l .1))
+use Rattle.claims.proofs.Frame.{jumps-held}
 
 -- worker d's section is before step k
 abbrev pub standing : State → ℕ → List ℕ → List ℕ → ℕ → ℕ → State
 standing S d c o h k = onto S d (job c k o h) []
 
 module _ (n : ℕ) (rd : Memory) (d : ℕ) (val : Valid n (rd (field Count d)) (codeIn n rd d)) (i : ℕ) where
-  leap-held : (k a b : ℕ) → k < rd (field Count d) → opAt n rd d k ≡ Jump a b → (t : Bool) → heldAt n rd d (cond t b (suc k)) ≡ heldAt n rd d k
-  leap-held k a b l o true = val .jumps k a b l o .2
-  leap-held k a b l o false = after-jump (codeIn n rd d) k a b o
-
-  -- jumps keep the held set
-  pub jumps-held : {j k : ℕ} → Jumps n rd d i j k → heldAt n rd d k ≡ heldAt n rd d i
-  jumps-held stay = refl
-  jumps-held (leap j k a b J l o) = leap-held k a b l o (eqb (wordIn n rd d a) 0) ∙ jumps-held J
-
   module _ (S : State) (c o : List ℕ) (h : ℕ) (room : d < length (S .queues)) (code : (x : ℕ) → x < rd (field Count d) → getD c x 0 ≡ rd (step d x))
       (reads : (x : ℕ) → covered (heldAt n rd d i) x ≡ true → x < 512 + n → readIn (S .cells) o x ≡ wordIn n rd d x) where
     jump-once : (k a b : ℕ) → heldAt n rd d k ≡ heldAt n rd d i → k < rd (field Count d) → opAt n rd d k ≡ Jump a b → advance (standing S d c o h k) d ≡ some (standing S d c o h (cond (eqb (wordIn n rd d a) 0) b (suc k)))
@@ -65,4 +38,4 @@ module _ (n : ℕ) (rd : Memory) (d : ℕ) (val : Valid n (rd (field Count d)) (
     pub jumps-follow : {j k : ℕ} → Jumps n rd d i j k → follow (standing S d c o h i) (replicate j d) ≡ some (standing S d c o h k)
     jumps-follow stay = follow-none (standing S d c o h i)
     jumps-follow (leap j k a b J l p) =
-        follow-last (standing S d c o h i) (standing S d c o h k) (standing S d c o h (cond (eqb (wordIn n rd d a) 0) b (suc k))) j d (jumps-follow J) (jump-once k a b (jumps-held J) l p)
+        follow-last (standing S d c o h i) (standing S d c o h k) (standing S d c o h (cond (eqb (wordIn n rd d a) 0) b (suc k))) j d (jumps-follow J) (jump-once k a b (jumps-held n rd d i j k val J) l p)

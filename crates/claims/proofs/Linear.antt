@@ -1,30 +1,30 @@
 -- Demand 2, first half: with no cut and no recovery every section that is taken is begun, each worker's in the order in which it
 -- took them. So where all workers are idle in the end the machine fed the sections taken is the machine fed the sections begun,
 -- and the cells are those that it gives. First each call keeps the two lists paired; then lists of calls; last the theorem.
-use Prim.Native.Nat.{ℕ, _-_, _^_, _<_, _≤_}
+use Prim.Native.Nat.{ℕ, _<_, _≤_}
 use mathlib.Core.Path.{_≡_, refl, sym, subst}
 use mathlib.Core.Logic.{_≢_}
-use mathlib.Core.Bool.{Bool, true, false, _&&_, not, false≢true}
+use mathlib.Core.Bool.{Bool, true, false, not, false≢true}
 use mathlib.Core.List.{List, [], _∷_, _++_}
 use native.Mathlib.Omega.{arith}
 use native.Mathlib.Decide.{ℕ-discrete}
-use lib.ListN.{length, replicate, length-append, length-replicate}
-use lib.Dec.{eqb, ltb}
-use borrow.Author.Tests.{ltb-true, lt-ltb, eqb-true}
+use lib.ListN.{length}
+use lib.Dec.{ltb}
+use borrow.Author.Tests.{ltb-true}
 use Rattle.base.proofs.Bools.{and-left, and-right}
 use Rattle.image.specs.declared.Field.the-variants.{Pc}
 use Rattle.image.specs.Place.{field}
 use Rattle.image.specs.Image.{Image, at, workers, cellsOf, putAll}
-use Rattle.engine.specs.declared.Refusal.the-variants.{Worker}
 use Rattle.engine.specs.declared.Submitted.{Submitted}
 use Rattle.engine.specs.declared.Submitted.the-variants.{Taken, Refused}
 use Rattle.engine.specs.Cursor.{Cursor, on, cursorAt, placed, allIdle}
-use Rattle.engine.specs.Turn.{refused, turnAt}
+use Rattle.engine.specs.Turn.{turnAt}
 use Rattle.engine.specs.World.{outcomeAt, outcome}
 use Rattle.engine.specs.Submit.{submission, submitAnswer, submitLeaves}
 use Rattle.engine.proofs.Standing.{placed-same, placed-other}
+use Rattle.engine.proofs.Planned.{idle-is}
 use Rattle.claims.specs.Reference.{Given, given, initial}
-use Rattle.claims.specs.Calls.{Traced, traced, but, turnBy, turnedAt, ranBy, submitTrace, Call, submits, turns, runs, recovers, Move, whole, cut, call, lent, move, play, from, recovering, plain, callable, machine, areWords}
+use Rattle.claims.specs.Calls.{Traced, traced, but, turnBy, turnedAt, ranBy, submitTrace, Call, submits, turns, runs, recovers, Move, whole, cut, call, lent, move, play, from, recovering, plain, callable, machine}
 use Rattle.claims.specs.Claims.{Idle, Linearizable, after}
 use Rattle.claims.proofs.LiveTurn.{but-same, but-other}
 use Rattle.claims.proofs.Progress.{isMoving}
@@ -33,12 +33,14 @@ use Rattle.claims.proofs.Turning.{rounds-keep}
 use Rattle.claims.proofs.Settling.{Spare, Turn, spare-turn}
 use Rattle.claims.proofs.SubmissionImage.{submission-at}
 use Rattle.claims.proofs.Unseen.{submission-unseen}
-use Rattle.claims.proofs.Called.{TakenAs, taken-as, idle-is}
-use Rattle.claims.proofs.Played.{plenty, running-lent, spare-lent, ran-is, whole-call}
-use Rattle.claims.proofs.Resting.{idle-at, rested-running, idle-gives}
+use Rattle.claims.proofs.Called.{TakenAs, taken-as}
+use Rattle.claims.proofs.Played.{plenty, running-lent, spare-lent, ran-is, whole-call, outcome-below, outcome-above}
+use Rattle.claims.proofs.Resting.{rested-running, idle-gives}
 use Rattle.claims.proofs.Feeding.{of-snoc-same, of-snoc-other, initial-same}
 use Rattle.claims.proofs.Pending.{pend, pend-idle, pend-start}
 use Rattle.claims.proofs.Pairing.{PairedAt, paired-as, paired-none, Paired, paired-turn}
+use Rattle.claims.proofs.Cursors.{idle-at}
+use Rattle.claims.proofs.Moves.{args-full}
 
 -- ---- a section taken, at one worker
 
@@ -55,9 +57,6 @@ paired-aside : (e : ℕ) (taken begun : List Given) (pc : ℕ) (c : Cursor) (g x
 unfolding PairedAt
 paired-aside e taken begun pc c g x i y = rw (of-snoc-other e taken x i) y
 
-own-size : (n : ℕ) (args : List ℕ) → 8 ≤ n → length args ≡ 8 → length (args ++ replicate (n - 8) 0) ≡ n
-own-size n args wide full = simp (length-append, length-replicate) (omega arith)
-
 module _ (mark n D : ℕ) (cells : List ℕ) where
   -- ---- a hand-in
 
@@ -72,7 +71,7 @@ module _ (mark n D : ℕ) (cells : List ℕ) where
     -- the pcs stay
     submitted-pcs : (e : ℕ) → e < D → at n m (field Pc e) ≡ at n (putAll n left m (submission n d k args ws)) (field Pc e)
     submitted-pcs e l =
-        let a = submission-at mark n m (t .header) d k args ws (t .below) (own-size n args wide full8) (t .passes) left in
+        let a = submission-at mark n m (t .header) d k args ws (t .below) wide full8 (t .passes) left in
         sym (rw a (submission-unseen n D d k args ws (at n m) (t .count) (t .pc) left .pcs e l))
 
     -- nothing was pending, and the section is now
@@ -110,20 +109,12 @@ module _ (mark n D : ℕ) (cells : List ℕ) where
 
   -- ---- a turn
 
-  outcome-below : (w : Traced) (d : ℕ) → Running mark n D cells w → d < D → outcome mark n (w .world) d ≡ turnAt n (at n (w .world .image)) d (cursorAt (w .world .cursors) d)
-  unfolding outcome outcomeAt
-  outcome-below w d r l = let e : ltb d (workers (w .world .image)) ≡ true = rw (r .reached .many) (lt-ltb d D l) in rw (r .reached .header, e)
-
-  outcome-above : (w : Traced) (d : ℕ) → Running mark n D cells w → ltb d D ≡ false → outcome mark n (w .world) d ≡ refused Worker
-  unfolding outcome
-  outcome-above w d r l = rw (r .reached .header, r .reached .many, l)
-
   turn-call : (w : Traced) (d : ℕ) → Running mark n D cells w → 0 < w .world .left → Paired mark n D cells w → Paired mark n D cells (turnBy mark n w d (outcome mark n (w .world) d))
   turn-call w d r left paired = by (ltb d D) refl
     where
       by : (b : Bool) → ltb d D ≡ b → Paired mark n D cells (turnBy mark n w d (outcome mark n (w .world) d))
-      by true h = rw (outcome-below w d r (ltb-true d D h)) (paired-turn mark n D cells w d r (ltb-true d D h) left paired)
-      by false h = rw (outcome-above w d r h) paired
+      by true h = rw (outcome-below mark n D cells w d (r .reached) (ltb-true d D h)) (paired-turn mark n D cells w d r (ltb-true d D h) left paired)
+      by false h = rw (outcome-above mark n D cells w d (r .reached) h) paired
 
   -- ---- a run
 
@@ -153,12 +144,6 @@ module _ (mark n D : ℕ) (cells : List ℕ) where
 
   -- ---- each call but a recovery
 
-  args-full : (d k : ℕ) (args ws : List ℕ) → callable (submits d k args ws) ≡ true → length args ≡ 8
-  args-full d k args ws h =
-      let a = ltb d (2 ^ 64) && ltb k (2 ^ 64) in
-      let b = eqb (length args) 8 in
-      eqb-true (length args) 8 (and-right a b (and-left (a && b) (areWords args) (and-left (a && b && areWords args) (areWords ws) h)))
-
   paired-call : (c : Call) (w : Traced) → 8 ≤ n → callable c ≡ true → not (recovering c) ≡ true → plenty mark n D cells ≤ w .world .left → Running mark n D cells w → Paired mark n D cells w → Paired mark n D cells (call mark n c w)
   unfolding call
   paired-call (submits d k args ws) w wide h p l r paired = submit-call w d k args ws wide (args-full d k args ws h) r paired
@@ -168,24 +153,24 @@ module _ (mark n D : ℕ) (cells : List ℕ) where
 
   -- ---- lists
 
-  record Good (w : Traced) : Type 0 where
+  record RunsPaired (w : Traced) : Type 0 where
     running : Running mark n D cells w
     paired : Paired mark n D cells w
 
-  move-good : (c : Call) (w : Traced) → 8 ≤ n → n ≤ 64 → callable c ≡ true → not (recovering c) ≡ true → Good w → Good (move mark n (whole c) w)
+  move-paired : (c : Call) (w : Traced) → 8 ≤ n → n ≤ 64 → callable c ≡ true → not (recovering c) ≡ true → RunsPaired w → RunsPaired (move mark n (whole c) w)
   unfolding move
-  move-good c w wide narrow h p g =
+  move-paired c w wide narrow h p g =
       let v = lent mark n (plenty mark n D cells) w in
       let r = running-lent mark n D cells (plenty mark n D cells) w (g .running) in
       record { running = whole-call mark n D cells c v wide narrow h (omega arith) r; paired = paired-call c v wide h p (omega arith) r (g .paired) }
 
-  play-good : (xs : List Move) (w : Traced) → 8 ≤ n → n ≤ 64 → machine xs ≡ true → plain xs ≡ true → Good w → Good (play mark n xs w)
+  play-paired : (xs : List Move) (w : Traced) → 8 ≤ n → n ≤ 64 → machine xs ≡ true → plain xs ≡ true → RunsPaired w → RunsPaired (play mark n xs w)
   unfolding play plain machine
-  play-good [] w wide narrow h p g = g
-  play-good (whole c ∷ xs) w wide narrow h p g =
-      play-good xs (move mark n (whole c) w) wide narrow (and-right (callable c) (machine xs) h) (and-right (not (recovering c)) (plain xs) p)
-      (move-good c w wide narrow (and-left (callable c) (machine xs) h) (and-left (not (recovering c)) (plain xs) p) g)
-  play-good (cut k c ∷ xs) w wide narrow h p g = absurd (false≢true p)
+  play-paired [] w wide narrow h p g = g
+  play-paired (whole c ∷ xs) w wide narrow h p g =
+      play-paired xs (move mark n (whole c) w) wide narrow (and-right (callable c) (machine xs) h) (and-right (not (recovering c)) (plain xs) p)
+      (move-paired c w wide narrow (and-left (callable c) (machine xs) h) (and-left (not (recovering c)) (plain xs) p) g)
+  play-paired (cut k c ∷ xs) w wide narrow h p g = absurd (false≢true p)
 
 -- ---- the theorem
 
@@ -205,6 +190,6 @@ module _ (mark n : ℕ) where
   unfolding Linearizable
   linearizable wide narrow m rest xs h p i =
       let w = after mark n m xs in
-      let g = play-good mark n (workers m) (cellsOf m) xs (from m) wide narrow h p (record { running = rested-running mark n m rest; paired = rested-paired m }) in
+      let g = play-paired mark n (workers m) (cellsOf m) xs (from m) wide narrow h p (record { running = rested-running mark n m rest; paired = rested-paired m }) in
       let x = idle-gives mark n (workers m) (cellsOf m) w (g .running) i in
       record { final = x .final; followed = rw (idle-same (workers m) (cellsOf m) w (g .paired) i) (x .followed); ended = x .ended; same = x .same }

@@ -3,15 +3,13 @@
 -- word has one value, so no two workers are owed one lock.
 use Prim.Native.Nat.{ℕ, suc, _+_, _%_, _^_}
 use mathlib.Core.Path.{_≡_, refl, sym, _∙_}
-use mathlib.Core.Bool.{Bool, true, false, cond, _||_, false≢true, true≢false}
+use mathlib.Core.Bool.{Bool, true, false, cond, _||_, false≢true}
 use mathlib.Core.Logic.{_⊎_, inl, inr}
 use native.Mathlib.Omega.{arith}
-use native.Mathlib.Decide.{ℕ-discrete}
 use lib.Dec.{leb, eqb}
 use borrow.Author.Tests.{lt-ltb, le-leb, eqb-true, eq-eqb, ne-eqb}
 use Rattle.base.proofs.Bools.{and-both}
-use Rattle.mask.specs.Mask.{has, with, without}
-use Rattle.mask.proofs.Laws.{has-none, has-with, has-with-other, has-without, has-without-other}
+use Rattle.mask.specs.Mask.{has, with}
 use Rattle.image.specs.declared.Field.the-variants.{Count, Pc, Intent, Owned}
 use Rattle.image.specs.Place.{lock, field, Memory}
 use Rattle.image.specs.Image.{indexOf}
@@ -24,29 +22,14 @@ use Rattle.engine.specs.Turn.{codeIn, activeAddr}
 use Rattle.recovery.specs.Recovery.{targetOf, owed, owedBy, namedStep, namedOp, sectionOk, entryOk, pcOk}
 use Rattle.claims.specs.Reference.{Given}
 use Rattle.claims.proofs.Invariant.{opAt, heldAt, Sectioned, logsHeld, Named, Nearing, Due, Phase, resting, fresh, due, unlocking, unlocked, between, ended, Live, Crashed}
-use Rattle.claims.proofs.Covers.{Within, Parts, parts-crashed}
+use Rattle.claims.proofs.Covers.{Covered, Parts, parts-crashed}
+use Rattle.claims.proofs.Sets.{within-none, within-with, without-within}
+use Rattle.claims.proofs.Entries.{named-step}
 
 -- ---- sets
 
-pub within-refl : (a b : ℕ) → a ≡ b → Within a b
-within-refl a b e c l h = rw (← e) h
-
-pub within-none : (a : ℕ) → Within 0 a
-within-none a c l h = absurd (true≢false (sym h ∙ has-none c))
-
-pub within-with : (h a : ℕ) → Within h (with h a)
-within-with h a c l e = by (ℕ-discrete a c)
-  where
-    by : Dec (a ≡ c) → has (with h a) c ≡ true
-    by (yes p) = rw (← p) (has-with h a)
-    by (no p) = has-with-other h a c p ∙ e
-
-pub without-within : (h a : ℕ) → Within (without h a) h
-without-within h a c l e = by (ℕ-discrete a c)
-  where
-    by : Dec (a ≡ c) → has h c ≡ true
-    by (yes p) = absurd (true≢false (sym e ∙ (rw (← p) (has-without h a))))
-    by (no p) = sym (has-without-other h a c p) ∙ e
+pub covered-same : (a b : ℕ) → a ≡ b → Covered a b
+covered-same a b e c l h = rw (← e) h
 
 -- ---- one worker
 
@@ -54,8 +37,8 @@ module _ (n : ℕ) (rd : Memory) (d : ℕ) where
   pub record Stands (locks : ℕ) : Type 0 where
     pub section : sectionOk n rd d ≡ true
     pub pc : pcOk n rd d ≡ true
-    pub has : Within (owed n rd d) locks
-    pub meant : Within locks (rd (field Intent d))
+    pub has : Covered (owed n rd d) locks
+    pub meant : Covered locks (rd (field Intent d))
 
   -- no section, or one that passes
   pub section-none : rd (field Count d) ≡ 0 → rd (field Pc d) ≡ 0 → sectionOk n rd d ≡ true
@@ -76,11 +59,6 @@ module _ (n : ℕ) (rd : Memory) (d : ℕ) where
   pub owed-none : rd (field Pc d) ≡ 0 → owed n rd d ≡ 0
   unfolding owed
   owed-none p = rw p
-
-  -- a pc that names step s
-  pub named-step : (s : ℕ) → rd (field Pc d) % 2 ^ 63 ≡ suc s → namedStep n rd d ≡ s
-  unfolding namedStep
-  named-step s e = omega arith
 
   pub named-some : (s : ℕ) → rd (field Pc d) % 2 ^ 63 ≡ suc s → eqb (rd (field Pc d)) 0 ≡ false
   named-some s e = ne-eqb (rd (field Pc d)) 0 (λ z. omega arith)
@@ -104,7 +82,7 @@ module _ (n : ℕ) (rd : Memory) (d : ℕ) where
 
   pub owed-named : (s : ℕ) → rd (field Pc d) % 2 ^ 63 ≡ suc s → owed n rd d ≡ dueTo s (opAt n rd d s)
   unfolding owed namedOp
-  owed-named s e = rw (named-some s e, named-step s e) (private-due s (opAt n rd d s) (named-step s e))
+  owed-named s e = rw (named-some s e, named-step n rd d s e) (private-due s (opAt n rd d s) (named-step n rd d s e))
 
   private-entry : (s : ℕ) (x : Op) → namedStep n rd d ≡ s → rd (field (activeAddr n rd d) d) ≡ indexOf n (targetOf d x) → logsHeld n rd d s x → entryOk n rd d x ≡ true
   private-entry s (Acquire a) e h l = rw e (and-both _ _ (eq-eqb _ _ h) (eq-eqb _ _ l))
@@ -125,7 +103,7 @@ module _ (n : ℕ) (rd : Memory) (d : ℕ) where
   pub pc-named : (s : ℕ) → Named n rd d s → (rd (field Owned d) ≡ heldAt n rd d s) ⊎ (rd (field Owned d) ≡ heldAt n rd d (suc s)) → pcOk n rd d ≡ true
   unfolding pcOk namedOp
   pc-named s m o =
-      let st = named-step s (m .pc) in
+      let st = named-step n rd d s (m .pc) in
       let z = named-some s (m .pc) in
       let one = le-leb 1 (rd (field Pc d) % 2 ^ 63) (omega arith) in
       let en = private-entry s (opAt n rd d s) st (m .address) (m .logs) in
@@ -134,16 +112,16 @@ module _ (n : ℕ) (rd : Memory) (d : ℕ) where
 
   -- ---- before a step's pc is stored
 
-  private-grow : (h a : ℕ) (p q : Bool) → (p ≡ true → q ≡ true) → Within h (cond q h (with h a)) × Within (cond q h (with h a)) (cond p h (with h a))
-  private-grow h a true true f = (within-refl h h refl, within-refl h h refl)
+  private-grow : (h a : ℕ) (p q : Bool) → (p ≡ true → q ≡ true) → Covered h (cond q h (with h a)) × Covered (cond q h (with h a)) (cond p h (with h a))
+  private-grow h a true true f = (covered-same h h refl, covered-same h h refl)
   private-grow h a true false f = absurd (false≢true (f refl))
-  private-grow h a false true f = (within-refl h h refl, within-with h a)
-  private-grow h a false false f = (within-with h a, within-refl (with h a) (with h a) refl)
+  private-grow h a false true f = (covered-same h h refl, λ c l. within-with h a c)
+  private-grow h a false false f = (λ c l. within-with h a c, covered-same (with h a) (with h a) refl)
 
-  private-level : (h locks : ℕ) → rd (field Intent d) ≡ h → locks ≡ h → Within h locks × Within locks (rd (field Intent d))
-  private-level h locks i l = (within-refl h locks (sym l), within-refl locks (rd (field Intent d)) (l ∙ sym i))
+  private-level : (h locks : ℕ) → rd (field Intent d) ≡ h → locks ≡ h → Covered h locks × Covered locks (rd (field Intent d))
+  private-level h locks i l = (covered-same h locks (sym l), covered-same locks (rd (field Intent d)) (l ∙ sym i))
 
-  pub nearing-locks : (s t h locks : ℕ) (x : Op) → Nearing n rd d s t h locks x → Within h locks × Within locks (rd (field Intent d))
+  pub nearing-locks : (s t h locks : ℕ) (x : Op) → Nearing n rd d s t h locks x → Covered h locks × Covered locks (rd (field Intent d))
   nearing-locks s t h locks (Acquire a) r =
       rw (r .1, r .2) (private-grow h a (eqb t 0) (leb t 1) (λ e. let z : t ≡ 0 = eqb-true t 0 e in le-leb t 1 (omega arith)))
   nearing-locks s t h locks (Release a) r = private-level h locks (r .1) (r .2)
@@ -181,9 +159,9 @@ module _ (n : ℕ) (rd : Memory) (d : ℕ) where
   private-dues s locks Unknown r = absurd r
 
   -- after a release's target store it is owed the smaller set, which is in the one that it intends
-  private-smaller : (s a : ℕ) → opAt n rd d s ≡ Release a → (rd (field Intent d) ≡ heldAt n rd d s) ⊎ (rd (field Intent d) ≡ heldAt n rd d (suc s)) → Within (heldAt n rd d (suc s)) (rd (field Intent d))
-  private-smaller s a o (inl e) = rw (e, after-release (codeIn n rd d) s a o) (without-within (heldAt n rd d s) a)
-  private-smaller s a o (inr e) = within-refl _ _ (sym e)
+  private-smaller : (s a : ℕ) → opAt n rd d s ≡ Release a → (rd (field Intent d) ≡ heldAt n rd d s) ⊎ (rd (field Intent d) ≡ heldAt n rd d (suc s)) → Covered (heldAt n rd d (suc s)) (rd (field Intent d))
+  private-smaller s a o (inl e) = rw (e, after-release (codeIn n rd d) s a o) (λ c l. without-within (heldAt n rd d s) a c)
+  private-smaller s a o (inr e) = covered-same _ _ (sym e)
 
   private-owned : (s : ℕ) (x : Op) (h : ℕ) → rd (field Owned d) ≡ h → h ≡ heldAt n rd d (suc s) → dueTo s x ≡ h
   private-owned s (Acquire a) h e f = sym f
@@ -199,12 +177,12 @@ module _ (n : ℕ) (rd : Memory) (d : ℕ) where
 
   pub stands : {g : Given} {c : Cursor} {locks j : ℕ} → Phase n rd d g c locks j → Stands locks
   stands (resting c p i o) =
-      record { section = section-none c p; pc = pc-none p o; has = within-refl _ _ (owed-none p); meant = within-none _ }
+      record { section = section-none c p; pc = pc-none p o; has = covered-same _ _ (owed-none p); meant = λ c l. within-none _ c }
   stands (fresh t locks s f p o r) =
       record {
         section = section-some s;
         pc = pc-none p o;
-        has = rw (owed-none p) (within-none locks);
+        has = rw (owed-none p) (λ c l. within-none locks c);
         meant = nearing-locks 0 t 0 locks (opAt n rd d 0) r .1;
       }
   stands (due s locks v m r) =
@@ -212,21 +190,21 @@ module _ (n : ℕ) (rd : Memory) (d : ℕ) where
       record {
         section = section-some v;
         pc = pc-named s m (private-held s locks (opAt n rd d s) r);
-        has = within-refl _ _ (owed-named s (m .pc) ∙ e .0);
-        meant = within-refl _ _ (e .1);
+        has = covered-same _ _ (owed-named s (m .pc) ∙ e .0);
+        meant = covered-same _ _ (e .1);
       }
   stands (unlocking s a locks v m x o i l) =
       record {
         section = section-some v;
         pc = pc-named s m (inr o);
         has = rw (private-after s m o, l) (private-smaller s a x i);
-        meant = within-refl _ _ l;
+        meant = covered-same _ _ l;
       }
   stands (unlocked s a locks v m x o i l) =
       record {
         section = section-some v;
         pc = pc-named s m (inr o);
-        has = within-refl _ _ (private-after s m o ∙ sym l);
+        has = covered-same _ _ (private-after s m o ∙ sym l);
         meant = rw l (private-smaller s a x i);
       }
   stands (between s k t locks j v m x u b o e r) =
@@ -238,7 +216,7 @@ module _ (n : ℕ) (rd : Memory) (d : ℕ) where
         meant = w .1;
       }
   stands (ended s v p o i b x) =
-      record { section = section-some v; pc = pc-none p o; has = within-refl _ _ (owed-none p); meant = within-none _ }
+      record { section = section-some v; pc = pc-none p o; has = covered-same _ _ (owed-none p); meant = λ c l. within-none _ c }
 
 -- ---- all workers
 

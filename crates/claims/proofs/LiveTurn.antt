@@ -1,9 +1,9 @@
 -- A turn keeps the whole invariant: the worker itself stands as its own phase says, no other worker sees the store, and the
 -- owner words name those who have the locks.
-use Prim.Native.Nat.{ℕ, suc, zero, _+_, _/_, _<_, _≤_}
+use Prim.Native.Nat.{ℕ, suc, _+_, _/_, _<_}
 use mathlib.Core.Path.{_≡_, refl, ap, subst, _∙_, sym, fun-ext}
 use mathlib.Core.Logic.{_≢_}
-use mathlib.Core.Bool.{Bool, true, false, cond, _&&_, and-false, true≢false}
+use mathlib.Core.Bool.{true, cond, and-false, true≢false}
 use lib.Dec.{eqb}
 use borrow.Author.Tests.{eq-eqb, ne-eqb}
 use native.Mathlib.Omega.{arith}
@@ -11,8 +11,7 @@ use native.Mathlib.Decide.{ℕ-discrete}
 use native.Mathlib.Nat.{div-lt-iff-lt-mul}
 use Rattle.mask.specs.Mask.{has, with, without}
 use Rattle.mask.proofs.Laws.{has-with, has-with-other, has-without, has-without-other}
-use Rattle.image.specs.declared.Field.{Field}
-use Rattle.image.specs.Place.{Place, cell, lock, field, own, step, sameField, Memory, upd}
+use Rattle.image.specs.Place.{Place, cell, lock, field, own, sameField, Memory, upd}
 use Rattle.engine.specs.Cursor.{Cursor}
 use Rattle.engine.specs.Turn.{Outcome, stored, jumped, unheld, waiting, resting, refused}
 use Rattle.claims.specs.Reference.{Given}
@@ -166,3 +165,8 @@ live-turn n D rd cursor locks jumps given d (unheld c) L dl ph =
 live-turn n D rd cursor locks jumps given d (waiting b) L dl h = h
 live-turn n D rd cursor locks jumps given d resting L dl h = h
 live-turn n D rd cursor locks jumps given d (refused r) L dl h = h
+
+-- the phases look at the cursors of the workers alone
+pub live-cursors : (n D : ℕ) (rd : Memory) (c c′ : ℕ → Cursor) (locks jumps : ℕ → ℕ) (given : ℕ → Given) → ((e : ℕ) → e < D → c e ≡ c′ e) → Live n D rd c locks jumps given → Live n D rd c′ locks jumps given
+live-cursors n D rd c c′ locks jumps given same L =
+    record { phase = λ d l. subst (λ (x : Cursor). Phase n rd d (given d) x (locks d) (jumps d)) (same d l) (L .phase d l); locked = L .locked; owner = L .owner }

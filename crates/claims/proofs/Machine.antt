@@ -43,9 +43,13 @@ pub follow-none : (s : State) → follow s [] ≡ some s
 unfolding follow
 follow-none s = refl
 
-pub follow-one : (s t : State) (d : ℕ) → advance s d ≡ some t → follow s (d ∷ []) ≡ some t
+-- the first entry
+pub follow-first : (s t : State) (d : ℕ) (ds : List ℕ) → advance s d ≡ some t → follow s (d ∷ ds) ≡ follow t ds
 unfolding follow
-follow-one s t d e = rw e
+follow-first s t d ds e = rw e
+
+pub follow-one : (s t : State) (d : ℕ) → advance s d ≡ some t → follow s (d ∷ []) ≡ some t
+follow-one s t d e = follow-first s t d [] e ∙ follow-none t
 
 replicate-last : (k d : ℕ) → replicate (suc k) d ≡ replicate k d ++ (d ∷ [])
 replicate-last zero d = refl
@@ -58,7 +62,7 @@ follow-last s t u k d e a = ap (follow s) (replicate-last k d) ∙ (follow-then 
 -- ---- what one instruction does, each with its section first in the queue
 
 module _ (s : State) (d : ℕ) (j : Job) (js : List Job) (q : getD (s .queues) d [] ≡ j ∷ js) where
-  advance-op : (x : Op) → opOf (getD (j .code) (j .next) 0) ≡ x → advance s d ≡ whole s d j js x
+  pub advance-op : (x : Op) → opOf (getD (j .code) (j .next) 0) ≡ x → advance s d ≡ whole s d j js x
   unfolding advance
   advance-op x o = ap (front s d) q ∙ ap (whole s d j js) o
 
@@ -219,13 +223,6 @@ advance-length s t d e = front-length s t d (getD (s .queues) d []) e
 
 pub enqueue-length : (n : ℕ) (s : State) (g : Given) → length (enqueue n s g .queues) ≡ length (s .queues)
 enqueue-length n s g = length-set (s .queues) (g .worker) _
-
-pub follow-length : (s t : State) (xs : List ℕ) → follow s xs ≡ some t → length (t .queues) ≡ length (s .queues)
-unfolding follow
-follow-length s t [] e = some-length s s t refl e
-follow-length s t (d ∷ ds) e =
-    let (u, a, f) = then-some (advance s d) (λ u. follow u ds) t e in
-    follow-length u t ds f ∙ advance-length s u d a
 
 -- ---- the machine fed late
 

@@ -1,30 +1,30 @@
 -- A turn of a worker in a live memory, on the reference machine: a store of a pc is a whole instruction, with the jumps before
 -- it, and every other store changes nothing. First the turns of each instruction up to its pc store, which is given; then the
 -- phases, one by one; last what this says of a store, and of the order of whole instructions so far.
-use Prim.Native.Nat.{ℕ, suc, zero, _+_, _-_, _<_, _≤_}
+use Prim.Native.Nat.{ℕ, suc, zero, _+_, _<_, _≤_}
 use mathlib.Core.Path.{_≡_, refl, subst, _∙_}
 use mathlib.Core.Bool.{Bool, true, false, cond}
 use mathlib.Core.List.{List, [], _∷_, _++_}
 use mathlib.Core.Option.{some}
 use native.Mathlib.Omega.{arith}
 use lib.ListN.{getD, replicate}
-use lib.Dec.{ltb, eqb}
+use lib.Dec.{eqb}
 use borrow.Author.Tests.{eqb-true}
 use Rattle.mask.proofs.Laws.{has-with}
-use Rattle.image.specs.declared.Field.the-variants.{Count, Pc, Addr0, Val0, Addr1, Val1, Intent, Owned, Finished}
-use Rattle.image.specs.Place.{Place, cell, lock, field, own, Memory, upd}
+use Rattle.image.specs.declared.Field.the-variants.{Count, Pc, Intent, Owned, Finished}
+use Rattle.image.specs.Place.{Place, lock, field, Memory, upd}
 use Rattle.section.specs.declared.Op.{Op}
 use Rattle.section.specs.declared.Op.the-variants.{Acquire, Release, Assign, Jump, Finish, Unknown}
 use Rattle.section.specs.Op.{eval}
 use Rattle.engine.specs.Cursor.{Cursor, idle, on}
-use Rattle.engine.specs.Turn.{Outcome, stored, jumped, unheld, waiting, resting, refused, operand, wordIn, second, spareAddr, spareVal, activeVal, switched, logged, lockTurn, unlockTurn, acquireTurn, releaseTurn, finishTurn, turnAt}
+use Rattle.engine.specs.Turn.{Outcome, stored, jumped, unheld, waiting, resting, refused, operand, wordIn, spareAddr, spareVal, activeVal, switched, logged, lockTurn, unlockTurn, acquireTurn, releaseTurn, finishTurn, turnAt}
 use Rattle.recovery.specs.Recovery.{targetOf, targetTurn}
 use Rattle.claims.specs.Reference.{Given, Job, State, follow, enqueue, initial}
 use Rattle.claims.specs.Calls.{isPc}
 use Rattle.claims.proofs.Invariant.{opAt, heldAt, Sectioned, logsHeld, Nearing, Jumps, Handed, Phase, resting as rests, fresh, due, unlocking, unlocked, between, ended, Live, JobOf, Mirrors}
 use Rattle.claims.proofs.Machine.{follow-then, initial-more}
-use Rattle.claims.proofs.Entries.{named-pc}
-use Rattle.claims.proofs.Stutter.{mirror-quiet, quiet-lock, quiet-intent, quiet-finished, quiet-spare-addr, quiet-spare-val, quiet-resting, mirror-target}
+use Rattle.claims.proofs.Entries.{named-pc, operand-no-pc, addr-no-pc, val-no-pc}
+use Rattle.claims.proofs.Stutter.{mirror-kept, unmirrored-lock, unmirrored-intent, unmirrored-finished, unmirrored-spare-addr, unmirrored-spare-val, unmirrored-resting, mirror-target}
 use Rattle.claims.proofs.Apart.{Busy, busy-due, busy-between, target-guarded, misses-guarded}
 use Rattle.claims.proofs.PcTurn.{began, Counted, fresh-counted, counted-acquire, counted-release, counted-assign, counted-finish}
 use Rattle.claims.proofs.Ready.{turn-op}
@@ -32,64 +32,40 @@ use Rattle.claims.proofs.Ready.{turn-op}
 -- ---- what a turn is on the reference machine
 
 -- a store of v at p, with j jumps made before; by whether it is a store of a pc. A section that begins is worker d's
-abbrev pub Kept : ℕ → ℕ → Memory → State → ℕ → Given → ℕ → Place → ℕ → Bool → Type 0
-Kept n D rd S j g d p v false = Mirrors n D (upd rd p v) S
-Kept n D rd S j g d p v true = (p ≡ field Pc d) × (rd (field Pc d) ≡ 0 → g .worker ≡ d) × ((S′ : State) × (follow (began n rd S g d) (replicate (suc j) d) ≡ some S′) × Mirrors n D (upd rd p v) S′)
+abbrev pub MirroredStore : ℕ → ℕ → Memory → State → ℕ → Given → ℕ → Place → ℕ → Bool → Type 0
+MirroredStore n D rd S j g d p v false = Mirrors n D (upd rd p v) S
+MirroredStore n D rd S j g d p v true = (p ≡ field Pc d) × (rd (field Pc d) ≡ 0 → g .worker ≡ d) × ((S′ : State) × (follow (began n rd S g d) (replicate (suc j) d) ≡ some S′) × Mirrors n D (upd rd p v) S′)
 
 -- a turn of worker d, by its outcome
 abbrev pub Mirrored : ℕ → ℕ → Memory → State → ℕ → Given → ℕ → Outcome → Type 0
-Mirrored n D rd S j g d (stored p v c) = Kept n D rd S j g d p v (isPc p)
+Mirrored n D rd S j g d (stored p v c) = MirroredStore n D rd S j g d p v (isPc p)
 Mirrored n D rd S j g d (jumped c) = Unit {0}
 Mirrored n D rd S j g d (unheld c) = Unit {0}
 Mirrored n D rd S j g d (waiting b) = Unit {0}
 Mirrored n D rd S j g d resting = Unit {0}
 Mirrored n D rd S j g d (refused r) = Unit {0}
 
-operand-no-pc : (d a : ℕ) → isPc (operand d a) ≡ false
-unfolding operand
-operand-no-pc d a = by (ltb a 512)
-  where
-    by : (b : Bool) → isPc (cond b (cell a) (own d (a - 512))) ≡ false
-    by true = refl
-    by false = refl
-
-addr-no-pc : (n : ℕ) (rd : Memory) (d : ℕ) → isPc (field (spareAddr n rd d) d) ≡ false
-unfolding spareAddr
-addr-no-pc n rd d = by (second n rd d)
-  where
-    by : (b : Bool) → isPc (field (cond b Addr0 Addr1) d) ≡ false
-    by true = refl
-    by false = refl
-
-val-no-pc : (n : ℕ) (rd : Memory) (d : ℕ) → isPc (field (spareVal n rd d) d) ≡ false
-unfolding spareVal
-val-no-pc n rd d = by (second n rd d)
-  where
-    by : (b : Bool) → isPc (field (cond b Val0 Val1) d) ≡ false
-    by true = refl
-    by false = refl
-
 -- ---- the turns of an instruction up to its pc store
 
 module _ (n D : ℕ) (rd : Memory) (S : State) (M : Mirrors n D rd S) (j : ℕ) (g : Given) (d : ℕ) (mine : rd (field Pc d) ≡ 0 → g .worker ≡ d) where
-  addr-turn : (v : ℕ) → Kept n D rd S j g d (field (spareAddr n rd d) d) v (isPc (field (spareAddr n rd d) d))
-  addr-turn v = rw (addr-no-pc n rd d) (mirror-quiet n D rd (field (spareAddr n rd d) d) v (quiet-spare-addr n D rd d) S M)
+  addr-turn : (v : ℕ) → MirroredStore n D rd S j g d (field (spareAddr n rd d) d) v (isPc (field (spareAddr n rd d) d))
+  addr-turn v = rw (addr-no-pc n rd d) (mirror-kept n D rd (field (spareAddr n rd d) d) v (unmirrored-spare-addr n D rd d) S M)
 
-  val-turn : (v : ℕ) → Kept n D rd S j g d (field (spareVal n rd d) d) v (isPc (field (spareVal n rd d) d))
-  val-turn v = rw (val-no-pc n rd d) (mirror-quiet n D rd (field (spareVal n rd d) d) v (quiet-spare-val n D rd d) S M)
+  val-turn : (v : ℕ) → MirroredStore n D rd S j g d (field (spareVal n rd d) d) v (isPc (field (spareVal n rd d) d))
+  val-turn v = rw (val-no-pc n rd d) (mirror-kept n D rd (field (spareVal n rd d) d) v (unmirrored-spare-val n D rd d) S M)
 
   lock-turn : (a k : ℕ) → Mirrored n D rd S j g d (lockTurn n rd d a k)
   lock-turn a k = by (eqb (rd (lock a)) 0)
     where
       by : (b : Bool) → Mirrored n D rd S j g d (cond b (stored (lock a) (d + 1) (on k 2)) (waiting a))
-      by true = mirror-quiet n D rd (lock a) (d + 1) (quiet-lock n D rd a) S M
+      by true = mirror-kept n D rd (lock a) (d + 1) (unmirrored-lock n D rd a) S M
       by false = tt
 
   unlock-turn : (a s : ℕ) → Mirrored n D rd S j g d (unlockTurn n rd d a s)
   unlock-turn a s = by (eqb (rd (lock a)) (d + 1))
     where
       by : (b : Bool) → Mirrored n D rd S j g d (cond b (stored (lock a) 0 (on s 5)) (unheld (on s 5)))
-      by true = mirror-quiet n D rd (lock a) 0 (quiet-lock n D rd a) S M
+      by true = mirror-kept n D rd (lock a) 0 (unmirrored-lock n D rd a) S M
       by false = tt
 
   -- address, value, pc
@@ -101,7 +77,7 @@ module _ (n D : ℕ) (rd : Memory) (S : State) (M : Mirrors n D rd S) (j : ℕ) 
   logged-turns k t p v c (suc (suc (suc i))) h f = absurd (omega arith)
 
   acquire-turns : (k t a : ℕ) → t ≤ 4 → (t ≡ 4 → Counted n D rd S j g d (switched n rd d k)) → Mirrored n D rd S j g d (acquireTurn n rd d a k t)
-  acquire-turns k zero a h f = mirror-quiet n D rd (field Intent d) _ (quiet-intent n D rd d) S M
+  acquire-turns k zero a h f = mirror-kept n D rd (field Intent d) _ (unmirrored-intent n D rd d) S M
   acquire-turns k (suc zero) a h f = lock-turn a k
   acquire-turns k (suc (suc t)) a h f = logged-turns k (suc (suc t)) (field Owned d) _ _ t (omega arith) (λ e. f (omega arith))
 
@@ -112,7 +88,7 @@ module _ (n D : ℕ) (rd : Memory) (S : State) (M : Mirrors n D rd S) (j : ℕ) 
   release-turns k (suc (suc (suc t))) a h f = absurd (omega arith)
 
   finish-turns : (k t : ℕ) → t ≤ 1 → (t ≡ 1 → Counted n D rd S j g d 0) → Mirrored n D rd S j g d (finishTurn n rd d k t)
-  finish-turns k zero h f = mirror-quiet n D rd (field Finished d) _ (quiet-finished n D rd d) S M
+  finish-turns k zero h f = mirror-kept n D rd (field Finished d) _ (unmirrored-finished n D rd d) S M
   finish-turns k (suc zero) h f = (refl, mine, f refl)
   finish-turns k (suc (suc t)) h f = absurd (omega arith)
 
@@ -203,11 +179,11 @@ module _ (n D : ℕ) (rd : Memory) (cursor : ℕ → Cursor) (locks jumps : ℕ 
   phase-turn c w i e (due s lk sec N K) = due-turn s (rw e (busy-due n rd d s lk sec N K)) (opAt n rd d s) refl
   phase-turn c w i e (unlocking s a lk sec N o x y z) = rw (turn-op n rd d s 4 (Release a) (sec .valid) (N .below) o (omega arith)) (unlock-turn n D rd S M 0 (given d) d (λ q. absurd (named-pc n rd d s (N .pc) q)) a s)
   phase-turn c w i e (unlocked s a lk sec N o x y z) =
-      rw (turn-op n rd d s 5 (Release a) (sec .valid) (N .below) o (omega arith)) (mirror-quiet n D rd (field Intent d) _ (quiet-intent n D rd d) S M)
+      rw (turn-op n rd d s 5 (Release a) (sec .valid) (N .below) o (omega arith)) (mirror-kept n D rd (field Intent d) _ (unmirrored-intent n D rd d) S M)
   phase-turn c w i e (between s k t lk j sec N made J below o h K) =
       between-turn s k t j (rw e (busy-between n rd d s k t lk sec N o h K)) made J below h (rw e K)
   phase-turn c w i e (ended s sec p o x below f) =
-      rw (turn-op n rd d s 2 Finish (sec .valid) below f (omega arith)) (mirror-quiet n D rd (field Count d) 0 (quiet-resting n D rd d p Count refl) S M)
+      rw (turn-op n rd d s 2 Finish (sec .valid) below f (omega arith)) (mirror-kept n D rd (field Count d) 0 (unmirrored-resting n D rd d p Count refl) S M)
 
 -- a turn of a worker in a live memory
 pub mirror-turn :
@@ -220,12 +196,12 @@ mirror-turn n D rd cursor locks jumps given L d l S M = phase-turn n D rd cursor
 pub mirror-still :
     (n D : ℕ) (rd : Memory) (S : State) (j : ℕ) (g : Given) (d : ℕ) (p : Place) (v : ℕ) (c : Cursor) → isPc p ≡ false
     → Mirrored n D rd S j g d (stored p v c) → Mirrors n D (upd rd p v) S
-mirror-still n D rd S j g d p v c e m = subst (Kept n D rd S j g d p v) e m
+mirror-still n D rd S j g d p v c e m = subst (MirroredStore n D rd S j g d p v) e m
 
 pub mirror-counts :
     (n D : ℕ) (rd : Memory) (S : State) (j : ℕ) (g : Given) (d : ℕ) (p : Place) (v : ℕ) (c : Cursor) → isPc p ≡ true
-    → Mirrored n D rd S j g d (stored p v c) → Kept n D rd S j g d p v true
-mirror-counts n D rd S j g d p v c e m = subst (Kept n D rd S j g d p v) e m
+    → Mirrored n D rd S j g d (stored p v c) → MirroredStore n D rd S j g d p v true
+mirror-counts n D rd S j g d p v c e m = subst (MirroredStore n D rd S j g d p v) e m
 
 -- the sections begun and the order so far, and with this instruction: as `recorded` traces them
 pub order-grows :

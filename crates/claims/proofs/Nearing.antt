@@ -11,8 +11,7 @@ use native.Mathlib.Decide.{decLt}
 use lib.Dec.{eqb}
 use borrow.Author.Tests.{eqb-true, eqb-false}
 use Rattle.mask.specs.Mask.{has, with, without}
-use Rattle.image.specs.declared.Field.{Field}
-use Rattle.image.specs.declared.Field.the-variants.{Count, Pc, Addr0, Val0, Addr1, Val1, Intent, Owned, Number, Finished}
+use Rattle.image.specs.declared.Field.the-variants.{Count, Pc, Intent, Owned, Number, Finished}
 use Rattle.image.specs.Place.{lock, field, Memory, upd}
 use Rattle.image.specs.Image.{indexOf}
 use Rattle.image.proofs.Places.{upd-same}
@@ -25,27 +24,15 @@ use Rattle.section.proofs.Facts.{acquire-above}
 use Rattle.section.proofs.Held.{after-acquire, after-release, after-jump}
 use Rattle.section.proofs.Ranges.{acquire-range, opTurns}
 use Rattle.engine.specs.Cursor.{on}
-use Rattle.engine.specs.Turn.{operand, codeIn, wordIn, second, spareAddr, spareVal, switched, opTurn, turnAt, stored, waiting}
+use Rattle.engine.specs.Turn.{operand, codeIn, wordIn, spareAddr, spareVal, switched, opTurn, turnAt, stored, waiting}
 use Rattle.recovery.specs.Recovery.{targetOf, targetTurn}
 use Rattle.claims.specs.Reference.{Given}
-use Rattle.claims.specs.Calls.{isPc}
 use Rattle.claims.proofs.Invariant.{opAt, heldAt, Sectioned, logsHeld, Named, Nearing, Due, leap, Phase, due, ended}
 use Rattle.claims.proofs.Turns.{inRecord, takes, Stepped}
 use Rattle.claims.proofs.Fields.{quiet-intent, quiet-finished, quiet-lock, quiet-spare-addr, quiet-spare-val, spare-addr-other, spare-val-other, spare-addr-now, spare-val-now, spare-val-addr, next-step, next-address, next-value}
 use Rattle.claims.proofs.Ready.{turn-op, step-behind, finish-free}
 use Rattle.claims.proofs.Origins.{Origin, began, after, reads-kept, Before, before-kept, near, arrive}
-
-private-no-pc : (b : Bool) (f g : Field) (d j : ℕ) → isPc (field f d) ≡ false → isPc (field g d) ≡ false → cond (isPc (field (cond b f g) d)) 0 j ≡ j
-private-no-pc true f g d j p q = rw p
-private-no-pc false f g d j p q = rw q
-
-spare-addr-no-pc : (n : ℕ) (rd : Memory) (d j : ℕ) → cond (isPc (field (spareAddr n rd d) d)) 0 j ≡ j
-unfolding spareAddr
-spare-addr-no-pc n rd d j = private-no-pc (second n rd d) Addr0 Addr1 d j refl refl
-
-spare-val-no-pc : (n : ℕ) (rd : Memory) (d j : ℕ) → cond (isPc (field (spareVal n rd d) d)) 0 j ≡ j
-unfolding spareVal
-spare-val-no-pc n rd d j = private-no-pc (second n rd d) Val0 Val1 d j refl refl
+use Rattle.claims.proofs.Entries.{addr-no-pc, val-no-pc}
 
 -- a jump is never first, so that there is a step that is over
 jump-origin :
@@ -66,7 +53,7 @@ module _ (n : ℕ) (rd : Memory) (d : ℕ) (g : Given) (k j locks : ℕ) (b : Be
   log-address w t x o r =
       let rd′ = upd rd (field (spareAddr n rd d) d) w in
       let f : rd′ (field Finished d) ≤ rd′ (field Number d) = rw (spare-addr-other n rd d w Finished refl refl, spare-addr-other n rd d w Number refl refl) (b .sectioned .unfinished) in
-      (locks, inRecord (spareAddr n rd d) w, rw (spare-addr-no-pc n rd d j) (near n rd′ d g k j t locks x (before-kept n rd rd′ d g k j (quiet-spare-addr n rd d w) f b) o r))
+      (locks, inRecord (spareAddr n rd d) w, rw (addr-no-pc n rd d) (near n rd′ d g k j t locks x (before-kept n rd rd′ d g k j (quiet-spare-addr n rd d w) f b) o r))
 
   log-value :
       (w t : ℕ) (x : Op) → opAt n rd d k ≡ x → Nearing n (upd rd (field (spareVal n rd d) d) w) d k t (heldAt n rd d k) locks x
@@ -74,7 +61,7 @@ module _ (n : ℕ) (rd : Memory) (d : ℕ) (g : Given) (k j locks : ℕ) (b : Be
   log-value w t x o r =
       let rd′ = upd rd (field (spareVal n rd d) d) w in
       let f : rd′ (field Finished d) ≤ rd′ (field Number d) = rw (spare-val-other n rd d w Finished refl refl, spare-val-other n rd d w Number refl refl) (b .sectioned .unfinished) in
-      (locks, inRecord (spareVal n rd d) w, rw (spare-val-no-pc n rd d j) (near n rd′ d g k j t locks x (before-kept n rd rd′ d g k j (quiet-spare-val n rd d w) f b) o r))
+      (locks, inRecord (spareVal n rd d) w, rw (val-no-pc n rd d) (near n rd′ d g k j t locks x (before-kept n rd rd′ d g k j (quiet-spare-val n rd d w) f b) o r))
 
   log-pc :
       (x : Op) → opAt n rd d k ≡ x → rd (field (spareAddr n rd d) d) ≡ indexOf n (targetOf d x)

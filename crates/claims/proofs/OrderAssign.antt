@@ -17,10 +17,8 @@ use Rattle.image.specs.declared.Field.the-variants.{Count}
 use Rattle.image.specs.Place.{Place, cell, field, own, step, valid, Memory, upd}
 use Rattle.image.specs.Image.{at}
 use Rattle.section.specs.declared.Expr.{Expr}
-use Rattle.section.specs.declared.Expr.the-variants.{Literal, Sum, Difference, Less}
 use Rattle.section.specs.declared.Op.the-variants.{Assign}
 use Rattle.section.specs.Op.{opOf, eval}
-use Rattle.section.specs.Fits.{ranged}
 use Rattle.section.proofs.Held.{after-assign}
 use Rattle.section.proofs.Ranges.{assign-range, expr-range}
 use Rattle.engine.specs.Cursor.{Cursor, on, cursorAt}
@@ -35,13 +33,7 @@ use Rattle.claims.proofs.OrderTurn.{View}
 use Rattle.claims.proofs.OrderLog.{turnsOf, Logs, Wrote, log-turns}
 use Rattle.claims.proofs.OrderLevel.{heldsOf, Works, Even, works-on, even-after}
 use Rattle.claims.proofs.OrderBlock.{Block, turns-calls, turns-words, owning-kept, start-view, small, here, mine-held, reads-alike}
-
-pub eval-alike : (size : ℕ) (f g : ℕ → ℕ) (e : Expr) → ranged size e → ((x : ℕ) → x < 512 + size → f x ≡ g x) → eval f e ≡ eval g e
-unfolding eval
-eval-alike size f g (Literal b c) r s = refl
-eval-alike size f g (Sum b c) r s = rw (s b (r .0), s c (r .1))
-eval-alike size f g (Difference b c) r s = rw (s b (r .0), s c (r .1))
-eval-alike size f g (Less b c) r s = rw (s b (r .0), s c (r .1))
+use Rattle.claims.proofs.Frame.{eval-same}
 
 -- the words of a list after one changed, where a function changes alike
 filled-alike : (l : List ℕ) (size i v : ℕ) (f : ℕ → ℕ) → length l ≡ size → ((j : ℕ) → j < size → getD l j 0 ≡ f j) → (j : ℕ) → j < size → getD (set l i v) j 0 ≡ cond (eqb j i) v (f j)
@@ -142,7 +134,7 @@ module _
   pub assign-block : Block mark n D w d (assigned s d (W .first) (map (start n) (gs d)) a (eval (readIn (s .cells) (W .first .own)) x)) gs
   assign-block =
       let e : eval (readIn (s .cells) (W .first .own)) x ≡ result =
-      eval-alike n (readIn (s .cells) (W .first .own)) (wordIn n rd d) x (expr-range n (rd (step d k)) a x (W .valid .ranges k (W .below)) o) (reads-alike mark n D w s gs E d dl W)
+      eval-same n (heldAt n rd d k) (readIn (s .cells) (W .first .own)) (wordIn n rd d) (λ y c. reads-alike mark n D w s gs E d dl W y) x (W .valid .operands k a x (W .below) o) (expr-range n (rd (step d k)) a x (W .valid .ranges k (W .below)) o)
       in
       subst (λ (v : ℕ). Block mark n D w d (assigned s d (W .first) (map (start n) (gs d)) a v) gs) (sym e)
       (record {

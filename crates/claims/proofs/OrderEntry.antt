@@ -3,12 +3,11 @@
 use Prim.Native.Nat.{ℕ, _+_, _^_, _<_, _≤_}
 use mathlib.Core.Path.{_≡_, refl, ap, subst, _∙_, sym}
 use mathlib.Core.Logic.{inl, inr}
-use mathlib.Core.Bool.{Bool, true, false, cond}
+use mathlib.Core.Bool.{true}
 use mathlib.Core.Option.{some}
-use mathlib.Core.List.{List, [], _∷_, _++_, map, append-assoc, append-nil}
+use mathlib.Core.List.{List, [], _∷_, _++_, map, append-assoc}
 use lib.ListN.{length, getD, List·getD-eq-default}
-use lib.Dec.{eqb}
-use borrow.Author.Tests.{lt-ltb, eq-eqb, ne-eqb}
+use borrow.Author.Tests.{lt-ltb, eq-eqb}
 use native.Mathlib.Omega.{arith}
 use native.Mathlib.Decide.{decLt, ℕ-discrete}
 use Rattle.base.proofs.Bools.{and-both}
@@ -25,17 +24,9 @@ use Rattle.claims.proofs.OrderLevel.{Idles, Stand, Even, even-view}
 use Rattle.claims.proofs.OrderBlock.{Block}
 use Rattle.claims.proofs.OrderStep.{none-some, step-block}
 use Rattle.claims.proofs.OrderHandIn.{Able, nextNumber, handIn, hand-in-room, hand-in-view, hand-in-even}
+use Rattle.claims.proofs.Feeding.{of-snoc-same, of-snoc-other}
 
 -- ---- the sections of one worker
-
-pub of-append : (d : ℕ) (xs ys : List Given) → ofWorker d (xs ++ ys) ≡ ofWorker d xs ++ ofWorker d ys
-of-append d [] ys = refl
-of-append d (x ∷ xs) ys = by (eqb (x .worker) d) (of-append d xs ys)
-  where
-    by : (b : Bool) → ofWorker d (xs ++ ys) ≡ ofWorker d xs ++ ofWorker d ys
-        → cond b (x ∷ ofWorker d (xs ++ ys)) (ofWorker d (xs ++ ys)) ≡ cond b (x ∷ ofWorker d xs) (ofWorker d xs) ++ ofWorker d ys
-    by true e = ap (λ (l : List Given). x ∷ l) e
-    by false e = e
 
 -- one more taken, one less waits
 kept-one :
@@ -44,13 +35,13 @@ kept-one :
 kept-one d taken rest g gs by-d waits e = by (ℕ-discrete e d)
   where
     by : Dec (e ≡ d) → ofWorker e (taken ++ (g ∷ [])) ++ but gs d rest e ≡ ofWorker e taken ++ gs e
-    by (yes p) = rw (p, of-append d taken (g ∷ []), but-same gs d rest, waits, eq-eqb (g .worker) d by-d, append-assoc (ofWorker d taken) (g ∷ []) rest)
+    by (yes p) = rw (p, of-snoc-same d taken g by-d, but-same gs d rest, waits, append-assoc (ofWorker d taken) (g ∷ []) rest)
     by (no p) =
-        rw (of-append e taken (g ∷ []), but-other gs d rest e p, ne-eqb (g .worker) e (λ q. p (sym (sym by-d ∙ q))), append-nil (ofWorker e taken))
+        rw (of-snoc-other e taken g (λ q. p (sym (sym by-d ∙ q))), but-other gs d rest e p)
 
 -- ---- an entry
 
-pub record Entry (mark n D : ℕ) (w : Traced) (d : ℕ) (t : State) (gs : ℕ → List Given) : Type 0 where
+pub record EntryHad (mark n D : ℕ) (w : Traced) (d : ℕ) (t : State) (gs : ℕ → List Given) : Type 0 where
   pub moves : List Move
   pub by-worker : callsOf d moves ≡ true
   pub words : machine moves ≡ true
@@ -74,7 +65,7 @@ module _
       by (yes l) = l
       by (no l) = let m = E .level .many in absurd (no-queue s t d (List·getD-eq-default (s .queues) [] (omega arith)) goes)
 
-  from-block : Block mark n D w d t gs → Entry mark n D w d t gs
+  from-block : Block mark n D w d t gs → EntryHad mark n D w d t gs
   from-block b =
       record {
         moves = b .moves;
@@ -119,7 +110,7 @@ module _
         let r = hand-in-room mark n D w s gs E d entry-worker least most idles g rest waits (fits .0) in
         rw (lt-ltb d (2 ^ 64) (omega arith), lt-ltb (at n (w .world .image) (field Finished d) + 1) (2 ^ 64) (omega arith), eq-eqb (length (g .args)) 8 (fits .0 .eight), fits .0 .arg-words, fits .0 .code-words)
 
-    hand-in-entry : Entry mark n D w d t gs
+    hand-in-entry : EntryHad mark n D w d t gs
     unfolding play machine
     hand-in-entry =
         let b = hand-in-block (after-even .level .stands d entry-worker) in
@@ -133,10 +124,10 @@ module _
           kept = λ e. ap (λ (l : List Given). ofWorker e l ++ but gs d rest e) (b .handed ∙ after-handed) ∙ kept-one d (w .trace .taken) rest g gs (fits .0 .by) waits e;
         }
 
-  private-entry : Stand n (at n (w .world .image)) d (cursorAt (w .world .cursors) d) (getD (s .queues) d []) (gs d) → (l : List Given) → gs d ≡ l → Entry mark n D w d t gs
+  private-entry : Stand n (at n (w .world .image)) d (cursorAt (w .world .cursors) d) (getD (s .queues) d []) (gs d) → (l : List Given) → gs d ≡ l → EntryHad mark n D w d t gs
   private-entry (inl i) [] e = absurd (no-queue s t d (i .queue ∙ ap (map (start n)) e) goes)
   private-entry (inl i) (g ∷ rest) e = hand-in-entry i g rest e (subst (Able n d) e (able d entry-worker))
   private-entry (inr W) l e = from-block (step-block mark n D w s t gs E d entry-worker W goes)
 
-  pub entry : Entry mark n D w d t gs
+  pub entry : EntryHad mark n D w d t gs
   entry = private-entry (E .level .stands d entry-worker) (gs d) refl

@@ -22,14 +22,16 @@ use Rattle.engine.specs.Cursor.{Cursor, idle, on, cursorAt}
 use Rattle.engine.specs.Turn.{codeIn}
 use Rattle.engine.specs.Submit.{submission, free, submitAnswer}
 use Rattle.engine.proofs.Standing.{placed-same, placed-other}
+use Rattle.engine.proofs.Submission.{submission-length, submission-valid}
 use Rattle.claims.specs.Reference.{Job, State, state, Given, given, start}
 use Rattle.claims.specs.Calls.{Traced, but, submits, Move, whole, call, move, lent, areWords}
 use Rattle.claims.proofs.AtStore.{memory-all}
 use Rattle.claims.proofs.LiveTurn.{but-same, but-other}
-use Rattle.claims.proofs.OrderTurn.{View, full-at, view-sized, view-few}
+use Rattle.claims.proofs.OrderTurn.{View, view-sized, view-few}
 use Rattle.claims.proofs.OrderLevel.{heldOf, heldsOf, Idles, Works, Even, even-view, even-after}
 use Rattle.claims.proofs.OrderBlock.{owning-kept}
-use Rattle.claims.proofs.OrderStores.{filled-length, Laid, submission-laid, submission-length, submission-valid}
+use Rattle.claims.proofs.Laid.{own-size, Laid, submission-laid}
+use Rattle.claims.proofs.Cursors.{full-set}
 
 -- a section that the engine takes from worker d
 pub record Fit (n d : ℕ) (g : Given) : Type 0 where
@@ -56,10 +58,9 @@ module _ (mark n D : ℕ) (w : Traced) (rd : Memory) (d : ℕ) (cur : ℕ → Cu
 
   submit-memory : 8 ≤ n → n ≤ 64 → length args ≡ 8 → at n (putAll n (2 ^ 64 - 1) (w .world .image) (submission n d k args ws)) ≡ updAll rd (submission n d k args ws)
   submit-memory least most eight =
-      let f = filled-length n args least eight in
       let c = check-parts n (length ws) (codeOf ws) passed .1 in
-      let z = submission-length n rd d k args ws in
-      let ok = submission-valid n rd d k args ws D dl (omega arith) c in
+      let z = submission-length n d k args ws eight least in
+      let ok = submission-valid n d k args ws eight D dl least c in
       memory-all n D (w .world .image) (view-sized mark n D w rd d idle cur taken view dl) (2 ^ 64 - 1) (submission n d k args ws) ok
       ∙ rw (view .memory) (ap (updAll rd) (take-all (2 ^ 64 - 1) (submission n d k args ws) (omega arith)))
 
@@ -73,7 +74,7 @@ module _ (mark n D : ℕ) (w : Traced) (rd : Memory) (d : ℕ) (cur : ℕ → Cu
       (record {
         header = header-all n mark (2 ^ 64 - 1) (w .world .image) (submission n d k args ws) ∙ view .header;
         many = workers-all n (2 ^ 64 - 1) (w .world .image) (submission n d k args ws) ∙ view .many;
-        full = full-at (w .world .cursors) d 0 0 (view .full);
+        full = full-set (w .world .cursors) d 0 0 (view .full);
         memory = submit-memory least most eight;
         mine = placed-same (w .world .cursors) d (on 0 0) (view .full) (omega arith) (λ q. omega arith);
         others = λ e h. placed-other (w .world .cursors) d e (on 0 0) h ∙ view .others e h;
@@ -89,7 +90,7 @@ laid-works n rd rd′ d k g gs least fit laid intent owned room =
     let l = parts .0 in
     let same : check n (length (g .code)) (codeIn n rd′ d) ≡ Pass = check-cong n (length (g .code)) (codeIn n rd′ d) (codeOf (g .code)) (laid .code-words) ∙ fit .passed in
     let z = held-zero (codeIn n rd′ d) in
-    let full = filled-length n (g .args) least (fit .eight) in
+    let full = own-size n (g .args) least (fit .eight) in
     record {
       first = start n g;
       cursor = refl;

@@ -14,8 +14,8 @@ use Rattle.image.specs.declared.Field.{Field}
 use Rattle.image.specs.declared.Field.the-variants.{Count, Pc, Intent, Owned, Number, Finished}
 use Rattle.image.specs.Place.{cell, field, own, step, Memory}
 use Rattle.image.specs.Image.{at, workers, headerOk}
-use Rattle.section.specs.Check.{Code, heldBefore}
 use Rattle.section.specs.Valid.{Valid}
+use Rattle.section.proofs.Held.{held-cong}
 use Rattle.engine.specs.Cursor.{Cursor, idle, on, cursorAt}
 use Rattle.engine.specs.Turn.{codeIn}
 use Rattle.engine.proofs.Standing.{Full}
@@ -86,9 +86,6 @@ pub record Beside (rd rd′ : Memory) (e : ℕ) : Type 0 where
   pub steps : (i : ℕ) → rd′ (step e i) ≡ rd (step e i)
   pub owns : (i : ℕ) → rd′ (own e i) ≡ rd (own e i)
 
-pub held-same : (n : ℕ) (rd rd′ : Memory) (d : ℕ) → ((i : ℕ) → rd′ (step d i) ≡ rd (step d i)) → (k : ℕ) → heldAt n rd′ d k ≡ heldAt n rd d k
-held-same n rd rd′ d s k = ap (λ (c : Code). heldBefore c k) (fun-ext s)
-
 pub stand-same : (n : ℕ) (rd rd′ : Memory) (e : ℕ) (c : Cursor) (q : List Job) (gs : List Given) → Beside rd rd′ e → Stand n rd e c q gs → Stand n rd′ e c q gs
 stand-same n rd rd′ e c q gs b (inl i) =
     inl (record {
@@ -110,9 +107,9 @@ stand-same n rd rd′ e c q gs b (inr w) =
       code = λ i l. w .code i (rw (b .fields Count) at l) ∙ sym (b .steps i);
       size = w .size;
       words = λ i l. w .words i l ∙ sym (b .owns i);
-      owned = b .fields Owned ∙ (w .owned ∙ sym (held-same n rd rd′ e (b .steps) (w .first .next)));
-      intent = b .fields Intent ∙ (w .intent ∙ sym (held-same n rd rd′ e (b .steps) (w .first .next)));
-      held = w .held ∙ sym (held-same n rd rd′ e (b .steps) (w .first .next));
+      owned = b .fields Owned ∙ (w .owned ∙ sym (held-cong (codeIn n rd′ e) (codeIn n rd e) (w .first .next) (λ j l. b .steps j)));
+      intent = b .fields Intent ∙ (w .intent ∙ sym (held-cong (codeIn n rd′ e) (codeIn n rd e) (w .first .next) (λ j l. b .steps j)));
+      held = w .held ∙ sym (held-cong (codeIn n rd′ e) (codeIn n rd e) (w .first .next) (λ j l. b .steps j));
       room = rw (b .fields Number) (w .room);
     })
 
@@ -124,7 +121,7 @@ module _ (n : ℕ) (rd rd′ : Memory) (d : ℕ) (c : Cursor) (q : List Job) (gs
       → k < rd (field Count d) → length ow ≡ n → ((i : ℕ) → i < n → getD ow i 0 ≡ rd′ (own d i)) → h ≡ heldAt n rd d k → rd′ (field Owned d) ≡ h → rd′ (field Intent d) ≡ h
       → Works n rd′ d (on k 0) (job (w .first .code) k ow h ∷ map (start n) gs) gs
   works-on k ow h count steps number below size words held owned intent =
-      let same = held ∙ sym (held-same n rd rd′ d steps k) in
+      let same = held ∙ sym (held-cong (codeIn n rd′ d) (codeIn n rd d) k (λ j l. steps j)) in
       record {
         first = job (w .first .code) k ow h;
         cursor = refl;

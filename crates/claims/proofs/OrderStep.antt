@@ -19,6 +19,7 @@ use Rattle.claims.proofs.OrderLevel.{Works, Even}
 use Rattle.claims.proofs.OrderBlock.{Block, jump-block, finish-block}
 use Rattle.claims.proofs.OrderLocks.{acquire-block, release-block}
 use Rattle.claims.proofs.OrderAssign.{assign-block}
+use Rattle.claims.proofs.Machine.{advance-op}
 
 pub some-same : {A : Type 0} {a b : A} → some a ≡ some b → a ≡ b
 some-same e = cc
@@ -31,11 +32,6 @@ module _
     (W : Works n (at n (w .world .image)) d (cursorAt (w .world .cursors) d) (getD (s .queues) d []) (gs d)) where
   private-front : opOf (getD (W .first .code) (W .first .next) 0) ≡ opOf (at n (w .world .image) (step d (W .first .next)))
   private-front = ap opOf (W .code (W .first .next) (W .below))
-
-  -- what the reference machine does is its instruction's
-  advance-op : advance s d ≡ whole s d (W .first) (map (start n) (gs d)) (opOf (at n (w .world .image) (step d (W .first .next))))
-  unfolding advance
-  advance-op = rw (W .queue, private-front)
 
   private-block : (x : Op) → opOf (at n (w .world .image) (step d (W .first .next))) ≡ x → whole s d (W .first) (map (start n) (gs d)) x ≡ some t → Block mark n D w d t gs
   private-block (Acquire a) o e = by (taken (s .queues) a) refl
@@ -50,4 +46,4 @@ module _
   private-block Unknown o e = absurd (none-some e)
 
   pub step-block : advance s d ≡ some t → Block mark n D w d t gs
-  step-block e = private-block (opOf (at n (w .world .image) (step d (W .first .next)))) refl (sym advance-op ∙ e)
+  step-block e = private-block (opOf (at n (w .world .image) (step d (W .first .next)))) refl (sym (advance-op s d (W .first) (map (start n) (gs d)) (W .queue) (opOf (at n (w .world .image) (step d (W .first .next)))) private-front) ∙ e)

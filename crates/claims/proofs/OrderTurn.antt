@@ -6,7 +6,6 @@ use mathlib.Core.Path.{_≡_, refl, ap, subst, _∙_}
 use mathlib.Core.Logic.{_≢_}
 use mathlib.Core.Bool.{Bool, true, false, cond, _&&_, not}
 use mathlib.Core.List.{List}
-use lib.ListN.{length-set}
 use lib.Dec.{eqb}
 use borrow.Author.Tests.{lt-ltb}
 use native.Mathlib.Omega.{arith}
@@ -15,14 +14,14 @@ use Rattle.image.specs.Place.{Place, field, valid, Memory, upd}
 use Rattle.image.specs.Image.{at, workers, headerOk}
 use Rattle.image.proofs.Header.{Sized, header-sized, header-workers}
 use Rattle.image.proofs.Stores.{header-store, workers-store}
-use Rattle.engine.specs.declared.Cursors.{Cursors}
-use Rattle.engine.specs.Cursor.{Cursor, cursorAt, setAt}
+use Rattle.engine.specs.Cursor.{Cursor, cursorAt}
 use Rattle.engine.specs.Turn.{Outcome, stored, jumped, turnAt}
 use Rattle.engine.specs.World.{world, outcomeAt, outcome}
 use Rattle.engine.proofs.Standing.{Full, sayable, placed-same, placed-other}
 use Rattle.claims.specs.Reference.{Given}
 use Rattle.claims.specs.Calls.{Trace, Traced, recorded, isPc, call, turns, whole, move, lent}
 use Rattle.claims.proofs.AtStore.{memory-store}
+use Rattle.claims.proofs.Cursors.{full-set}
 
 pub record View (mark n D : ℕ) (w : Traced) (rd : Memory) (d : ℕ) (c : Cursor) (cur : ℕ → Cursor) (taken : List Given) : Type 0 where
   pub header : headerOk mark n (w .world .image) ≡ true
@@ -32,10 +31,6 @@ pub record View (mark n D : ℕ) (w : Traced) (rd : Memory) (d : ℕ) (c : Curso
   pub mine : cursorAt (w .world .cursors) d ≡ c
   pub others : (e : ℕ) → e ≢ d → cursorAt (w .world .cursors) e ≡ cur e
   pub handed : w .trace .taken ≡ taken
-
-pub full-at : (c : Cursors) (d s t : ℕ) → Full c → Full (setAt c d s t)
-unfolding setAt
-full-at c d s t f = record { steps = length-set (c .step) d s ∙ f .steps; turns = length-set (c .turn) d t ∙ f .turns }
 
 private-taken : (b : Bool) (g : Trace) (d : ℕ) (t : Bool) → cond b (recorded g d t) g .taken ≡ g .taken
 private-taken true g d t = refl
@@ -63,7 +58,7 @@ module _ (mark n D : ℕ) (w : Traced) (rd : Memory) (d : ℕ) (c : Cursor) (cur
       (record {
         header = header-store n mark (2 ^ 64 - 1) (w .world .image) p v ∙ view .header;
         many = workers-store n (2 ^ 64 - 1) (w .world .image) p v ∙ view .many;
-        full = full-at (w .world .cursors) d _ _ (view .full);
+        full = full-set (w .world .cursors) d _ _ (view .full);
         memory = memory-store n D (w .world .image) view-sized (2 ^ 64 - 1) p v ok (omega arith) ∙ ap (λ (m : Memory). upd m p v) (view .memory);
         mine = placed-same (w .world .cursors) d x (view .full) (omega arith) say;
         others = λ f h. placed-other (w .world .cursors) d f x h ∙ view .others f h;
@@ -78,7 +73,7 @@ module _ (mark n D : ℕ) (w : Traced) (rd : Memory) (d : ℕ) (c : Cursor) (cur
       (record {
         header = view .header;
         many = view .many;
-        full = full-at (w .world .cursors) d _ _ (view .full);
+        full = full-set (w .world .cursors) d _ _ (view .full);
         memory = view .memory;
         mine = placed-same (w .world .cursors) d x (view .full) (omega arith) say;
         others = λ f h. placed-other (w .world .cursors) d f x h ∙ view .others f h;

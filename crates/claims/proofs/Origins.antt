@@ -6,7 +6,7 @@ use mathlib.Core.Path.{_≡_, refl, sym, ap, subst, subst₂, fun-ext, _∙_}
 use native.Mathlib.Omega.{arith}
 use Rattle.image.specs.declared.Field.{Field}
 use Rattle.image.specs.declared.Field.the-variants.{Count, Pc, Intent, Owned, Number, Finished}
-use Rattle.image.specs.Place.{field, Memory}
+use Rattle.image.specs.Place.{field, Memory, own}
 use Rattle.image.specs.Image.{indexOf}
 use Rattle.section.specs.declared.Op.{Op}
 use Rattle.section.specs.declared.Op.the-variants.{Acquire, Release, Assign, Jump, Finish, Unknown}
@@ -20,11 +20,11 @@ use Rattle.engine.specs.Turn.{operand, codeIn, wordIn, activeAddr, activeVal}
 use Rattle.recovery.specs.Recovery.{targetOf}
 use Rattle.claims.specs.Reference.{Given}
 use Rattle.claims.proofs.Invariant.{opAt, heldAt, Sectioned, logsHeld, Named, Nearing, Jumps, stay, leap, Handed, Phase, fresh, between}
-use Rattle.claims.proofs.Fields.{Keeps, Quiet, active-addr-kept, active-val-kept, word-kept}
+use Rattle.claims.proofs.Fields.{KeepsNamed, Quiet, active-addr-kept, active-val-kept, word-kept}
 
 -- ---- what is kept with the pc, the section and the active entry
 
-module _ (n : ℕ) (rd rd′ : Memory) (d : ℕ) (k : Keeps n rd rd′ d) where
+module _ (n : ℕ) (rd rd′ : Memory) (d : ℕ) (k : KeepsNamed n rd rd′ d) where
   code-kept : codeIn n rd′ d ≡ codeIn n rd d
   code-kept = fun-ext (k .steps)
 
@@ -65,6 +65,15 @@ module _ (n : ℕ) (rd rd′ : Memory) (d : ℕ) (k : Keeps n rd rd′ d) where
         logs = subst (λ (x : Op). logsHeld n rd′ d s x) (sym (op-kept s)) (private-logs s (opAt n rd d s) (m .logs));
       }
 
+  pub handed-kept : ((i : ℕ) → rd′ (own d i) ≡ rd (own d i)) → (g : Given) → Handed n rd d g → Handed n rd′ d g
+  handed-kept owns g h =
+      record {
+        by = h .by;
+        code = λ i l. h .code i (rw (k .count) at l) ∙ sym (k .steps i);
+        size = h .size;
+        args = λ i l. h .args i l ∙ sym (owns i);
+      }
+
 -- ---- how a worker came to stand before step k, with j jumps that are not counted
 
 pub data Origin (n : ℕ) (rd : Memory) (d : ℕ) (g : Given) : ℕ → ℕ → Type 0 where
@@ -94,17 +103,8 @@ module _ (n : ℕ) (rd rd′ : Memory) (d : ℕ) (q : Quiet n rd rd′ d) where
   jumps-kept stay = stay
   jumps-kept (leap j k a b r l o) = rw (words a) at (leap j k a b (jumps-kept r) (rw (q .keeps .count) l) (op-kept n rd rd′ d (q .keeps) k ∙ o))
 
-  handed-kept : (g : Given) → Handed n rd d g → Handed n rd′ d g
-  handed-kept g h =
-      record {
-        by = h .by;
-        code = λ i l. h .code i (rw (q .keeps .count) at l) ∙ sym (q .keeps .steps i);
-        size = h .size;
-        args = λ i l. h .args i l ∙ sym (q .owns i);
-      }
-
   pub origin-kept : {g : Given} {k j : ℕ} → Origin n rd d g k j → Origin n rd′ d g k j
-  origin-kept {g} (began h p) = began (handed-kept g h) (q .keeps .pc ∙ p)
+  origin-kept {g} (began h p) = began (handed-kept n rd rd′ d (q .keeps) (q .owns) g h) (q .keeps .pc ∙ p)
   origin-kept {g} (after s k j m done r e) =
       let ks = q .keeps in
       after s k j (named-kept n rd rd′ d ks s m)

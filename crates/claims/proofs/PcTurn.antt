@@ -30,7 +30,8 @@ use Rattle.claims.proofs.Entries.{named-pc, named-step}
 use Rattle.claims.proofs.Apart.{Busy, covered-guarded, virtual-resting, virtual-owned, reads-same}
 use Rattle.claims.proofs.Switching.{Freed, freed-resting, freed-settled}
 use Rattle.claims.proofs.Counting.{Poised, Counts, counts-acquire, counts-release, counts-assign, counts-finish}
-use Rattle.claims.proofs.Jumping.{eval-same, jumps-follow}
+use Rattle.claims.proofs.Jumping.{jumps-follow}
+use Rattle.claims.proofs.Frame.{eval-same}
 
 -- the state at which an instruction of worker d is made: a section that begins is handed in now
 abbrev pub began : ℕ → Memory → State → Given → ℕ → State

@@ -1,6 +1,6 @@
 -- A section that is taken and not begun is pending: its worker's pc is 0 and its cursor on step 0. What one turn of a worker
 -- does to that: a store of a pc ends it, and is the store at which the section counts as begun; any other turn leaves it.
-use Prim.Native.Nat.{ℕ, suc, zero, _+_, _-_, _%_, _^_, _<_, _≤_}
+use Prim.Native.Nat.{ℕ, suc, zero, _+_, _%_, _^_, _<_, _≤_}
 use mathlib.Core.Path.{_≡_, refl, sym, subst, _∙_}
 use mathlib.Core.Logic.{_≢_}
 use mathlib.Core.Bool.{Bool, true, false, cond, _&&_, false≢true}
@@ -8,20 +8,21 @@ use native.Mathlib.Omega.{arith}
 use lib.Dec.{eqb, ltb}
 use borrow.Author.Tests.{ne-eqb, eq-eqb}
 use Rattle.mask.specs.Mask.{without}
-use Rattle.image.specs.declared.Field.the-variants.{Count, Pc, Addr0, Val0, Addr1, Val1, Intent, Owned}
-use Rattle.image.specs.Place.{Place, cell, lock, field, own, Memory}
+use Rattle.image.specs.declared.Field.the-variants.{Count, Pc, Intent, Owned}
+use Rattle.image.specs.Place.{Place, lock, field, Memory}
 use Rattle.section.specs.declared.Op.{Op}
 use Rattle.section.specs.declared.Op.the-variants.{Acquire, Release, Assign, Jump, Finish, Unknown}
 use Rattle.section.specs.Op.{opOf}
 use Rattle.engine.specs.Cursor.{Cursor, idle, on}
 use Rattle.engine.specs.declared.Refusal.the-variants.{Cursor as CursorRefused}
-use Rattle.engine.specs.Turn.{Outcome, stored, jumped, unheld, waiting, resting, refused, operand, codeIn, second, spareAddr, spareVal, switched, logged, lockTurn, unlockTurn, acquireTurn, releaseTurn, finishTurn, opTurn, ready, turnAt}
+use Rattle.engine.specs.Turn.{Outcome, stored, jumped, unheld, waiting, resting, refused, operand, codeIn, logged, lockTurn, unlockTurn, acquireTurn, releaseTurn, finishTurn, opTurn, ready, turnAt}
 use Rattle.recovery.specs.Recovery.{targetTurn}
 use Rattle.claims.specs.Reference.{Given}
 use Rattle.claims.specs.Calls.{isPc}
 use Rattle.claims.proofs.Invariant.{opAt, Sectioned, Nearing, Phase, resting as rests, fresh, due, unlocking, unlocked, between, ended}
-use Rattle.claims.proofs.Entries.{named-pc}
+use Rattle.claims.proofs.Entries.{named-pc, operand-no-pc, addr-no-pc, val-no-pc}
 use Rattle.claims.proofs.Ready.{turn-op}
+use Rattle.claims.proofs.Switching.{switched-some}
 
 abbrev pub atStart : Cursor → Bool
 atStart idle = false
@@ -82,43 +83,11 @@ Ends (refused r) = Unit {0}
 no-pc : {b : Bool} {A : Type 0} → b ≡ false → b ≡ true → A
 no-pc e h = absurd (false≢true (sym e ∙ h))
 
-operand-no-pc : (d a : ℕ) → isPc (operand d a) ≡ false
-unfolding operand
-operand-no-pc d a = by (ltb a 512)
-  where
-    by : (b : Bool) → isPc (cond b (cell a) (own d (a - 512))) ≡ false
-    by true = refl
-    by false = refl
-
 module _ (n : ℕ) (rd : Memory) (d : ℕ) where
-  addr-no-pc : isPc (field (spareAddr n rd d) d) ≡ false
-  unfolding spareAddr
-  addr-no-pc = by (second n rd d)
-    where
-      by : (b : Bool) → isPc (field (cond b Addr0 Addr1) d) ≡ false
-      by true = refl
-      by false = refl
-
-  val-no-pc : isPc (field (spareVal n rd d) d) ≡ false
-  unfolding spareVal
-  val-no-pc = by (second n rd d)
-    where
-      by : (b : Bool) → isPc (field (cond b Val0 Val1) d) ≡ false
-      by true = refl
-      by false = refl
-
-  switched-some : (s : ℕ) → switched n rd d s ≢ 0
-  unfolding switched
-  switched-some s = by (second n rd d)
-    where
-      by : (b : Bool) → cond b (s + 1) (s + 1 + 2 ^ 63) ≢ 0
-      by true e = omega arith
-      by false e = omega arith
-
   logged-ends : (s t : ℕ) (p : Place) (v : ℕ) (c : Cursor) (i : ℕ) → isPc p ≡ false → Ends (logged n rd d s t p v c i)
-  logged-ends s t p v c zero h = no-pc addr-no-pc
-  logged-ends s t p v c (suc zero) h = no-pc val-no-pc
-  logged-ends s t p v c (suc (suc zero)) h = λ e. pend-begun _ _ (switched-some s)
+  logged-ends s t p v c zero h = no-pc (addr-no-pc n rd d)
+  logged-ends s t p v c (suc zero) h = no-pc (val-no-pc n rd d)
+  logged-ends s t p v c (suc (suc zero)) h = λ e. pend-begun _ _ (switched-some n rd d s)
   logged-ends s t p v c (suc (suc (suc i))) h = no-pc h
 
   lock-ends : (a s : ℕ) → Ends (lockTurn n rd d a s)

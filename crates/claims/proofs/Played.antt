@@ -1,38 +1,38 @@
 -- Lists of calls: whatever is called and cut, in whatever order, a world that runs goes on running, and a cut leaves an image
 -- that the next recovery accepts and from which it runs on.
-use Prim.Native.Nat.{ℕ, suc, zero, _+_, _-_, _*_, _^_, _<_, _≤_}
-use mathlib.Core.Path.{_≡_, refl, ap, subst, _∙_, sym}
-use mathlib.Core.Logic.{_⊎_, inl, inr}
-use mathlib.Core.Bool.{Bool, true, false, cond, _&&_, _||_, not, true≢false, false≢true}
-use mathlib.Core.List.{List, [], _∷_, _++_}
+use Prim.Native.Nat.{ℕ, _-_, _^_, _<_, _≤_}
+use mathlib.Core.Path.{_≡_, refl}
+use mathlib.Core.Logic.{inl, inr}
+use mathlib.Core.Bool.{Bool, true, false, _||_, not, false≢true}
+use mathlib.Core.List.{List, [], _∷_}
 use lib.ListN.{length}
-use lib.Dec.{eqb, ltb}
-use borrow.Author.Tests.{ltb-true, eqb-true, lt-ltb}
+use lib.Dec.{ltb}
+use borrow.Author.Tests.{ltb-true, lt-ltb}
 use native.Mathlib.Omega.{arith}
 use Rattle.base.proofs.Bools.{and-left, and-right}
-use Rattle.image.specs.Image.{Image, at, workers, headerOk}
+use Rattle.image.specs.Image.{at, workers}
 use Rattle.engine.specs.declared.Refusal.the-variants.{Worker}
 use Rattle.engine.specs.declared.Submitted.{Submitted}
 use Rattle.engine.specs.declared.Submitted.the-variants.{Taken, Refused}
-use Rattle.engine.specs.Cursor.{Cursor, cursorAt, allIdle}
-use Rattle.engine.specs.Turn.{Outcome, refused, turnAt}
-use Rattle.engine.specs.World.{World, world, outcomeAt, outcome}
+use Rattle.engine.specs.Cursor.{cursorAt}
+use Rattle.engine.specs.Turn.{refused, turnAt}
+use Rattle.engine.specs.World.{world, outcomeAt, outcome}
 use Rattle.engine.specs.Submit.{submitAnswer, submitLeaves}
-use Rattle.recovery.specs.Recovery.{Recovered, accepted, misshapen, unsoundRecord, wrongLock, recovery, plan, resumedAll}
-use Rattle.claims.specs.Reference.{Given, given}
-use Rattle.claims.specs.Calls.{Trace, Traced, traced, forgetful, turnBy, ranBy, rounds, submitTrace, recoveredBy, Call, submits, turns, runs, recovers, Move, whole, cut, call, lent, lost, move, play, recovering, legal, endsCut, callable, ofMove, machine}
-use Rattle.claims.proofs.Invariant.{Crashed}
+use Rattle.recovery.specs.Recovery.{recovery}
+use Rattle.claims.specs.Reference.{given}
+use Rattle.claims.specs.Calls.{Traced, traced, turnBy, ranBy, rounds, submitTrace, recoveredBy, Call, submits, turns, runs, recovers, Move, whole, cut, call, lent, move, play, recovering, legal, endsCut, callable, machine}
 use Rattle.claims.proofs.LiveCrashed.{live-crashed}
 use Rattle.claims.proofs.Progress.{rankSum-most}
 use Rattle.claims.proofs.Held.{Reached, Running, Frozen, few, running-turn}
-use Rattle.claims.proofs.Turning.{Cutting, freezes, frozen-turn, cutting-turn, cutting-turned, rounds-keep}
-use Rattle.claims.proofs.Settling.{sum, Spare, Ran, settles}
-use Rattle.claims.proofs.Called.{Kept, recover-cut, recover-whole, accepts, TakenAs, taken-as, submit-cut, submit-whole}
+use Rattle.claims.proofs.Turning.{Cutting, cutting-turn, cutting-turned, rounds-keep}
+use Rattle.claims.proofs.Settling.{sum, Spare, settles}
+use Rattle.claims.proofs.Called.{Recoverable, recover-cut, recover-whole, accepts, taken-as, submit-cut, submit-whole}
+use Rattle.claims.proofs.Moves.{args-full}
 
 module _ (mark n D : ℕ) (cells : List ℕ) where
   -- after a cut: the image is worth what a recovery takes it for
   abbrev pub Worth : Traced → Type 0
-  Worth w = Kept mark n D cells (w .world .image) (w .trace .begun) (w .trace .order)
+  Worth w = Recoverable mark n D cells (w .world .image) (w .trace .begun) (w .trace .order)
 
   pub running-worth : (w : Traced) → Running mark n D cells w → Worth w
   running-worth w r = record { reached = r .reached; crashed = live-crashed n D _ _ _ _ _ (r .live) }
@@ -50,12 +50,12 @@ module _ (mark n D : ℕ) (cells : List ℕ) where
 
   -- ---- turns
 
-  outcome-below : (w : Traced) (d : ℕ) → Reached mark n D cells (w .world .image) (w .trace .begun) (w .trace .order) → d < D
+  pub outcome-below : (w : Traced) (d : ℕ) → Reached mark n D cells (w .world .image) (w .trace .begun) (w .trace .order) → d < D
       → outcome mark n (w .world) d ≡ turnAt n (at n (w .world .image)) d (cursorAt (w .world .cursors) d)
   unfolding outcome outcomeAt
   outcome-below w d r l = let e : ltb d (workers (w .world .image)) ≡ true = rw (r .many) (lt-ltb d D l) in rw (r .header, e)
 
-  outcome-above : (w : Traced) (d : ℕ) → Reached mark n D cells (w .world .image) (w .trace .begun) (w .trace .order) → ltb d D ≡ false → outcome mark n (w .world) d ≡ refused Worker
+  pub outcome-above : (w : Traced) (d : ℕ) → Reached mark n D cells (w .world .image) (w .trace .begun) (w .trace .order) → ltb d D ≡ false → outcome mark n (w .world) d ≡ refused Worker
   unfolding outcome
   outcome-above w d r l = rw (r .header, r .many, l)
 
@@ -120,14 +120,6 @@ module _ (mark n D : ℕ) (cells : List ℕ) where
       rw (accepts mark n D cells (w .world .image) (w .trace .begun) (w .trace .order) k)
       (recover-cut mark n D cells (w .world .image) (w .trace .begun) (w .trace .order) k (w .world .left))
 
-  args-full : (d k : ℕ) (args ws : List ℕ) → callable (submits d k args ws) ≡ true → length args ≡ 8
-  args-full d k args ws h =
-      let a = ltb d (2 ^ 64) && ltb k (2 ^ 64) in
-      let b = eqb (length args) 8 in
-      let x = Rattle.claims.specs.Calls.areWords args in
-      let y = Rattle.claims.specs.Calls.areWords ws in
-      eqb-true (length args) 8 (and-right a b (and-left (a && b) x (and-left (a && b && x) y h)))
-
   -- a call of a world that runs
   pub whole-call : (c : Call) (w : Traced) → 8 ≤ n → n ≤ 64 → callable c ≡ true → plenty ≤ w .world .left → Running mark n D cells w → Running mark n D cells (call mark n c w)
   unfolding call
@@ -150,10 +142,6 @@ module _ (mark n D : ℕ) (cells : List ℕ) where
   abbrev pub Good : Bool → Traced → Type 0
   Good false w = Running mark n D cells w
   Good true w = Worth w
-
-  good-worth : (b : Bool) (w : Traced) → Good b w → Worth w
-  good-worth false w g = running-worth w g
-  good-worth true w g = g
 
   recovers-only : (b : Bool) (c : Call) → (not b || recovering c) ≡ true → b ≡ true → c ≡ recovers
   recovers-only true (submits d k args ws) h e = absurd (false≢true h)

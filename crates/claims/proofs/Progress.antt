@@ -17,7 +17,6 @@ use Rattle.image.specs.Place.{Place, lock, sameField, Memory, upd}
 use Rattle.section.specs.declared.Op.{Op}
 use Rattle.section.specs.declared.Op.the-variants.{Acquire, Release, Assign, Jump, Finish, Unknown}
 use Rattle.section.specs.Op.{opOf}
-use Rattle.engine.specs.declared.Refusal.the-variants.{Cursor as CursorRefused}
 use Rattle.engine.specs.Cursor.{Cursor, idle, on, isIdle}
 use Rattle.engine.specs.Turn.{Outcome, stored, jumped, unheld, waiting, resting, refused, codeIn, logged, acquireTurn, finishTurn, opTurn, ready, turnAt}
 use Rattle.claims.specs.Reference.{Given}
@@ -25,7 +24,7 @@ use Rattle.claims.specs.Calls.{but}
 use Rattle.claims.proofs.Invariant.{Phase, resting as atRest, fresh, due, unlocking, unlocked, between, ended, Live}
 use Rattle.claims.proofs.Turns.{Touches, inRecord, ownWord, ownCell, takes, frees, Stepped, Went}
 use Rattle.claims.proofs.LiveTurn.{but-same, but-other}
-use Rattle.claims.proofs.Rank.{rank, rank-idle, rank-most, Unseen, rank-unseen, Falls, rank-falls}
+use Rattle.claims.proofs.Rank.{rank, rank-idle, rank-most, Unranked, rank-unranked, Falls, rank-falls}
 
 -- ---- sums
 
@@ -60,7 +59,7 @@ unfoldable pub rankSum : ℕ → Memory → (ℕ → Cursor) → ℕ → ℕ
 rankSum n rd cursor k = total (λ d. rank n rd d (cursor d)) k
 
 -- no other worker's rank sees a store of worker d
-pub touches-unseen : (n : ℕ) (rd : Memory) (d locks : ℕ) (p : Place) (v locks′ : ℕ) → Touches n rd d locks p v locks′ → (e : ℕ) → e ≢ d → Unseen e p
+pub touches-unseen : (n : ℕ) (rd : Memory) (d locks : ℕ) (p : Place) (v locks′ : ℕ) → Touches n rd d locks p v locks′ → (e : ℕ) → e ≢ d → Unranked e p
 touches-unseen n rd d locks p v locks′ (inRecord f w) e ne = record { count = rw (ne-eqb e d ne, and-false (sameField Count f)); steps = λ i. refl }
 touches-unseen n rd d locks p v locks′ (ownWord i w l) e ne = record { count = refl; steps = λ i. refl }
 touches-unseen n rd d locks p v locks′ (ownCell x w l h) e ne = record { count = refl; steps = λ i. refl }
@@ -70,7 +69,7 @@ touches-unseen n rd d locks p v locks′ (frees a l h) e ne = record { count = r
 pub rank-other :
     (n : ℕ) (rd : Memory) (d locks : ℕ) (p : Place) (v locks′ : ℕ) → Touches n rd d locks p v locks′ → (e : ℕ) → e ≢ d → (c : Cursor)
     → rank n (upd rd p v) e c ≡ rank n rd e c
-rank-other n rd d locks p v locks′ t e ne c = rank-unseen n rd e p v c (touches-unseen n rd d locks p v locks′ t e ne)
+rank-other n rd d locks p v locks′ t e ne c = rank-unranked n rd e p v c (touches-unseen n rd d locks p v locks′ t e ne)
 
 -- worker d's rank gets smaller, and no other changes
 pub sum-less :
@@ -196,15 +195,6 @@ isMoving (unheld c) = true
 isMoving (waiting b) = false
 isMoving resting = false
 isMoving (refused r) = false
-
--- a turn that is not refused is one that is ready
-pub stepped-ready : (n : ℕ) (rd : Memory) (d s t : ℕ) (g : Given) (locks j : ℕ) → Stepped n rd d g locks j (turnAt n rd d (on s t)) → ready n rd d s t ≡ true
-unfolding turnAt
-stepped-ready n rd d s t g locks j = by (ready n rd d s t)
-  where
-    by : (b : Bool) → Stepped n rd d g locks j (cond b (opTurn n rd d s t (opOf (codeIn n rd d s))) (refused (CursorRefused d))) → b ≡ true
-    by true h = refl
-    by false h = absurd h
 
 private-logged : (n : ℕ) (rd : Memory) (d s t : ℕ) (p : Place) (v : ℕ) (c : Cursor) (j : ℕ) → isResting (logged n rd d s t p v c j) ≡ false
 private-logged n rd d s t p v c zero = refl

@@ -77,10 +77,6 @@ pub rank-idle : (n : ℕ) (rd : Memory) (d : ℕ) → rank n rd d idle ≡ 0
 unfolding rank rankIn
 rank-idle n rd d = refl
 
-pub rank-on : (n : ℕ) (rd : Memory) (d s t : ℕ) → rank n rd d (on s t) ≡ turnsFrom (codeIn n rd d) s (rd (field Count d) - s) - t
-unfolding rank rankIn
-rank-on n rd d s t = refl
-
 pub rank-most : (n : ℕ) (rd : Memory) (d : ℕ) (c : Cursor) → rd (field Count d) ≤ 64 → rank n rd d c ≤ 384
 unfolding rank rankIn
 rank-most n rd d idle l = omega arith
@@ -114,54 +110,54 @@ later-falls n rd d s t c I (beyond b u l m) =
 -- ---- stores that a rank does not see
 
 -- place p is neither worker e's number of steps nor one of its instructions
-pub record Unseen (e : ℕ) (p : Place) : Type 0 where
+pub record Unranked (e : ℕ) (p : Place) : Type 0 where
   pub count : same (field Count e) p ≡ false
   pub steps : (i : ℕ) → same (step e i) p ≡ false
 
-pub rank-unseen : (n : ℕ) (rd : Memory) (e : ℕ) (p : Place) (v : ℕ) (c : Cursor) → Unseen e p → rank n (upd rd p v) e c ≡ rank n rd e c
+pub rank-unranked : (n : ℕ) (rd : Memory) (e : ℕ) (p : Place) (v : ℕ) (c : Cursor) → Unranked e p → rank n (upd rd p v) e c ≡ rank n rd e c
 unfolding rank rankIn
-rank-unseen n rd e p v idle U = refl
-rank-unseen n rd e p v (on s t) U =
+rank-unranked n rd e p v idle U = refl
+rank-unranked n rd e p v (on s t) U =
     rw (U .count, turnsFrom-cong (codeIn n (upd rd p v) e) (codeIn n rd e) s (rd (field Count e) - s) (λ i. rw (U .steps i)))
 
-unseen-operand : (d e x : ℕ) → Unseen e (operand d x)
+unranked-operand : (d e x : ℕ) → Unranked e (operand d x)
 unfolding operand
-unseen-operand d e x = by (ltb x 512)
+unranked-operand d e x = by (ltb x 512)
   where
-    by : (b : Bool) → Unseen e (cond b (cell x) (own d (x - 512)))
+    by : (b : Bool) → Unranked e (cond b (cell x) (own d (x - 512)))
     by true = record { count = refl; steps = λ i. refl }
     by false = record { count = refl; steps = λ i. refl }
 
-unseen-addr : (n : ℕ) (rd : Memory) (d e : ℕ) → Unseen e (field (spareAddr n rd d) d)
+unranked-addr : (n : ℕ) (rd : Memory) (d e : ℕ) → Unranked e (field (spareAddr n rd d) d)
 unfolding spareAddr
-unseen-addr n rd d e = by (second n rd d)
+unranked-addr n rd d e = by (second n rd d)
   where
-    by : (b : Bool) → Unseen e (field (cond b Addr0 Addr1) d)
+    by : (b : Bool) → Unranked e (field (cond b Addr0 Addr1) d)
     by true = record { count = refl; steps = λ i. refl }
     by false = record { count = refl; steps = λ i. refl }
 
-unseen-val : (n : ℕ) (rd : Memory) (d e : ℕ) → Unseen e (field (spareVal n rd d) d)
+unranked-val : (n : ℕ) (rd : Memory) (d e : ℕ) → Unranked e (field (spareVal n rd d) d)
 unfolding spareVal
-unseen-val n rd d e = by (second n rd d)
+unranked-val n rd d e = by (second n rd d)
   where
-    by : (b : Bool) → Unseen e (field (cond b Val0 Val1) d)
+    by : (b : Bool) → Unranked e (field (cond b Val0 Val1) d)
     by true = record { count = refl; steps = λ i. refl }
     by false = record { count = refl; steps = λ i. refl }
 
-unseen-pc : (d e : ℕ) → Unseen e (field Pc d)
-unseen-pc d e = record { count = refl; steps = λ i. refl }
+unranked-pc : (d e : ℕ) → Unranked e (field Pc d)
+unranked-pc d e = record { count = refl; steps = λ i. refl }
 
-unseen-intent : (d e : ℕ) → Unseen e (field Intent d)
-unseen-intent d e = record { count = refl; steps = λ i. refl }
+unranked-intent : (d e : ℕ) → Unranked e (field Intent d)
+unranked-intent d e = record { count = refl; steps = λ i. refl }
 
-unseen-owned : (d e : ℕ) → Unseen e (field Owned d)
-unseen-owned d e = record { count = refl; steps = λ i. refl }
+unranked-owned : (d e : ℕ) → Unranked e (field Owned d)
+unranked-owned d e = record { count = refl; steps = λ i. refl }
 
-unseen-finished : (d e : ℕ) → Unseen e (field Finished d)
-unseen-finished d e = record { count = refl; steps = λ i. refl }
+unranked-finished : (d e : ℕ) → Unranked e (field Finished d)
+unranked-finished d e = record { count = refl; steps = λ i. refl }
 
-unseen-lock : (a e : ℕ) → Unseen e (lock a)
-unseen-lock a e = record { count = refl; steps = λ i. refl }
+unranked-lock : (a e : ℕ) → Unranked e (lock a)
+unranked-lock a e = record { count = refl; steps = λ i. refl }
 
 -- ---- turns
 
@@ -179,8 +175,8 @@ module _ (n : ℕ) (rd : Memory) (d s t : ℕ) (I : Inside n rd d s t) where
   Sinks o = Falls n rd d (rank n rd d (on s t)) o
 
   -- a store that the rank does not see, to a later cursor
-  stored-falls : (p : Place) (v : ℕ) (c : Cursor) → Unseen d p → Later s t (rd (field Count d)) c → Sinks (stored p v c)
-  stored-falls p v c U l = rw (rank-unseen n rd d p v c U) (later-falls n rd d s t c I l)
+  stored-falls : (p : Place) (v : ℕ) (c : Cursor) → Unranked d p → Later s t (rd (field Count d)) c → Sinks (stored p v c)
+  stored-falls p v c U l = rw (rank-unranked n rd d p v c U) (later-falls n rd d s t c I l)
 
   next-step : Later s t (rd (field Count d)) (on (s + 1) 0)
   next-step = beyond (s + 1) 0 (omega arith) (omega arith)
@@ -188,14 +184,14 @@ module _ (n : ℕ) (rd : Memory) (d s t : ℕ) (I : Inside n rd d s t) where
   next-turn : Later s t (rd (field Count d)) (on s (t + 1))
   next-turn = within (t + 1) (omega arith)
 
-  logged-falls : (p : Place) (v : ℕ) (c : Cursor) → Unseen d p → Later s t (rd (field Count d)) c → (j : ℕ) → Sinks (logged n rd d s t p v c j)
-  logged-falls p v c U l zero = stored-falls _ _ _ (unseen-addr n rd d d) next-turn
-  logged-falls p v c U l (suc zero) = stored-falls _ _ _ (unseen-val n rd d d) next-turn
-  logged-falls p v c U l (suc (suc zero)) = stored-falls _ _ _ (unseen-pc d d) next-turn
+  logged-falls : (p : Place) (v : ℕ) (c : Cursor) → Unranked d p → Later s t (rd (field Count d)) c → (j : ℕ) → Sinks (logged n rd d s t p v c j)
+  logged-falls p v c U l zero = stored-falls _ _ _ (unranked-addr n rd d d) next-turn
+  logged-falls p v c U l (suc zero) = stored-falls _ _ _ (unranked-val n rd d d) next-turn
+  logged-falls p v c U l (suc (suc zero)) = stored-falls _ _ _ (unranked-pc d d) next-turn
   logged-falls p v c U l (suc (suc (suc j))) = stored-falls _ _ _ U l
 
   assign-falls : (a v : ℕ) → Sinks (logged n rd d s t (operand d a) v (on (s + 1) 0) t)
-  assign-falls a v = logged-falls (operand d a) v (on (s + 1) 0) (unseen-operand d d a) next-step t
+  assign-falls a v = logged-falls (operand d a) v (on (s + 1) 0) (unranked-operand d d a) next-step t
 
   release-falls : (a : ℕ) → Sinks (releaseTurn n rd d a s t)
   release-falls a = by (ltb t 4) refl (eqb t 4) refl (eqb (rd (lock a)) (d + 1))
@@ -203,10 +199,10 @@ module _ (n : ℕ) (rd : Memory) (d s t : ℕ) (I : Inside n rd d s t) where
       by : (b : Bool) → ltb t 4 ≡ b → (c : Bool) → eqb t 4 ≡ c → (u : Bool) →
           Sinks (cond b (logged n rd d s t (field Owned d) (without (rd (field Owned d)) a) (on s 4) t)
           (cond c (cond u (stored (lock a) 0 (on s 5)) (unheld (on s 5))) (stored (field Intent d) (without (rd (field Intent d)) a) (on (s + 1) 0))))
-      by true e c f u = logged-falls (field Owned d) _ (on s 4) (unseen-owned d d) (within 4 (ltb-true t 4 e)) t
-      by false e true f true = stored-falls _ _ _ (unseen-lock a d) (within 5 (omega (arith, eqb-true t 4 f)))
+      by true e c f u = logged-falls (field Owned d) _ (on s 4) (unranked-owned d d) (within 4 (ltb-true t 4 e)) t
+      by false e true f true = stored-falls _ _ _ (unranked-lock a d) (within 5 (omega (arith, eqb-true t 4 f)))
       by false e true f false = later-falls n rd d s t (on s 5) I (within 5 (omega (arith, eqb-true t 4 f)))
-      by false e false f u = stored-falls _ _ _ (unseen-intent d d) next-step
+      by false e false f u = stored-falls _ _ _ (unranked-intent d d) next-step
 
   jump-falls : (a b : ℕ) → inPlace (rd (field Count d)) s (Jump a b) ≡ true → Sinks (jumped (cond (eqb (wordIn n rd d a) 0) (on b 0) (on (s + 1) 0)))
   jump-falls a b i = by (eqb (wordIn n rd d a) 0)
@@ -217,18 +213,18 @@ module _ (n : ℕ) (rd : Memory) (d s t : ℕ) (I : Inside n rd d s t) where
 
 -- where the turn itself tells the instruction's part
 acquire-falls : (n : ℕ) (rd : Memory) (d s t a : ℕ) → Inside n rd d s t → Falls n rd d (rank n rd d (on s t)) (acquireTurn n rd d a s t)
-acquire-falls n rd d s zero a I = stored-falls n rd d s 0 I _ _ _ (unseen-intent d d) (within 1 (omega arith))
+acquire-falls n rd d s zero a I = stored-falls n rd d s 0 I _ _ _ (unranked-intent d d) (within 1 (omega arith))
 acquire-falls n rd d s (suc zero) a I = by (eqb (rd (lock a)) 0)
   where
     by : (b : Bool) → Falls n rd d (rank n rd d (on s 1)) (cond b (stored (lock a) (d + 1) (on s 2)) (waiting a))
-    by true = stored-falls n rd d s 1 I _ _ _ (unseen-lock a d) (within 2 (omega arith))
+    by true = stored-falls n rd d s 1 I _ _ _ (unranked-lock a d) (within 2 (omega arith))
     by false = tt
 acquire-falls n rd d s (suc (suc j)) a I =
-    logged-falls n rd d s (suc (suc j)) I (field Owned d) _ (on (s + 1) 0) (unseen-owned d d) (next-step n rd d s (suc (suc j)) I) j
+    logged-falls n rd d s (suc (suc j)) I (field Owned d) _ (on (s + 1) 0) (unranked-owned d d) (next-step n rd d s (suc (suc j)) I) j
 
 finish-falls : (n : ℕ) (rd : Memory) (d s t : ℕ) → Inside n rd d s t → Falls n rd d (rank n rd d (on s t)) (finishTurn n rd d s t)
-finish-falls n rd d s zero I = stored-falls n rd d s 0 I _ _ _ (unseen-finished d d) (within 1 (omega arith))
-finish-falls n rd d s (suc zero) I = stored-falls n rd d s 1 I _ _ _ (unseen-pc d d) (within 2 (omega arith))
+finish-falls n rd d s zero I = stored-falls n rd d s 0 I _ _ _ (unranked-finished d d) (within 1 (omega arith))
+finish-falls n rd d s (suc zero) I = stored-falls n rd d s 1 I _ _ _ (unranked-pc d d) (within 2 (omega arith))
 finish-falls n rd d s (suc (suc t)) I =
     let l = later-falls n rd d s (suc (suc t)) idle I over in rw (rank-idle n (upd rd (field Count d) 0) d) (rw (rank-idle n rd d) at l)
 

@@ -10,8 +10,10 @@ use Rattle.section.specs.declared.Op.the-variants.{Acquire, Release, Assign, Ju
 use Rattle.section.specs.Check.{heldBefore}
 use Rattle.section.proofs.Facts.{check-cong}
 use Rattle.section.proofs.Held.{held-cong}
-use Rattle.engine.specs.Turn.{codeIn, second, activeAddr, activeVal}
+use Rattle.engine.specs.Turn.{codeIn, activeAddr, activeVal}
 use Rattle.recovery.specs.Recovery.{owed, owedBy, namedStep, namedOp, sectionOk, entryOk, pcOk, targetTurn, resumed}
+use Rattle.claims.proofs.Fields.{active-addr-kept, active-val-kept}
+use Rattle.claims.proofs.Entries.{named-cong}
 
 module _ (n : ℕ) (rd rd′ : Memory) (d : ℕ) where
   pub record Framed : Type 0 where
@@ -25,24 +27,12 @@ module _ (n : ℕ) (rd rd′ : Memory) (d : ℕ) (f : Framed n rd rd′ d) where
   pub frame-held : (s : ℕ) → heldBefore (codeIn n rd′ d) s ≡ heldBefore (codeIn n rd d) s
   frame-held s = held-cong (codeIn n rd′ d) (codeIn n rd d) s (λ j l. f .code j)
 
-  pub frame-step : namedStep n rd′ d ≡ namedStep n rd d
-  unfolding namedStep
-  frame-step = rw (f .pc)
-
   pub frame-op : namedOp n rd′ d ≡ namedOp n rd d
   unfolding namedOp
-  frame-op = rw (frame-step, f .code (namedStep n rd d))
-
-  pub frame-addr : activeAddr n rd′ d ≡ activeAddr n rd d
-  unfolding activeAddr second
-  frame-addr = rw (f .pc)
-
-  pub frame-val : activeVal n rd′ d ≡ activeVal n rd d
-  unfolding activeVal second
-  frame-val = rw (f .pc)
+  frame-op = rw (named-cong n rd rd′ d (f .pc), f .code (namedStep n rd d))
 
   private-owed : (x : Op) → owedBy n rd′ d x ≡ owedBy n rd d x
-  private-owed (Acquire a) = rw (frame-step) (frame-held (suc (namedStep n rd d)))
+  private-owed (Acquire a) = rw (named-cong n rd rd′ d (f .pc)) (frame-held (suc (namedStep n rd d)))
   private-owed (Release a) = f .owned
   private-owed (Assign a e) = f .owned
   private-owed (Jump a b) = f .owned
@@ -55,9 +45,9 @@ module _ (n : ℕ) (rd rd′ : Memory) (d : ℕ) (f : Framed n rd rd′ d) where
   owed-frame = rw (f .pc, frame-op, private-owed (namedOp n rd d))
 
   private-entry : (x : Op) → entryOk n rd′ d x ≡ entryOk n rd d x
-  private-entry (Acquire a) = rw (frame-addr, frame-val, f .addr, f .val, frame-step, frame-held (suc (namedStep n rd d)))
-  private-entry (Release a) = rw (frame-addr, frame-val, f .addr, f .val, frame-step, frame-held (suc (namedStep n rd d)))
-  private-entry (Assign a e) = rw (frame-addr, f .addr)
+  private-entry (Acquire a) = rw (active-addr-kept n rd rd′ d (f .pc), active-val-kept n rd rd′ d (f .pc), f .addr, f .val, named-cong n rd rd′ d (f .pc), frame-held (suc (namedStep n rd d)))
+  private-entry (Release a) = rw (active-addr-kept n rd rd′ d (f .pc), active-val-kept n rd rd′ d (f .pc), f .addr, f .val, named-cong n rd rd′ d (f .pc), frame-held (suc (namedStep n rd d)))
+  private-entry (Assign a e) = rw (active-addr-kept n rd rd′ d (f .pc), f .addr)
   private-entry (Jump a b) = refl
   private-entry Finish = refl
   private-entry Unknown = refl
@@ -66,7 +56,7 @@ module _ (n : ℕ) (rd rd′ : Memory) (d : ℕ) (f : Framed n rd rd′ d) where
   pub pc-frame : (rd′ (field Count d) ≡ rd (field Count d)) ⊎ (rd (field Pc d) ≡ 0) → pcOk n rd′ d ≡ pcOk n rd d
   unfolding pcOk
   pc-frame (inl e) =
-      rw (f .pc, f .owned, e, frame-step, frame-op, private-entry (namedOp n rd d), frame-held (namedStep n rd d), frame-held (suc (namedStep n rd d)))
+      rw (f .pc, f .owned, e, named-cong n rd rd′ d (f .pc), frame-op, private-entry (namedOp n rd d), frame-held (namedStep n rd d), frame-held (suc (namedStep n rd d)))
   pc-frame (inr e) = rw (f .pc, e, f .owned)
 
   -- whether the section is right
@@ -87,4 +77,4 @@ module _ (n : ℕ) (rd rd′ : Memory) (d : ℕ) (f : Framed n rd rd′ d) where
   -- where it goes on
   pub resumed-frame : resumed n rd′ d ≡ resumed n rd d
   unfolding resumed
-  resumed-frame = rw (f .pc, frame-step, frame-op, private-turn (namedOp n rd d))
+  resumed-frame = rw (f .pc, named-cong n rd rd′ d (f .pc), frame-op, private-turn (namedOp n rd d))

@@ -2,7 +2,7 @@
 -- cut recovery leaves is a prefix of its stores, which a recovery accepts (`recovery-cut`), and what a whole one leaves is live
 -- (`recovery-whole`). A plan has at most 592 stores.
 use Prim.Native.Nat.{ℕ, suc, zero, _+_, _*_, _<_, _≤_}
-use mathlib.Core.Path.{_≡_, refl, fun-ext}
+use mathlib.Core.Path.{_≡_, refl, fun-ext, sym}
 use mathlib.Core.Bool.{Bool, true, false, cond, _&&_, not}
 use mathlib.Core.List.{List, [], _∷_, _++_}
 use native.Mathlib.Omega.{arith}
@@ -27,6 +27,7 @@ use Rattle.claims.proofs.Invariant.{Live, Crashed}
 use Rattle.claims.proofs.StoreRows.{rows}
 use Rattle.claims.proofs.Stages.{unlockRow, intentRow, withdrawRow, relockRow, unlocks-rows, intents-rows, withdraws-rows, all-relocks-rows, plan-prefix}
 use Rattle.claims.proofs.Recovered.{plan-valid, recovered-live}
+use Rattle.claims.proofs.LiveTurn.{live-cursors}
 
 -- ---- cursors
 
@@ -116,10 +117,6 @@ module _ (n : ℕ) (rd : Memory) (D : ℕ) where
 
 -- ---- the image
 
--- cursors matter only below the number of workers
-pub live-cursors : (n D : ℕ) (rd : Memory) (c c′ : ℕ → Cursor) (locks jumps : ℕ → ℕ) (given : ℕ → Given) → ((d : ℕ) → d < D → c′ d ≡ c d) → Live n D rd c locks jumps given → Live n D rd c′ locks jumps given
-live-cursors n D rd c c′ locks jumps given e v = record { phase = λ d l. rw (e d l) (v .phase d l); locked = v .locked; owner = v .owner }
-
 module _ (mark n : ℕ) (m : Image) (h : headerOk mark n m ≡ true) where
   pub recovery-at : (left : ℕ) → at n (putAll n left m (plan n (at n m) (workers m))) ≡ updAll (at n m) (take left (plan n (at n m) (workers m)))
   recovery-at left =
@@ -137,5 +134,5 @@ module _ (mark n : ℕ) (m : Image) (h : headerOk mark n m ≡ true) where
       let short = plan-length n (at n m) (workers m) few in
       rw (recovery-at left, take-all left (plan n (at n m) (workers m)) (omega arith))
       (live-cursors n (workers m) (updAll (at n m) (plan n (at n m) (workers m))) (resumed n (at n m)) (cursorAt (resumedAll n (at n m) (workers m))) (owed n (at n m)) (λ d. 0) given
-      (λ d u. resumed-cursor n (at n m) (workers m) d u few)
+      (λ d u. sym (resumed-cursor n (at n m) (workers m) d u few))
       (recovered-live n (at n m) (workers m) c given))

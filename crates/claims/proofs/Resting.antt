@@ -1,53 +1,35 @@
 -- The two ends of a list of calls: an image at rest, with all workers idle, is a world that runs and stands for the reference
 -- machine fed nothing; and a world that runs with all workers idle is at rest, its cells those that the machine has reached.
-use Prim.Native.Nat.{ℕ, suc, zero, _+_, _-_, _<_, _≤_}
+use Prim.Native.Nat.{ℕ, suc, zero, _<_}
 use mathlib.Core.Path.{_≡_, refl, ap, subst, _∙_, sym}
-use mathlib.Core.Logic.{_≢_}
-use mathlib.Core.Bool.{Bool, true, false, cond, true≢false, false≢true}
-use mathlib.Core.List.{List, [], _∷_}
+use mathlib.Core.Bool.{true≢false}
+use mathlib.Core.List.{List, []}
 use mathlib.Core.Option.{some}
-use lib.ListN.{length, getD, replicate, getD-replicate, length-replicate}
+use lib.ListN.{replicate, getD-replicate, length-replicate}
 use lib.Seq.{ext-getD}
-use lib.Dec.{eqb}
 use native.Mathlib.Omega.{arith}
-use native.Mathlib.Decide.{ℕ-discrete}
 use Rattle.mask.specs.Mask.{has}
 use Rattle.mask.proofs.Laws.{has-none}
-use Rattle.image.specs.declared.Field.the-variants.{Count, Pc, Intent, Owned}
+use Rattle.image.specs.declared.Field.the-variants.{Pc}
 use Rattle.image.specs.Place.{Place, cell, lock, field, Memory}
-use Rattle.image.specs.Image.{Image, at, workers, cellsOf, headerOk}
+use Rattle.image.specs.Image.{Image, at, workers, cellsOf}
 use Rattle.image.proofs.Header.{header-sized}
 use Rattle.image.proofs.Cells.{cells-length, cells-at}
-use Rattle.engine.specs.Cursor.{Cursor, idle, on, isIdle, cursorAt, allIdle}
-use Rattle.engine.specs.Run.{anyOpen}
-use Rattle.engine.proofs.Standing.{Full}
-use Rattle.claims.specs.Reference.{Given, State, state, follow, initial, feed, noneLeft}
+use Rattle.engine.specs.Cursor.{Cursor, cursorAt, allIdle}
+use Rattle.claims.specs.Reference.{Given, state, initial, feed}
 use Rattle.claims.specs.Calls.{Traced, from}
-use Rattle.claims.specs.Claims.{Gives, Rested, Idle, Settled}
-use Rattle.claims.proofs.Virtual.{virtual, virtual-none, entryOf, misses}
+use Rattle.claims.specs.Claims.{Gives, Rested, Idle}
+use Rattle.claims.proofs.Virtual.{virtual, virtual-none, misses}
 use Rattle.claims.proofs.Entries.{entry-none}
 use Rattle.claims.proofs.Machine.{follow-none, noneLeft-all}
 use Rattle.claims.proofs.Invariant.{Phase, resting, Live, Mirrors}
 use Rattle.claims.proofs.Submitting.{Resting, idle-rests}
-use Rattle.claims.proofs.Held.{Reached, Running, running-sized}
-use Rattle.claims.proofs.Called.{idle-is}
+use Rattle.claims.proofs.Held.{Running, running-sized}
+use Rattle.claims.proofs.Cursors.{idle-at, full-idle}
 
 -- where nothing is under way, what stands is what will
 virtual-rested : (n D : ℕ) (rd : Memory) (q : Place) → ((d : ℕ) → d < D → rd (field Pc d) ≡ 0) → virtual n rd D q ≡ rd q
 virtual-rested n D rd q h = virtual-none n rd D q (λ d l. subst (λ (e : Rattle.claims.proofs.Virtual.Entry). misses e q) (sym (entry-none n rd d (h d l))) tt)
-
-replicate-any : (k d a : ℕ) → getD (replicate k a) d a ≡ a
-replicate-any zero d a = refl
-replicate-any (suc k) zero a = refl
-replicate-any (suc k) (suc d) a = replicate-any k d a
-
-pub idle-at : (d : ℕ) → cursorAt allIdle d ≡ idle
-unfolding cursorAt allIdle
-idle-at d = ap (λ (t : ℕ). cond (eqb t 255) idle (on (getD (replicate 8 0) d 0) t)) (replicate-any 8 d 255)
-
-full-idle : Full allIdle
-unfolding allIdle
-full-idle = record { steps = refl; turns = refl }
 
 module _ (mark n : ℕ) (m : Image) (r : Rested mark n m) where
   rested-live : (given : ℕ → Given) → Live n (workers m) (at n m) (cursorAt allIdle) (λ d. 0) (λ d. 0) given
@@ -78,17 +60,6 @@ module _ (mark n : ℕ) (m : Image) (r : Rested mark n m) where
         locks = λ d. 0;
         live = rested-live _;
       }
-
--- nobody open: all idle
-pub idle-all : (k d : ℕ) (c : Rattle.engine.specs.declared.Cursors.Cursors) → anyOpen k d c ≡ false → (e : ℕ) → d ≤ e → e < d + k → cursorAt c e ≡ idle
-unfolding anyOpen
-idle-all zero d c h e l g = absurd (omega arith)
-idle-all (suc k) d c h e l g = by (λ x y. idle-all k (d + 1) c x e y (omega arith)) (isIdle (cursorAt c d)) refl (ℕ-discrete e d)
-  where
-    by : (anyOpen k (d + 1) c ≡ false → d + 1 ≤ e → cursorAt c e ≡ idle) → (b : Bool) → isIdle (cursorAt c d) ≡ b → Dec (e ≡ d) → cursorAt c e ≡ idle
-    by more true q (yes i) = rw i (idle-is (cursorAt c d) q)
-    by more true q (no i) = more (rw q at h) (omega arith)
-    by more false q i = absurd (true≢false (rw q at h))
 
 module _ (mark n D : ℕ) (cells : List ℕ) (w : Traced) (r : Running mark n D cells w) (i : Idle mark n D (w .world .cursors)) where
   rests-at : (d : ℕ) (l : d < D) → Resting (at n (w .world .image)) d (r .locks d) (w .trace .jumps d)

@@ -1,30 +1,31 @@
 -- Runs come to their end: with as many stores left as the ranks of all workers sum up to, a world goes on running, each round
 -- in which a worker is open lowers the sum, and so as many rounds as the sum leave every worker idle.
-use Prim.Native.Nat.{ℕ, suc, zero, _+_, _-_, _*_, _<_, _≤_}
+use Prim.Native.Nat.{ℕ, suc, zero, _+_, _<_, _≤_}
 use mathlib.Core.Path.{_≡_, refl, ap, subst, _∙_, sym}
-use mathlib.Core.Logic.{_≢_, _⊎_, inl, inr, ⊎-elim}
+use mathlib.Core.Logic.{_⊎_, inl, inr, ⊎-elim}
 use mathlib.Core.Bool.{Bool, true, false, cond, true≢false, false≢true}
 use mathlib.Core.List.{List}
 use native.Mathlib.Omega.{arith}
 use native.Mathlib.Decide.{decLt, ℕ-discrete}
-use Rattle.image.specs.Place.{Place, Memory, upd}
-use Rattle.image.specs.Image.{Image, indexOf, at, workers, headerOk, put}
-use Rattle.engine.specs.Cursor.{Cursor, idle, isIdle, cursorAt, placed}
+use Rattle.image.specs.Place.{Memory, upd}
+use Rattle.image.specs.Image.{at}
+use Rattle.engine.specs.Cursor.{Cursor, isIdle, cursorAt, placed}
 use Rattle.engine.specs.Turn.{Outcome, stored, jumped, unheld, waiting, resting, refused, turnAt}
-use Rattle.engine.specs.World.{World, world, leaves, outcomeAt}
+use Rattle.engine.specs.World.{world, outcomeAt}
 use Rattle.engine.specs.Run.{anyOpen}
 use Rattle.engine.proofs.Standing.{sayable}
 use Rattle.claims.specs.Reference.{Given}
-use Rattle.claims.specs.Calls.{Trace, Traced, traced, but, turnBy, turnedAt, refuses, round, rounds}
-use Rattle.claims.proofs.Invariant.{Phase, Live}
-use Rattle.claims.proofs.Turns.{Touches, Stepped, Went}
+use Rattle.claims.specs.Calls.{Traced, but, turnBy, turnedAt, refuses, round, rounds}
+use Rattle.claims.proofs.Invariant.{Live}
+use Rattle.claims.proofs.Turns.{Stepped, Went}
 use Rattle.claims.proofs.LiveTurn.{live-turn, but-same}
 use Rattle.claims.proofs.OwnTurn.{own-turn}
 use Rattle.claims.proofs.AtStore.{memory-store}
 use Rattle.claims.proofs.Rank.{rank}
-use Rattle.claims.proofs.Progress.{total-same, rankSum, SumFalls, sum-falls, rankSum-most, isWaiting, isResting, isMoving, progress, open-moves, open-acts}
-use Rattle.claims.proofs.Held.{Running, running-sized, few, touches-valid, phase-sayable, cursors-placed}
+use Rattle.claims.proofs.Progress.{total-same, rankSum, SumFalls, sum-falls, isMoving, progress, open-moves}
+use Rattle.claims.proofs.Held.{Running, running-sized, few, touches-valid, phase-sayable}
 use Rattle.claims.proofs.Turning.{running-turned, turned-left}
+use Rattle.claims.proofs.Cursors.{cursors-placed}
 
 -- the ranks of all workers
 unfoldable pub sum : ℕ → ℕ → Traced → ℕ

@@ -4,7 +4,7 @@
 -- every stage keeps it; the second stage's stores do since all locks are free after the first (`unlocked-free`).
 use Prim.Native.Nat.{ℕ, suc, zero, _+_, _<_}
 use mathlib.Core.Path.{_≡_, refl, ap, sym, _∙_}
-use mathlib.Core.Bool.{Bool, true, false, cond, _&&_, _||_, not, true≢false}
+use mathlib.Core.Bool.{Bool, true, false, cond, _&&_, _||_, not}
 use mathlib.Core.List.{List, [], _∷_, _++_}
 use mathlib.Core.Logic.{_⊎_, inl, inr}
 use native.Mathlib.Omega.{arith}
@@ -15,15 +15,15 @@ use borrow.Author.Tests.{eqb-true}
 use Rattle.base.proofs.Bools.{and-left}
 use Rattle.mask.specs.Mask.{has}
 use Rattle.image.specs.declared.Field.the-variants.{Count, Pc, Addr0, Val0, Addr1, Val1, Intent, Owned, Number, Finished}
-use Rattle.image.specs.Place.{Place, cell, lock, field, own, step, sameField, same, Memory, upd, Store, updAll}
-use Rattle.image.proofs.Places.{same-place}
+use Rattle.image.specs.Place.{Place, cell, lock, field, own, step, sameField, Memory, upd, Store, updAll}
 use Rattle.engine.specs.Turn.{second, activeAddr, activeVal}
 use Rattle.recovery.specs.Recovery.{_≔_, owed, sectionOk, pcOk, intended, unlocks, intents, withdraws, relocks, allRelocks, plan}
 use Rattle.claims.proofs.Invariant.{Crashed}
-use Rattle.claims.proofs.Covers.{Names, Within, Parts, crashed-parts, parts-crashed}
-use Rattle.claims.proofs.LiveCrashed.{section-none, within-refl}
+use Rattle.claims.proofs.Covers.{Names, Covered, Parts, crashed-parts, parts-crashed}
+use Rattle.claims.proofs.LiveCrashed.{section-none, covered-same}
 use Rattle.claims.proofs.StoreRows.{rows, row-cond, Keeps, keeps-one, keeps-cond, keeps-rows, keeps-append, keeps-whole, prefix-append, sets-rows, sets-cond, writes-rows, writes-cond, Sets}
 use Rattle.claims.proofs.RecoveryFrame.{Framed, owed-frame, pc-frame, section-frame}
+use Rattle.claims.proofs.Entries.{apart-of}
 
 -- ---- the stages as rows
 
@@ -74,13 +74,6 @@ stays (field f d) = not (sameField f Intent || sameField f Count)
 stays (own d i) = true
 stays (step d i) = true
 
-pub stays-apart : (q p : Place) → stays q ≡ true → stays p ≡ false → same q p ≡ false
-stays-apart q p h g = by (same q p) refl
-  where
-    by : (t : Bool) → same q p ≡ t → same q p ≡ false
-    by true e = absurd (true≢false (sym h ∙ (ap stays (same-place q p e) ∙ g)))
-    by false e = e
-
 module _ (n D : ℕ) (rd : Memory) where
   pub record Kept (rd′ : Memory) : Type 0 where
     pub fixed : (p : Place) → stays p ≡ true → rd′ p ≡ rd p
@@ -129,12 +122,12 @@ module _ (n D : ℕ) (rd : Memory) where
   private-pc rd′ k d s (inr e) = pc-frame n rd rd′ d (kept-framed rd′ k d) (inr (e .0)) ∙ s
 
   -- what is owed is intended, now as at first
-  private-meant : (rd′ : Memory) (d : ℕ) → Within (owed n rd d) (rd (field Intent d))
-      → (rd′ (field Intent d) ≡ rd (field Intent d)) ⊎ (rd′ (field Intent d) ≡ owed n rd d) → Within (owed n rd d) (rd′ (field Intent d))
+  private-meant : (rd′ : Memory) (d : ℕ) → Covered (owed n rd d) (rd (field Intent d))
+      → (rd′ (field Intent d) ≡ rd (field Intent d)) ⊎ (rd′ (field Intent d) ≡ owed n rd d) → Covered (owed n rd d) (rd′ (field Intent d))
   private-meant rd′ d w (inl e) = rw e w
-  private-meant rd′ d w (inr e) = within-refl _ _ (sym e)
+  private-meant rd′ d w (inr e) = covered-same _ _ (sym e)
 
-  pub kept-meant : Parts n D rd → (rd′ : Memory) → Kept rd′ → (d : ℕ) → d < D → Within (owed n rd d) (rd′ (field Intent d))
+  pub kept-meant : Parts n D rd → (rd′ : Memory) → Kept rd′ → (d : ℕ) → d < D → Covered (owed n rd d) (rd′ (field Intent d))
   kept-meant p rd′ k d l = private-meant rd′ d (p .meant d l) (k .intent d)
 
   pub kept-parts : Parts n D rd → (rd′ : Memory) → Kept rd′ → Parts n D rd′
@@ -154,7 +147,7 @@ module _ (n D : ℕ) (rd : Memory) where
   -- ---- one store
 
   private-fixed : (rd′ : Memory) → Kept rd′ → (p : Place) (v : ℕ) → stays p ≡ false → (q : Place) → stays q ≡ true → upd rd′ p v q ≡ rd q
-  private-fixed rd′ k p v h q g = rw (stays-apart q p g h) (k .fixed q g)
+  private-fixed rd′ k p v h q g = rw (apart-of stays q p g h) (k .fixed q g)
 
   -- a lock freed, or given to a worker that intends it
   kept-lock : (b v : ℕ) (rd′ : Memory) → ((d : ℕ) → v ≡ d + 1 → (d < D) × (has (rd′ (field Intent d)) b ≡ true)) → Kept rd′ → Kept (upd rd′ (lock b) v)

@@ -1,5 +1,5 @@
--- Stores that change nothing in the mirror: the memory before and the memory after stand for the same state. `Framed` is all
--- that `Mirrors` looks at; `Quiet` the places that a store may touch without touching that, with its instances; and the store
+-- Stores that change nothing in the mirror: the memory before and the memory after stand for the same state. `SameMirror` is all
+-- that `Mirrors` looks at; `Unmirrored` the places that a store may touch without touching that, with its instances; and the store
 -- that a worker's active entry is for makes what the virtual memory has already.
 use Prim.Native.Nat.{ℕ, suc, _<_}
 use mathlib.Core.Path.{_≡_, refl, sym, ap, _∙_}
@@ -7,9 +7,9 @@ use mathlib.Core.Logic.{_≢_}
 use mathlib.Core.Bool.{Bool, true, false}
 use native.Mathlib.Decide.{ℕ-discrete}
 use lib.Dec.{eqb}
-use borrow.Author.Tests.{eq-eqb}
+use borrow.Author.Tests.{eq-eqb, ne-eqb}
 use Rattle.image.specs.declared.Field.{Field}
-use Rattle.image.specs.declared.Field.the-variants.{Count, Pc, Intent, Owned, Number, Finished}
+use Rattle.image.specs.declared.Field.the-variants.{Count, Pc, Intent, Owned, Finished}
 use Rattle.image.specs.Place.{sameField, Place, cell, lock, field, own, step, same, Memory, upd}
 use Rattle.image.proofs.Places.{same-refl, same-place, upd-other}
 use Rattle.engine.specs.Turn.{spareAddr, spareVal, activeVal}
@@ -17,11 +17,11 @@ use Rattle.recovery.specs.Recovery.{targetOf}
 use Rattle.claims.specs.Reference.{Job, State}
 use Rattle.claims.proofs.Virtual.{Entry, none, due, over, misses, entryOf, virtual, virtual-due, virtual-cong}
 use Rattle.claims.proofs.Invariant.{opAt, Named, JobOf, Mirrors}
-use Rattle.claims.proofs.Entries.{apart-by, apart-of, aimed, target-aimed, belongs, differ, active-apart, active-spare-val, spare-val-apart, spare-addr-apart, active-not-addr, named-cong, entry-named, entry-cong}
+use Rattle.claims.proofs.Entries.{apart-by, apart-of, aimed, target-aimed, belongs, active-apart, active-spare-val, spare-val-apart, spare-addr-apart, active-not-addr, named-cong, entry-named, entry-cong}
 
 -- ---- all that the mirror looks at
 
-pub record Framed (n D : ℕ) (rd rd′ : Memory) : Type 0 where
+pub record SameMirror (n D : ℕ) (rd rd′ : Memory) : Type 0 where
   pub pcs : (d : ℕ) → d < D → rd′ (field Pc d) ≡ rd (field Pc d)
   pub cells : (x : ℕ) → x < 512 → virtual n rd′ D (cell x) ≡ virtual n rd D (cell x)
   pub owneds : (d : ℕ) → d < D → rd (field Pc d) ≢ 0 → virtual n rd′ D (field Owned d) ≡ virtual n rd D (field Owned d)
@@ -42,7 +42,7 @@ job-frame n D rd rd′ d j p h o c s J =
       code = λ i l. J .code i (rw c at l) ∙ sym (s i);
     }
 
-pub mirror-frame : (n D : ℕ) (rd rd′ : Memory) (s : State) → Framed n D rd rd′ → Mirrors n D rd s → Mirrors n D rd′ s
+pub mirror-frame : (n D : ℕ) (rd rd′ : Memory) (s : State) → SameMirror n D rd rd′ → Mirrors n D rd s → Mirrors n D rd′ s
 mirror-frame n D rd rd′ s f m =
     record {
       size = m .size;
@@ -58,7 +58,7 @@ mirror-frame n D rd rd′ s f m =
 
 -- ---- places that it does not look at
 
-pub record Quiet (n D : ℕ) (rd : Memory) (p : Place) : Type 0 where
+pub record Unmirrored (n D : ℕ) (rd : Memory) (p : Place) : Type 0 where
   pub pcs : (d : ℕ) → d < D → same (field Pc d) p ≡ false
   pub cells : (x : ℕ) → x < 512 → same (cell x) p ≡ false
   pub values : (d : ℕ) → d < D → rd (field Pc d) ≢ 0 → same (field (activeVal n rd d) d) p ≡ false
@@ -75,31 +75,31 @@ entry-upd n rd p v d a b c =
     entry-cong n rd (upd rd p v) d (upd-other rd p v (field Pc d) a) (λ z i. upd-other rd p v (step d i) (b z i))
     (λ z. upd-other rd p v (field (activeVal n rd d) d) (c z))
 
-module _ (n D : ℕ) (rd : Memory) (p : Place) (v : ℕ) (k : Quiet n D rd p) where
-  quiet-virtual : (q : Place) → same q p ≡ false → virtual n (upd rd p v) D q ≡ virtual n rd D q
-  quiet-virtual q e =
+module _ (n D : ℕ) (rd : Memory) (p : Place) (v : ℕ) (k : Unmirrored n D rd p) where
+  unmirrored-virtual : (q : Place) → same q p ≡ false → virtual n (upd rd p v) D q ≡ virtual n rd D q
+  unmirrored-virtual q e =
       virtual-cong n rd (upd rd p v) D q (upd-other rd p v q e)
       (λ d l x. ap (λ (y : Entry). over y q x) (entry-upd n rd p v d (k .pcs d l) (k .steps d l) (k .values d l)))
 
-  quiet-framed : Framed n D rd (upd rd p v)
-  quiet-framed =
+  unmirrored-framed : SameMirror n D rd (upd rd p v)
+  unmirrored-framed =
       record {
         pcs = λ d l. upd-other rd p v (field Pc d) (k .pcs d l);
-        cells = λ x l. quiet-virtual (cell x) (k .cells x l);
-        owneds = λ d l z. quiet-virtual (field Owned d) (k .owneds d l z);
-        owns = λ d l z i m. quiet-virtual (own d i) (k .owns d l z i);
+        cells = λ x l. unmirrored-virtual (cell x) (k .cells x l);
+        owneds = λ d l z. unmirrored-virtual (field Owned d) (k .owneds d l z);
+        owns = λ d l z i m. unmirrored-virtual (own d i) (k .owns d l z i);
         counts = λ d l z. upd-other rd p v (field Count d) (k .counts d l z);
         steps = λ d l z i. upd-other rd p v (step d i) (k .steps d l z i);
       }
 
-  pub mirror-quiet : (s : State) → Mirrors n D rd s → Mirrors n D (upd rd p v) s
-  mirror-quiet s m = mirror-frame n D rd (upd rd p v) s quiet-framed m
+  pub mirror-kept : (s : State) → Mirrors n D rd s → Mirrors n D (upd rd p v) s
+  mirror-kept s m = mirror-frame n D rd (upd rd p v) s unmirrored-framed m
 
 -- ---- such places
 
 module _ (n D : ℕ) (rd : Memory) where
-  pub quiet-lock : (b : ℕ) → Quiet n D rd (lock b)
-  quiet-lock b =
+  pub unmirrored-lock : (b : ℕ) → Unmirrored n D rd (lock b)
+  unmirrored-lock b =
       record {
         pcs = λ d l. refl;
         cells = λ x l. refl;
@@ -111,10 +111,10 @@ module _ (n D : ℕ) (rd : Memory) where
       }
 
   -- a single word that is neither pc, nor count, nor owned set, nor any worker's value of the active entry
-  pub quiet-field :
+  pub unmirrored-field :
       (f : Field) (e : ℕ) → sameField Pc f ≡ false → sameField Count f ≡ false → sameField Owned f ≡ false
-      → ((d : ℕ) → same (field (activeVal n rd d) d) (field f e) ≡ false) → Quiet n D rd (field f e)
-  quiet-field f e a b c v =
+      → ((d : ℕ) → same (field (activeVal n rd d) d) (field f e) ≡ false) → Unmirrored n D rd (field f e)
+  unmirrored-field f e a b c v =
       record {
         pcs = λ d l. rw a;
         cells = λ x l. refl;
@@ -125,40 +125,37 @@ module _ (n D : ℕ) (rd : Memory) where
         steps = λ d l z i. refl;
       }
 
-  pub quiet-intent : (e : ℕ) → Quiet n D rd (field Intent e)
-  quiet-intent e = quiet-field Intent e refl refl refl (λ d. rw (active-apart n rd d Intent refl refl))
+  pub unmirrored-intent : (e : ℕ) → Unmirrored n D rd (field Intent e)
+  unmirrored-intent e = unmirrored-field Intent e refl refl refl (λ d. rw (active-apart n rd d Intent refl refl))
 
-  pub quiet-number : (e : ℕ) → Quiet n D rd (field Number e)
-  quiet-number e = quiet-field Number e refl refl refl (λ d. rw (active-apart n rd d Number refl refl))
+  pub unmirrored-finished : (e : ℕ) → Unmirrored n D rd (field Finished e)
+  unmirrored-finished e = unmirrored-field Finished e refl refl refl (λ d. rw (active-apart n rd d Finished refl refl))
 
-  pub quiet-finished : (e : ℕ) → Quiet n D rd (field Finished e)
-  quiet-finished e = quiet-field Finished e refl refl refl (λ d. rw (active-apart n rd d Finished refl refl))
-
-  pub quiet-spare-addr : (e : ℕ) → Quiet n D rd (field (spareAddr n rd e) e)
-  quiet-spare-addr e =
-      quiet-field (spareAddr n rd e) e (spare-addr-apart n rd e Pc refl refl) (spare-addr-apart n rd e Count refl refl) (spare-addr-apart n rd e Owned refl refl)
+  pub unmirrored-spare-addr : (e : ℕ) → Unmirrored n D rd (field (spareAddr n rd e) e)
+  unmirrored-spare-addr e =
+      unmirrored-field (spareAddr n rd e) e (spare-addr-apart n rd e Pc refl refl) (spare-addr-apart n rd e Count refl refl) (spare-addr-apart n rd e Owned refl refl)
       (λ d. rw (active-not-addr n rd d e))
 
-  spare-val-quiet : (d e : ℕ) → same (field (activeVal n rd d) d) (field (spareVal n rd e) e) ≡ false
-  spare-val-quiet d e = by (ℕ-discrete d e)
+  spare-val-unmirrored : (d e : ℕ) → same (field (activeVal n rd d) d) (field (spareVal n rd e) e) ≡ false
+  spare-val-unmirrored d e = by (ℕ-discrete d e)
     where
       by : Dec (d ≡ e) → same (field (activeVal n rd d) d) (field (spareVal n rd e) e) ≡ false
       by (yes i) = rw (i, active-spare-val n rd e)
-      by (no i) = apart-of (belongs d) (field (activeVal n rd d) d) (field (spareVal n rd e) e) (eq-eqb d d refl) (differ e d (λ j. i (sym j)))
+      by (no i) = apart-of (belongs d) (field (activeVal n rd d) d) (field (spareVal n rd e) e) (eq-eqb d d refl) (ne-eqb e d (λ j. i (sym j)))
 
-  pub quiet-spare-val : (e : ℕ) → Quiet n D rd (field (spareVal n rd e) e)
-  quiet-spare-val e =
-      quiet-field (spareVal n rd e) e (spare-val-apart n rd e Pc refl refl) (spare-val-apart n rd e Count refl refl) (spare-val-apart n rd e Owned refl refl)
-      (λ d. spare-val-quiet d e)
+  pub unmirrored-spare-val : (e : ℕ) → Unmirrored n D rd (field (spareVal n rd e) e)
+  unmirrored-spare-val e =
+      unmirrored-field (spareVal n rd e) e (spare-val-apart n rd e Pc refl refl) (spare-val-apart n rd e Count refl refl) (spare-val-apart n rd e Owned refl refl)
+      (λ d. spare-val-unmirrored d e)
 
   -- where the pc is 0, every word of a record but the pc, and the own words and instructions
   module _ (e : ℕ) (rests : rd (field Pc e) ≡ 0) where
     -- no worker under way
     other : (d : ℕ) → rd (field Pc d) ≢ 0 → eqb d e ≡ false
-    other d z = differ d e (λ i. z (rw i rests))
+    other d z = ne-eqb d e (λ i. z (rw i rests))
 
-    quiet-record : (p : Place) → belongs e p ≡ true → ((d : ℕ) → same (field Pc d) p ≡ false) → Quiet n D rd p
-    quiet-record p b a =
+    unmirrored-record : (p : Place) → belongs e p ≡ true → ((d : ℕ) → same (field Pc d) p ≡ false) → Unmirrored n D rd p
+    unmirrored-record p b a =
         record {
           pcs = λ d l. a d;
           cells = λ x l. apart-by (belongs e) (cell x) p refl b;
@@ -170,14 +167,8 @@ module _ (n D : ℕ) (rd : Memory) where
         }
 
     -- a single word that is not the pc
-    pub quiet-resting : (f : Field) → sameField Pc f ≡ false → Quiet n D rd (field f e)
-    quiet-resting f a = quiet-record (field f e) (eq-eqb e e refl) (λ d. rw a)
-
-    pub quiet-own : (i : ℕ) → Quiet n D rd (own e i)
-    quiet-own i = quiet-record (own e i) (eq-eqb e e refl) (λ d. refl)
-
-    pub quiet-step : (i : ℕ) → Quiet n D rd (step e i)
-    quiet-step i = quiet-record (step e i) (eq-eqb e e refl) (λ d. refl)
+    pub unmirrored-resting : (f : Field) → sameField Pc f ≡ false → Unmirrored n D rd (field f e)
+    unmirrored-resting f a = unmirrored-record (field f e) (eq-eqb e e refl) (λ d. rw a)
 
 -- ---- the store that is due
 
@@ -207,7 +198,7 @@ module _ (n D : ℕ) (rd : Memory) (d : ℕ) (p : Place) (v : ℕ) (below : d < 
           ∙ sym (virtual-due n rd D d p p v below here (same-refl p) others))
       by false e = virtual-cong n rd (upd rd p v) D q (upd-other rd p v q e) (λ f l x. ap (λ (y : Entry). over y q x) (aimed-entry n rd p v f aims))
 
-  due-framed : Framed n D rd (upd rd p v)
+  due-framed : SameMirror n D rd (upd rd p v)
   due-framed =
       record {
         pcs = λ e l. upd-other rd p v (field Pc e) (aimed-field Pc e p aims refl);

@@ -1,21 +1,18 @@
 -- Every prefix of a submission leaves a memory that a recovery accepts: `submission-prefix`. Only words of the worker's own
 -- section change (`Aside`). With a count and a pc of 0 its record is sound whatever its number, own words and steps are; the last
--- store, its count, makes a section that passes. Further that every store is at a place of the image.
-use Prim.Native.Nat.{ℕ, suc, zero, _+_, _-_, _<_, _≤_}
+-- store, its count, makes a section that passes.
+use Prim.Native.Nat.{ℕ, _+_, _<_}
 use mathlib.Core.Path.{_≡_, refl, ap, sym, _∙_}
-use mathlib.Core.Bool.{Bool, true, false, cond, _&&_, _||_, not, true≢false}
+use mathlib.Core.Bool.{Bool, true, false, cond, _&&_, _||_, not}
 use mathlib.Core.List.{List, [], _∷_, _++_, append-assoc}
 use mathlib.Core.Logic.{inl, _≢_}
 use native.Mathlib.Omega.{arith}
 use native.Mathlib.Decide.{ℕ-discrete}
-use lib.ListN.{length, getD, take, replicate}
-use lib.Dec.{ltb, eqb}
-use borrow.Author.Tests.{eq-eqb, ne-eqb, lt-ltb, le-leb}
-use Rattle.base.proofs.Bools.{and-both}
+use lib.ListN.{length, take}
+use lib.Dec.{eqb}
+use borrow.Author.Tests.{eq-eqb, ne-eqb, le-leb}
 use Rattle.image.specs.declared.Field.the-variants.{Count, Pc, Addr0, Val0, Addr1, Val1, Intent, Owned, Number, Finished}
-use Rattle.image.specs.Place.{Place, cell, lock, field, own, step, sameField, same, valid, Memory, upd, Store, updAll}
-use Rattle.image.proofs.Places.{same-place, upd-same, upd-other}
-use Rattle.image.proofs.Lists.{allValid, updAll-nil, updAll-cons}
+use Rattle.image.specs.Place.{Place, cell, lock, field, own, step, sameField, same, Memory, upd, Store, updAll}
 use Rattle.section.specs.declared.Verdict.the-variants.{Pass}
 use Rattle.section.specs.Check.{codeOf, check}
 use Rattle.section.proofs.Facts.{check-parts, check-cong}
@@ -26,8 +23,10 @@ use Rattle.claims.proofs.Invariant.{Crashed}
 use Rattle.claims.proofs.Covers.{Parts, crashed-parts, parts-crashed}
 use Rattle.claims.proofs.LiveCrashed.{section-none, pc-none, owed-none}
 use Rattle.claims.proofs.Settled.{ok-owned}
-use Rattle.claims.proofs.StoreRows.{updAll-append, updAll-one, Keeps, keeps-nil, keeps-one, keeps-append, keeps-whole, prefix-append, prefix-one, Leaves, valid-append}
+use Rattle.claims.proofs.StoreRows.{updAll-append, updAll-one, Keeps, keeps-nil, keeps-one, keeps-append, keeps-whole, prefix-append, prefix-one}
 use Rattle.claims.proofs.RecoveryFrame.{Framed, owed-frame, pc-frame, section-frame}
+use Rattle.claims.proofs.Laid.{filled, handedTo, Laid, submission-laid}
+use Rattle.claims.proofs.Entries.{apart-of}
 
 -- ---- a row of assignments
 
@@ -35,30 +34,6 @@ pub assigns-keep : (P : Memory → Type 0) (f : ℕ → Place) → ((i v : ℕ) 
 unfolding assigns
 assigns-keep P f h i [] = keeps-nil P
 assigns-keep P f h i (v ∷ vs) = keeps-append P ((f i ≔ v) ∷ []) (assigns f (i + 1) vs) (keeps-one P (f i ≔ v) (λ rd p. h i v rd p)) (assigns-keep P f h (i + 1) vs)
-
-pub assigns-leave : (q : Place) (f : ℕ → Place) (i : ℕ) (vs : List ℕ) → ((j : ℕ) → i ≤ j → same q (f j) ≡ false) → Leaves q (assigns f i vs)
-unfolding assigns
-assigns-leave q f i [] h rd = ap (λ (m : Memory). m q) (updAll-nil rd)
-assigns-leave q f i (v ∷ vs) h rd =
-    rw (updAll-cons rd (f i ≔ v) (assigns f (i + 1) vs))
-    (assigns-leave q f (i + 1) vs (λ j l. h j (omega arith)) (upd rd (f i) v) ∙ upd-other rd (f i) v q (h i (omega arith)))
-
-pub assigns-read : (f : ℕ → Place) → ((a b : ℕ) → a < b → same (f a) (f b) ≡ false) → (vs : List ℕ) (i j : ℕ) → j < length vs → (rd : Memory) → updAll rd (assigns f i vs) (f (i + j)) ≡ getD vs j 0
-unfolding assigns
-assigns-read f apart [] i j l rd = absurd (omega arith)
-assigns-read f apart (v ∷ vs) i zero l rd =
-    let e : i + 0 ≡ i = omega arith in
-    rw (e, updAll-cons rd (f i ≔ v) (assigns f (i + 1) vs))
-    (assigns-leave (f i) f (i + 1) vs (λ j g. apart i j (omega arith)) (upd rd (f i) v) ∙ upd-same rd (f i) v)
-assigns-read f apart (v ∷ vs) i (suc j) l rd =
-    let e : i + suc j ≡ i + 1 + j = omega arith in
-    rw (e, updAll-cons rd (f i ≔ v) (assigns f (i + 1) vs)) (assigns-read f apart vs (i + 1) j (omega arith) (upd rd (f i) v))
-
-pub assigns-valid : (D n : ℕ) (f : ℕ → Place) (i : ℕ) (vs : List ℕ) → ((j : ℕ) → j < i + length vs → valid D n (f j) ≡ true) → allValid D n (assigns f i vs) ≡ true
-unfolding assigns
-assigns-valid D n f i [] h = refl
-assigns-valid D n f i (v ∷ vs) h =
-    and-both (valid D n (f i)) (allValid D n (assigns f (i + 1) vs)) (h i (omega arith)) (assigns-valid D n f (i + 1) vs (λ j l. h j (omega arith)))
 
 -- ---- the words that a submission leaves
 
@@ -69,19 +44,12 @@ aside d (field f e) = not ((sameField f Number || sameField f Count) && eqb e d)
 aside d (own e i) = not (eqb e d)
 aside d (step e i) = not (eqb e d)
 
-pub aside-apart : (d : ℕ) (q p : Place) → aside d q ≡ true → aside d p ≡ false → same q p ≡ false
-aside-apart d q p h g = by (same q p) refl
-  where
-    by : (t : Bool) → same q p ≡ t → same q p ≡ false
-    by true e = absurd (true≢false (sym h ∙ (ap (aside d) (same-place q p e) ∙ g)))
-    by false e = e
-
 module _ (d : ℕ) (rd : Memory) where
   abbrev pub Aside : Memory → Type 0
   Aside rd′ = (p : Place) → aside d p ≡ true → rd′ p ≡ rd p
 
   pub aside-store : (p : Place) → aside d p ≡ false → (v : ℕ) (rd′ : Memory) → Aside rd′ → Aside (upd rd′ p v)
-  aside-store p h v rd′ k q g = rw (aside-apart d q p g h) (k q g)
+  aside-store p h v rd′ k q g = rw (apart-of (aside d) q p g h) (k q g)
 
 module _ (n D d : ℕ) (rd : Memory) where
   private-addr : (e : ℕ) → aside d (field (activeAddr n rd e) e) ≡ true
@@ -150,47 +118,17 @@ module _ (n D d : ℕ) (rd : Memory) where
 -- ---- the submission
 
 module _ (n d k : ℕ) (args ws : List ℕ) (rd : Memory) where
-  private-steps : (a b : ℕ) → a < b → same (step d a) (step d b) ≡ false
-  private-steps a b l = rw (eq-eqb d d refl, ne-eqb a b (λ e. omega arith))
+  abbrev submitted : Memory
+  submitted = handedTo n d k args ws rd
 
-  abbrev numbered : Memory
-  numbered = upd rd (field Number d) k
+  laid : Laid n rd submitted d k args ws
+  laid = submission-laid n rd d k args ws
 
   abbrev owns : List Store
-  owns = assigns (own d) 0 (args ++ replicate (n - 8) 0)
+  owns = assigns (own d) 0 (filled n args)
 
   abbrev steps : List Store
   steps = assigns (step d) 0 ws
-
-  -- the memory before the count is stored
-  abbrev written : Memory
-  written = updAll (updAll numbered owns) steps
-
-  -- and after it
-  abbrev pub submitted : Memory
-  submitted = updAll rd (submission n d k args ws)
-
-  private-submitted : submitted ≡ upd written (field Count d) (length ws)
-  unfolding submission
-  private-submitted =
-      updAll-cons rd (field Number d ≔ k) _
-      ∙ (updAll-append numbered owns _ ∙ (updAll-append (updAll numbered owns) steps _ ∙ updAll-one written (field Count d ≔ length ws)))
-
-  private-now : (q : Place) (v : ℕ) → upd written (field Count d) (length ws) q ≡ v → submitted q ≡ v
-  private-now q v e = ap (λ (m : Memory). m q) private-submitted ∙ e
-
-  pub submitted-count : submitted (field Count d) ≡ length ws
-  submitted-count = private-now (field Count d) (length ws) (upd-same written (field Count d) (length ws))
-
-  pub submitted-number : submitted (field Number d) ≡ k
-  submitted-number =
-      private-now (field Number d) k
-      (assigns-leave (field Number d) (step d) 0 ws (λ j l. refl) _ ∙ (assigns-leave (field Number d) (own d) 0 _ (λ j l. refl) _ ∙ upd-same rd (field Number d) k))
-
-  pub submitted-code : (i : ℕ) → i < length ws → submitted (step d i) ≡ getD ws i 0
-  submitted-code i l =
-      let e : 0 + i ≡ i = omega arith in
-      private-now (step d i) (getD ws i 0) (rw e at (assigns-read (step d) private-steps ws 0 i l (updAll numbered owns)))
 
   -- ---- what each prefix leaves
 
@@ -211,7 +149,7 @@ module _ (n d k : ℕ) (args ws : List ℕ) (rd : Memory) where
       keeps-append Unbegun ((field Number d ≔ k) ∷ []) (owns ++ steps)
       (keeps-one Unbegun (field Number d ≔ k) (λ rd′ u. private-off (field Number d) k rd′ private-refl refl u))
       (keeps-append Unbegun owns steps
-      (assigns-keep Unbegun (own d) (λ i v rd′ u. private-off (own d i) v rd′ private-refl refl u) 0 (args ++ replicate (n - 8) 0))
+      (assigns-keep Unbegun (own d) (λ i v rd′ u. private-off (own d i) v rd′ private-refl refl u) 0 (filled n args))
       (assigns-keep Unbegun (step d) (λ i v rd′ u. private-off (step d i) v rd′ private-refl refl u) 0 ws))
 
   private-split : submission n d k args ws ≡ before ++ ((field Count d ≔ length ws) ∷ [])
@@ -236,7 +174,7 @@ module _ (n d k : ℕ) (args ws : List ℕ) (rd : Memory) where
       i)
 
   pub submitted-check : check n (length ws) (codeOf ws) ≡ Pass → check n (length ws) (codeIn n submitted d) ≡ Pass
-  submitted-check h = check-cong n (length ws) (codeIn n submitted d) (codeOf ws) submitted-code ∙ h
+  submitted-check h = check-cong n (length ws) (codeIn n submitted d) (codeOf ws) (laid .code-words) ∙ h
 
   -- the section that was handed in is right
   pub submitted-section : rd (field Count d) ≡ 0 → check n (length ws) (codeOf ws) ≡ Pass → rd (field Finished d) < k → sectionOk n submitted d ≡ true
@@ -244,7 +182,7 @@ module _ (n d k : ℕ) (args ws : List ℕ) (rd : Memory) where
   submitted-section c h l =
       let some = check-parts n (length ws) (codeOf ws) h .0 in
       let f : submitted (field Finished d) ≡ rd (field Finished d) = submitted-aside c (field Finished d) refl in
-      rw (submitted-count, ne-eqb (length ws) 0 (λ e. omega arith), submitted-check h, submitted-number, f, le-leb 1 k (omega arith), le-leb (rd (field Finished d)) k (omega arith))
+      rw (laid .count, ne-eqb (length ws) 0 (λ e. omega arith), submitted-check h, laid .number, f, le-leb 1 k (omega arith), le-leb (rd (field Finished d)) k (omega arith))
 
   pub submission-parts :
       (D : ℕ) → Parts n D rd → rd (field Count d) ≡ 0 → rd (field Pc d) ≡ 0 → check n (length ws) (codeOf ws) ≡ Pass → rd (field Finished d) < k
@@ -265,17 +203,3 @@ module _ (n d k : ℕ) (args ws : List ℕ) (rd : Memory) where
       (D : ℕ) → Crashed n D rd → rd (field Count d) ≡ 0 → rd (field Pc d) ≡ 0 → check n (length ws) (codeOf ws) ≡ Pass → rd (field Finished d) < k
       → (i : ℕ) → Crashed n D (updAll rd (take i (submission n d k args ws)))
   submission-prefix D q c z h l i = parts-crashed n D _ (submission-parts D (crashed-parts n D rd q) c z h l i)
-
--- ---- every store is at a place of the image
-
-pub submission-valid : (D n d k : ℕ) (args ws : List ℕ) → d < D → length (args ++ replicate (n - 8) 0) ≡ n → length ws ≤ 64 → allValid D n (submission n d k args ws) ≡ true
-unfolding submission
-submission-valid D n d k args ws l a w =
-    let os = assigns (own d) 0 (args ++ replicate (n - 8) 0) in
-    let ss = assigns (step d) 0 ws in
-    let t = lt-ltb d D l in
-    let last : allValid D n ((field Count d ≔ length ws) ∷ []) ≡ true = and-both (ltb d D) true t refl in
-    let vo = assigns-valid D n (own d) 0 (args ++ replicate (n - 8) 0) (λ j u. and-both (ltb d D) (ltb j n) t (lt-ltb j n (omega arith))) in
-    let vs = assigns-valid D n (step d) 0 ws (λ j u. and-both (ltb d D) (ltb j 64) t (lt-ltb j 64 (omega arith))) in
-    and-both (ltb d D) (allValid D n (os ++ (ss ++ ((field Count d ≔ length ws) ∷ [])))) t
-    (valid-append D n os (ss ++ ((field Count d ≔ length ws) ∷ [])) vo (valid-append D n ss ((field Count d ≔ length ws) ∷ []) vs last))

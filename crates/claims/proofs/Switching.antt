@@ -12,6 +12,7 @@ use native.Mathlib.Decide.{ℕ-discrete}
 use lib.ListN.{length, getD, set, length-set}
 use lib.Seq.{getD-set-same, getD-set-other}
 use lib.Dec.{eqb}
+use borrow.Author.Tests.{ne-eqb}
 use Rattle.image.specs.declared.Field.{Field}
 use Rattle.image.specs.declared.Field.the-variants.{Pc, Val0, Val1, Owned}
 use Rattle.image.specs.Place.{sameField, Place, cell, field, own, same, Memory, upd}
@@ -22,7 +23,7 @@ use Rattle.recovery.specs.Recovery.{targetOf, namedStep}
 use Rattle.claims.specs.Reference.{Given, Job, State, state}
 use Rattle.claims.proofs.Virtual.{Entry, due, over, misses, entryOf, virtual, virtual-none, virtual-due, virtual-cong}
 use Rattle.claims.proofs.Invariant.{opAt, Live, JobOf, Mirrors}
-use Rattle.claims.proofs.Entries.{differ, active-apart, entry-none, entry-named, entry-cong, named-step}
+use Rattle.claims.proofs.Entries.{active-apart, entry-none, entry-named, entry-cong, named-step}
 use Rattle.claims.proofs.Stutter.{job-frame}
 use Rattle.claims.proofs.Apart.{Busy, Guarded, misses-guarded, target-guarded, virtual-settled}
 
@@ -40,6 +41,14 @@ spare-no-pc n rd d = by (second n rd d)
 abbrev pub after : ℕ → Memory → ℕ → ℕ → Memory
 after n rd d k = upd rd (field Pc d) (switched n rd d k)
 
+pub switched-some : (n : ℕ) (rd : Memory) (d k : ℕ) → switched n rd d k ≢ 0
+unfolding switched
+switched-some n rd d k = by (second n rd d)
+  where
+    by : (b : Bool) → cond b (k + 1) (k + 1 + 2 ^ 63) ≢ 0
+    by true e = omega arith
+    by false e = omega arith
+
 module _ (n : ℕ) (rd : Memory) (d k : ℕ) (short : k < 64) where
   pub switched-names : switched n rd d k % 2 ^ 63 ≡ suc k
   unfolding switched
@@ -51,9 +60,6 @@ module _ (n : ℕ) (rd : Memory) (d k : ℕ) (short : k < 64) where
 
   switched-pc : after n rd d k (field Pc d) % 2 ^ 63 ≡ suc k
   switched-pc = rw (upd-same rd (field Pc d) (switched n rd d k)) switched-names
-
-  pub switched-some : switched n rd d k ≢ 0
-  switched-some z = let w : 0 % 2 ^ 63 ≡ suc k = rw z at switched-names in omega arith
 
   pub switched-step : namedStep n (after n rd d k) d ≡ k
   switched-step = named-step n (after n rd d k) d k switched-pc
@@ -78,7 +84,7 @@ module _ (n : ℕ) (rd : Memory) (d k : ℕ) (short : k < 64) where
 
 pub entry-others : (n : ℕ) (rd : Memory) (d v e : ℕ) → e ≢ d → entryOf n (upd rd (field Pc d) v) e ≡ entryOf n rd e
 entry-others n rd d v e h =
-    entry-cong n rd (upd rd (field Pc d) v) e (upd-other rd (field Pc d) v (field Pc e) (differ e d h)) (λ z i. refl)
+    entry-cong n rd (upd rd (field Pc d) v) e (upd-other rd (field Pc d) v (field Pc e) (ne-eqb e d h)) (λ z i. refl)
     (λ z. upd-other rd (field Pc d) v (field (activeVal n rd e) e) (rw (active-apart n rd e Pc refl refl)))
 
 -- a pc of 0 leaves the virtual memory as it is
@@ -165,7 +171,7 @@ mirror-set n D rd d v S cs q l M size cells owned owns empty busy =
     here = getD-set-same (S .queues) d q [] (rw (M .workers) l)
 
     pc : (e : ℕ) → e ≢ d → upd rd (field Pc d) v (field Pc e) ≡ rd (field Pc e)
-    pc e h = upd-other rd (field Pc d) v (field Pc e) (differ e d h)
+    pc e h = upd-other rd (field Pc d) v (field Pc e) (ne-eqb e d h)
 
     absent : (e : ℕ) → e < D → upd rd (field Pc d) v (field Pc e) ≡ 0 → Dec (e ≡ d) → getD (set (S .queues) d q) e [] ≡ []
     absent e m z (yes i) = rw i (here ∙ empty (sym (upd-same rd (field Pc d) v) ∙ (rw i at z)))

@@ -1,27 +1,23 @@
 -- Turns and runs keep the invariant: with stores to spare a world goes on running; without, the image stands still, and what
 -- it stands for is kept. A run is its turns, so what every turn keeps a run keeps.
-use Prim.Native.Nat.{ℕ, suc, zero, _+_, _-_, _*_, _<_, _≤_}
-use mathlib.Core.Path.{_≡_, refl, ap, subst, _∙_, sym}
-use mathlib.Core.Logic.{_≢_, _⊎_, inl, inr}
-use mathlib.Core.Bool.{Bool, true, false, cond, _&&_, not, and-false}
+use Prim.Native.Nat.{ℕ, suc, zero, _+_, _<_, _≤_}
+use mathlib.Core.Path.{_≡_, refl}
+use mathlib.Core.Logic.{_⊎_, inl, inr}
+use mathlib.Core.Bool.{Bool, true, false, cond, and-false}
 use mathlib.Core.List.{List}
-use lib.Dec.{eqb, ltb}
-use borrow.Author.Tests.{lt-ltb, eq-eqb, ltb-true}
+use borrow.Author.Tests.{eq-eqb}
 use native.Mathlib.Omega.{arith}
 use native.Mathlib.Decide.{decLt}
-use Rattle.image.specs.declared.Field.the-variants.{Pc}
-use Rattle.image.specs.Place.{Place, field}
-use Rattle.image.specs.Image.{Image, indexOf, at, workers, headerOk, put}
+use Rattle.image.specs.Place.{Place}
+use Rattle.image.specs.Image.{indexOf, at}
 use Rattle.image.proofs.Stores.{put-none}
-use Rattle.engine.specs.declared.Refusal.the-variants.{Worker}
 use Rattle.engine.specs.Cursor.{Cursor, cursorAt}
 use Rattle.engine.specs.Turn.{Outcome, stored, jumped, unheld, waiting, resting, refused, turnAt}
-use Rattle.engine.specs.World.{World, world, leaves, outcomeAt, outcome}
+use Rattle.engine.specs.World.{world, leaves, outcomeAt}
 use Rattle.engine.specs.Run.{anyOpen}
-use Rattle.claims.specs.Reference.{Given}
-use Rattle.claims.specs.Calls.{Trace, Traced, traced, recorded, isPc, turnTrace, turnBy, turnedAt, refuses, round, rounds, ranBy, call, turns, runs}
+use Rattle.claims.specs.Calls.{Traced, isPc, turnTrace, turnBy, turnedAt, refuses, round, rounds}
 use Rattle.claims.proofs.LiveCrashed.{live-crashed}
-use Rattle.claims.proofs.Held.{Reached, Running, Frozen, running-turn}
+use Rattle.claims.proofs.Held.{Running, Frozen, running-turn}
 
 module _ (mark n D : ℕ) (cells : List ℕ) where
   -- ---- with no store left
@@ -106,23 +102,3 @@ module _ (mark n D : ℕ) (cells : List ℕ) where
   pub turned-left : (w : Traced) (d : ℕ) → w .world .left ≤ turnedAt mark n w d .world .left + 1
   unfolding turnedAt
   turned-left w d = takes-one w d (outcomeAt n (w .world) d)
-
-  -- a round, with stores for its turns and for what follows
-  round-running :
-      (rest : Traced → Traced) (spare : ℕ) → ((w : Traced) → Running mark n D cells w → spare ≤ w .world .left → Running mark n D cells (rest w))
-      → (k d : ℕ) (w : Traced) → d + k ≤ D → Running mark n D cells w → k + spare ≤ w .world .left → Running mark n D cells (round mark n rest w d k)
-  unfolding round
-  round-running rest spare more zero d w l r h = more w r (omega arith)
-  round-running rest spare more (suc k) d w l r h =
-      let t = turned-left w d in
-      private-round (Running mark n D cells) (refuses mark n (outcomeAt n (w .world) d)) w _ r
-      (λ e. round-running rest spare more k (d + 1) (turnedAt mark n w d) (omega arith) (running-turned w d (omega arith) (omega arith) r) (omega arith))
-
-  pub rounds-running : (r : ℕ) (w : Traced) → Running mark n D cells w → r * D ≤ w .world .left → Running mark n D cells (rounds mark n r D w)
-  unfolding rounds
-  rounds-running zero w h e = h
-  rounds-running (suc r) w h e = by (anyOpen D 0 (w .world .cursors)) (round-running (rounds mark n r D) (r * D) (λ v x y. rounds-running r v x y) D 0 w (omega arith) h (omega arith))
-    where
-      by : (b : Bool) → Running mark n D cells (round mark n (rounds mark n r D) w 0 D) → Running mark n D cells (cond b (round mark n (rounds mark n r D) w 0 D) w)
-      by true x = x
-      by false x = h

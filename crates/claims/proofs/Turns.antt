@@ -1,9 +1,9 @@
 -- What one turn does to the invariant, as statements: which word a store of worker d touches, with the locks that it has
 -- afterwards, and where the worker then stands.
-use Prim.Native.Nat.{ℕ, suc, zero, _+_, _/_, _<_, _≤_}
+use Prim.Native.Nat.{ℕ, suc, _+_, _/_, _<_}
 use mathlib.Core.Path.{_≡_}
 use mathlib.Core.Logic.{_≢_}
-use mathlib.Core.Bool.{Bool, true, false, cond}
+use mathlib.Core.Bool.{true, cond}
 use Rattle.mask.specs.Mask.{has, with, without}
 use Rattle.image.specs.declared.Field.{Field}
 use Rattle.image.specs.Place.{Place, cell, lock, field, own, Memory, upd}

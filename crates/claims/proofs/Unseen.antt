@@ -1,7 +1,7 @@
 -- Stores that the reference machine does not see: they leave the cells, the pcs, and for every section under way its log entry,
 -- its own words, its steps and its owned set (`Unseen`). The memory then stands for the same state (`unseen-mirrors`). Every
 -- prefix of a recovery's stores and of a submission's is so.
-use Prim.Native.Nat.{ℕ, suc, _<_}
+use Prim.Native.Nat.{ℕ, _<_}
 use mathlib.Core.Path.{_≡_, refl, ap, sym, _∙_}
 use mathlib.Core.Logic.{_⊎_, inl, inr, _≢_}
 use mathlib.Core.Bool.{false}
@@ -13,24 +13,22 @@ use borrow.Author.Tests.{ne-eqb}
 use Rattle.image.specs.declared.Field.the-variants.{Count, Pc, Owned}
 use Rattle.image.specs.Place.{Place, cell, field, own, step, Memory, updAll}
 use Rattle.engine.specs.Submit.{submission}
-use Rattle.recovery.specs.Recovery.{namedStep, plan}
-use Rattle.claims.specs.Reference.{Job, State}
-use Rattle.claims.proofs.Virtual.{Entry, none, over, entryOf, virtual, virtual-cong}
-use Rattle.claims.proofs.Invariant.{JobOf, Mirrors, Crashed}
+use Rattle.recovery.specs.Recovery.{plan}
+use Rattle.claims.specs.Reference.{State}
+use Rattle.claims.proofs.Virtual.{Entry, over, entryOf, virtual, virtual-cong}
+use Rattle.claims.proofs.Invariant.{Mirrors, Crashed}
 use Rattle.claims.proofs.Covers.{crashed-parts}
-use Rattle.claims.proofs.RecoveryFrame.{Framed, frame-op, frame-val}
+use Rattle.claims.proofs.RecoveryFrame.{Framed, frame-op}
 use Rattle.claims.proofs.Stages.{Kept, kept-framed, plan-kept}
 use Rattle.claims.proofs.Submission.{Aside, aside-framed, submission-aside}
+use Rattle.claims.proofs.Entries.{entry-none}
+use Rattle.claims.proofs.Fields.{active-val-kept}
+use Rattle.claims.proofs.Stutter.{mirror-frame}
 
 -- a worker with the same record has the same entry
 pub entry-frame : (n : ℕ) (rd rd′ : Memory) (d : ℕ) → Framed n rd rd′ d → entryOf n rd′ d ≡ entryOf n rd d
 unfolding entryOf
-entry-frame n rd rd′ d f = rw (f .pc, frame-op n rd rd′ d f, frame-val n rd rd′ d f, f .val)
-
--- and one whose pc is 0 has none
-pub entry-none : (n : ℕ) (rd : Memory) (d : ℕ) → rd (field Pc d) ≡ 0 → entryOf n rd d ≡ none
-unfolding entryOf
-entry-none n rd d z = rw z
+entry-frame n rd rd′ d f = rw (f .pc, frame-op n rd rd′ d f, active-val-kept n rd rd′ d (f .pc), f .val)
 
 -- the words of a section under way
 pub record SameJob (n : ℕ) (rd rd′ : Memory) (d : ℕ) : Type 0 where
@@ -49,32 +47,18 @@ module _ (n D : ℕ) (rd rd′ : Memory) (u : Unseen n D rd rd′) where
   pub unseen-virtual : (q : Place) → rd′ q ≡ rd q → virtual n rd′ D q ≡ virtual n rd D q
   unseen-virtual q e = virtual-cong n rd rd′ D q e (λ d l x. ap (λ (t : Entry). over t q x) (u .entries d l))
 
-  private-step : (d : ℕ) → d < D → namedStep n rd′ d ≡ namedStep n rd d
-  unfolding namedStep
-  private-step d l = rw (u .pcs d l)
-
-  private-job : (d : ℕ) (j : Job) → d < D → SameJob n rd rd′ d → JobOf n D rd d j → JobOf n D rd′ d j
-  private-job d j l s o =
-      record {
-        next = o .next ∙ ap suc (sym (private-step d l));
-        held = o .held ∙ sym (unseen-virtual (field Owned d) (s .owned));
-        size = o .size;
-        own = λ i h. o .own i h ∙ sym (unseen-virtual (own d i) (s .owns i));
-        code = λ i h. o .code i (rw (s .count) at h) ∙ sym (s .code i);
-      }
-
   pub unseen-mirrors : (s : State) → Mirrors n D rd s → Mirrors n D rd′ s
   unseen-mirrors s m =
-      record {
-        size = m .size;
-        cells = λ x l. m .cells x l ∙ sym (unseen-virtual (cell x) (u .cells x));
-        workers = m .workers;
-        none = λ d l z. m .none d l (sym (u .pcs d l) ∙ z);
-        some = λ d l h.
-            let b : rd (field Pc d) ≢ 0 = λ z. h (u .pcs d l ∙ z) in
-            let r = m .some d l b in
-            (r .0, r .1, private-job d (r .0) l (u .jobs d l b) (r .2));
-      }
+      mirror-frame n D rd rd′ s
+      (record {
+        pcs = u .pcs;
+        cells = λ x l. unseen-virtual (cell x) (u .cells x);
+        owneds = λ d l z. unseen-virtual (field Owned d) (u .jobs d l z .owned);
+        owns = λ d l z i h. unseen-virtual (own d i) (u .jobs d l z .owns i);
+        counts = λ d l z. u .jobs d l z .count;
+        steps = λ d l z. u .jobs d l z .code;
+      })
+      m
 
 -- ---- a recovery
 

@@ -1,10 +1,10 @@
 -- The memory as it will be once every logged store has been made: for each worker whose pc names a step, the active
 -- entry's value stands at that step's target. With its first laws: what stands at a place that one worker's entry is for,
 -- at a place that none is for, and when two memories look the same.
-use Prim.Native.Nat.{ℕ, suc, zero, _<_, _≤_}
+use Prim.Native.Nat.{ℕ, suc, zero, _<_}
 use mathlib.Core.Path.{_≡_, refl, ap, _∙_, sym}
 use mathlib.Core.Logic.{_≢_}
-use mathlib.Core.Bool.{Bool, true, false, cond}
+use mathlib.Core.Bool.{true, false, cond}
 use lib.Dec.{eqb}
 use native.Mathlib.Omega.{arith}
 use native.Mathlib.Decide.{ℕ-discrete}

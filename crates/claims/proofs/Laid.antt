@@ -1,49 +1,25 @@
--- The memory after the stores of a section that is taken: its number, its own words, its instructions and its count stand in
+-- What the stores of a submission leave (`Laid`): the section's number, its own words, its instructions and its count stand in
 -- the worker's record, and every other word is as it was. First what a row of stores leaves, by induction on its values; then
--- the stores of a submission, one part after the other.
+-- the stores of a submission, one part after the other (`submission-laid`).
 use Prim.Native.Nat.{ℕ, suc, _+_, _-_, _<_, _≤_}
-use mathlib.Core.Path.{_≡_, refl, ap, _∙_}
+use mathlib.Core.Path.{_≡_, refl, _∙_}
 use mathlib.Core.Logic.{_≢_}
-use mathlib.Core.Bool.{true, false, and-false}
+use mathlib.Core.Bool.{false, and-false}
 use mathlib.Core.List.{List, [], _∷_, _++_}
 use lib.ListN.{length, getD, replicate, length-append, length-replicate}
-use lib.Dec.{eqb, ltb}
-use borrow.Author.Tests.{lt-ltb, ne-eqb}
+use lib.Dec.{eqb}
+use borrow.Author.Tests.{ne-eqb}
 use native.Mathlib.Omega.{arith}
 use native.Mathlib.Decide.{ℕ-discrete}
-use Rattle.base.proofs.Bools.{and-left, and-right, and-both}
 use Rattle.image.specs.declared.Field.{Field}
 use Rattle.image.specs.declared.Field.the-variants.{Count, Number}
-use Rattle.image.specs.Place.{Place, cell, lock, field, own, step, same, sameField, valid, Memory, upd, updAll, Store}
+use Rattle.image.specs.Place.{Place, cell, lock, field, own, step, same, sameField, Memory, upd, updAll}
 use Rattle.image.proofs.Places.{upd-same}
-use Rattle.image.proofs.Lists.{allValid, updAll-nil, updAll-cons}
+use Rattle.image.proofs.Lists.{updAll-nil, updAll-cons}
 use Rattle.engine.specs.Submit.{assigns, submission}
-
--- ---- two lists of stores
-
-pub updAll-append : (rd : Memory) (ss ts : List Store) → updAll rd (ss ++ ts) ≡ updAll (updAll rd ss) ts
-unfolding updAll
-updAll-append rd [] ts = refl
-updAll-append rd (s ∷ ss) ts = updAll-append (upd rd (s .place) (s .value)) ss ts
-
-pub all-append : (D n : ℕ) (ss ts : List Store) → allValid D n ss ≡ true → allValid D n ts ≡ true → allValid D n (ss ++ ts) ≡ true
-all-append D n [] ts p q = q
-all-append D n (s ∷ ss) ts p q =
-    and-both (valid D n (s .place)) (allValid D n (ss ++ ts)) (and-left (valid D n (s .place)) (allValid D n ss) p)
-    (all-append D n ss ts (and-right (valid D n (s .place)) (allValid D n ss) p) q)
+use Rattle.claims.proofs.StoreRows.{updAll-append}
 
 -- ---- a row of stores
-
-pub assigns-length : (f : ℕ → Place) (i : ℕ) (vs : List ℕ) → length (assigns f i vs) ≡ length vs
-unfolding assigns
-assigns-length f i [] = refl
-assigns-length f i (v ∷ vs) = ap suc (assigns-length f (i + 1) vs)
-
-pub assigns-valid : (D n : ℕ) (f : ℕ → Place) (i : ℕ) (vs : List ℕ) → ((j : ℕ) → i ≤ j → j < i + length vs → valid D n (f j) ≡ true) → allValid D n (assigns f i vs) ≡ true
-unfolding assigns
-assigns-valid D n f i [] h = refl
-assigns-valid D n f i (v ∷ vs) h =
-    and-both (valid D n (f i)) (allValid D n (assigns f (i + 1) vs)) (h i (omega arith) (omega arith)) (assigns-valid D n f (i + 1) vs (λ j a b. h j (omega arith) (omega arith)))
 
 -- a place that is none of the row's from i on
 pub assigns-other : (rd : Memory) (f : ℕ → Place) (i : ℕ) (vs : List ℕ) (q : Place) → ((j : ℕ) → i ≤ j → same q (f j) ≡ false) → updAll rd (assigns f i vs) q ≡ rd q
@@ -76,8 +52,12 @@ step-apart d a b h = rw (ne-eqb a b h, and-false (eqb d d))
 abbrev pub filled : ℕ → List ℕ → List ℕ
 filled n args = args ++ replicate (n - 8) 0
 
-pub filled-length : (n : ℕ) (args : List ℕ) → 8 ≤ n → length args ≡ 8 → length (filled n args) ≡ n
-filled-length n args l e = simp (length-append, length-replicate) (omega arith)
+pub own-size : (n : ℕ) (args : List ℕ) → 8 ≤ n → length args ≡ 8 → length (filled n args) ≡ n
+own-size n args l e = simp (length-append, length-replicate) (omega arith)
+
+-- the memory after a submission
+abbrev pub handedTo : ℕ → ℕ → ℕ → List ℕ → List ℕ → Memory → Memory
+handedTo n d k args ws rd = updAll rd (submission n d k args ws)
 
 -- what the stores leave
 pub record Laid (n : ℕ) (rd rd′ : Memory) (d k : ℕ) (args ws : List ℕ) : Type 0 where
@@ -103,7 +83,7 @@ module _ (n : ℕ) (rd : Memory) (d k : ℕ) (args ws : List ℕ) where
   coded = updAll owning (assigns (step d) 0 ws)
 
   -- the three parts and the count
-  parts : updAll rd (submission n d k args ws) ≡ upd coded (field Count d) (length ws)
+  parts : handedTo n d k args ws rd ≡ upd coded (field Count d) (length ws)
   unfolding submission
   parts =
       updAll-cons rd _ _
@@ -130,24 +110,5 @@ module _ (n : ℕ) (rd : Memory) (d k : ℕ) (args ws : List ℕ) where
         locks = λ b. rows-other (lock b) (λ i. refl) (λ i. refl);
       }
 
-  pub submission-laid : Laid n rd (updAll rd (submission n d k args ws)) d k args ws
+  pub submission-laid : Laid n rd (handedTo n d k args ws rd) d k args ws
   submission-laid = rw parts private-laid
-
-  pub submission-length : length (submission n d k args ws) ≡ length (filled n args) + length ws + 2
-  unfolding submission
-  submission-length =
-      rw (
-        length-append (assigns (own d) 0 (filled n args)) _,
-        length-append (assigns (step d) 0 ws) _,
-        assigns-length (own d) 0 (filled n args),
-        assigns-length (step d) 0 ws,
-      )
-      (omega arith)
-
-  pub submission-valid : (D : ℕ) → d < D → length (filled n args) ≤ n → length ws ≤ 64 → allValid D n (submission n d k args ws) ≡ true
-  unfolding submission
-  submission-valid D dl a b =
-      let here = lt-ltb d D dl in
-      and-both (ltb d D) _ here
-      (all-append D n (assigns (own d) 0 (filled n args)) _ (assigns-valid D n (own d) 0 (filled n args) (λ j l u. and-both (ltb d D) (ltb j n) here (lt-ltb j n (omega arith))))
-      (all-append D n (assigns (step d) 0 ws) _ (assigns-valid D n (step d) 0 ws (λ j l u. and-both (ltb d D) (ltb j 64) here (lt-ltb j 64 (omega arith)))) (rw here)))
