@@ -11,7 +11,7 @@ mod running;
 mod steps;
 mod turning;
 pub mod words;
-mod working;
+pub mod working;
 
 ghost use mathlib.Core.Path.{_≡_};
 ghost use Rattle.engine.specs.Edition.{mark, ownWords};

@@ -1,1 +1,3 @@
 pub mod Recovery
+pub mod Repair
+pub mod Recover

@@ -1,0 +1,142 @@
+-- The call by its answer: which answer the tests give, in their order; what an answer that is done says of the image;
+-- and that the slots of the repair of a call are the stores of the definition, so what they leave is what the definition
+-- says.
+use Prim.Native.Nat.{ℕ, _-_, _≤_}
+use mathlib.Core.Path.{_≡_, refl, ap, _∙_}
+use mathlib.Core.Bool.{Bool, true, false, cond, false≢true, true≢false}
+use mathlib.Core.List.{List, [], _∷_}
+use native.Mathlib.Omega.{arith}
+use lib.ListN.{length}
+use Rattle.image.specs.Place.{Store}
+use Rattle.image.specs.Image.{Image, at, workers, headerOk, putAll}
+use Rattle.image.proofs.Header.{header-workers}
+use Rattle.image.proofs.Lists.{putAll-nil}
+use Rattle.engine.specs.declared.Cursors.{Cursors}
+use Rattle.engine.specs.Cursor.{allIdle}
+use Rattle.recovery.specs.declared.Refusal.the-variants.{Image as ImageRefused}
+use Rattle.recovery.specs.declared.Answer.the-variants.{Refused}
+use Rattle.recovery.specs.Recovery.{unsound, badLock, plan, resumedAll, Recovered, accepted, misshapen, unsoundRecord, wrongLock, byLocks, byRecords, recovery, causeOf, valueOf}
+use Rattle.recovery.specs.Repair.{Restorable, noRepair, slots}
+use Rattle.recovery.specs.Recover.{isDone, answerCause, answerValue, byRecord, byLock, answerOf, cursorsOf, repairBy, storesOf, recoveryLeaves, recoveryLeft}
+use Rattle.recovery.proofs.Records.{restorable}
+use Rattle.recovery.proofs.Slots.{repair-slots, empty-slots}
+
+-- ---- the tests in their order
+
+-- no record was found
+pub record-none : (l : List ℕ) → isDone (byRecord l) ≡ true → l ≡ []
+record-none [] e = refl
+record-none (d ∷ ds) e = absurd (false≢true e)
+
+record-found : (g : Recovered) (l : List ℕ) → isDone (byRecord l) ≡ false → byRecord l ≡ answerOf (byRecords g l)
+record-found g [] e = absurd (true≢false e)
+record-found g (d ∷ ds) e = refl
+
+lock-found : (ss : List Store) (cs : Cursors) (l : List ℕ) → byLock l ≡ answerOf (byLocks (accepted ss cs) l)
+lock-found ss cs [] = refl
+lock-found ss cs (b ∷ bs) = refl
+
+module _ (mark n : ℕ) (m : Image) where
+  abbrev Unsound : List ℕ
+  Unsound = unsound n (at n m) (workers m) 0 (workers m)
+
+  abbrev Bad : List ℕ
+  Bad = badLock n (at n m) (workers m) 0 64
+
+  abbrev Good : Recovered
+  Good = accepted (plan n (at n m) (workers m)) (resumedAll n (at n m) (workers m))
+
+  pub by-header : headerOk mark n m ≡ false → Refused ImageRefused ≡ answerOf (recovery mark n m)
+  unfolding recovery
+  by-header h = rw h
+
+  pub by-record : headerOk mark n m ≡ true → isDone (byRecord Unsound) ≡ false → byRecord Unsound ≡ answerOf (recovery mark n m)
+  unfolding recovery
+  by-record h e = rw h (record-found (byLocks Good Bad) Unsound e)
+
+  pub by-lock : headerOk mark n m ≡ true → Unsound ≡ [] → byLock Bad ≡ answerOf (recovery mark n m)
+  unfolding recovery
+  by-lock h e = rw (h, e) (lock-found (plan n (at n m) (workers m)) (resumedAll n (at n m) (workers m)) Bad)
+
+  -- ---- what an answer says
+
+  private-done : (b : Bool) (g : Recovered) (us ls : List ℕ) → isDone (answerOf (cond b (byRecords (byLocks g ls) us) misshapen)) ≡ true
+      → (b ≡ true) × (us ≡ []) × (cond b (byRecords (byLocks g ls) us) misshapen ≡ g)
+  private-done true g [] [] e = (refl, refl, refl)
+  private-done true g [] (b ∷ bs) e = absurd (false≢true e)
+  private-done true g (d ∷ ds) ls e = absurd (false≢true e)
+  private-done false g us ls e = absurd (false≢true e)
+
+  pub done-is : isDone (answerOf (recovery mark n m)) ≡ true → recovery mark n m ≡ Good
+  unfolding recovery
+  done-is e = private-done (headerOk mark n m) Good Unsound Bad e .2
+
+  pub done-restorable : n ≤ 64 → isDone (answerOf (recovery mark n m)) ≡ true → Restorable n m
+  unfolding recovery
+  done-restorable few e =
+      let p = private-done (headerOk mark n m) Good Unsound Bad e in
+      restorable n m few (header-workers mark n m (p .0) .1) (p .1)
+
+-- the answer has the definition's number and value
+pub same-cause : (r : Recovered) → answerCause (answerOf r) ≡ causeOf r
+same-cause (accepted ss cs) = refl
+same-cause misshapen = refl
+same-cause (unsoundRecord d) = refl
+same-cause (wrongLock b) = refl
+
+pub same-value : (r : Recovered) → answerValue (answerOf r) ≡ valueOf r
+same-value (accepted ss cs) = refl
+same-value misshapen = refl
+same-value (unsoundRecord d) = refl
+same-value (wrongLock b) = refl
+
+-- one that is refused leaves all workers idle, and nothing to store
+pub refused-idle : (r : Recovered) → isDone (answerOf r) ≡ false → allIdle ≡ cursorsOf r
+refused-idle (accepted ss cs) e = absurd (true≢false e)
+refused-idle misshapen e = refl
+refused-idle (unsoundRecord d) e = refl
+refused-idle (wrongLock b) e = refl
+
+pub refused-repair : (n : ℕ) (m : Image) (r : Recovered) → isDone (answerOf r) ≡ false → noRepair ≡ repairBy n m r
+refused-repair n m (accepted ss cs) e = absurd (true≢false e)
+refused-repair n m misshapen e = refl
+refused-repair n m (unsoundRecord d) e = refl
+refused-repair n m (wrongLock b) e = refl
+
+-- ---- the stores
+
+private-stores : (n : ℕ) (m : Image) (g : Recovered) (us ls : List ℕ) → slots (repairBy n m g) 0 592 ≡ storesOf g
+    → slots (repairBy n m (byRecords (byLocks g ls) us)) 0 592 ≡ storesOf (byRecords (byLocks g ls) us)
+private-stores n m g [] [] h = h
+private-stores n m g [] (b ∷ bs) h = empty-slots
+private-stores n m g (d ∷ ds) ls h = empty-slots
+
+pub stores-are : (mark n : ℕ) (m : Image) → slots (repairBy n m (recovery mark n m)) 0 592 ≡ storesOf (recovery mark n m)
+unfolding recovery
+stores-are mark n m = by (headerOk mark n m) refl
+  where
+    by : (b : Bool) → headerOk mark n m ≡ b
+        → slots (repairBy n m (cond b (byRecords (byLocks (Good mark n m) (Bad mark n m)) (Unsound mark n m)) misshapen)) 0 592
+        ≡ storesOf (cond b (byRecords (byLocks (Good mark n m) (Bad mark n m)) (Unsound mark n m)) misshapen)
+    by true h = private-stores n m (Good mark n m) (Unsound mark n m) (Bad mark n m) (repair-slots n m (header-workers mark n m h .1))
+    by false h = empty-slots
+
+leaves-stores : (n left : ℕ) (m : Image) (r : Recovered) → putAll n left m (storesOf r) ≡ recoveryLeaves n left m r
+leaves-stores n left m (accepted ss cs) = refl
+leaves-stores n left m misshapen = putAll-nil n left m
+leaves-stores n left m (unsoundRecord d) = putAll-nil n left m
+leaves-stores n left m (wrongLock b) = putAll-nil n left m
+
+left-stores : (left : ℕ) (r : Recovered) → left - length (storesOf r) ≡ recoveryLeft left r
+left-stores left (accepted ss cs) = refl
+left-stores left misshapen = omega arith
+left-stores left (unsoundRecord d) = omega arith
+left-stores left (wrongLock b) = omega arith
+
+-- what the slots of the repair leave
+module _ (mark n left : ℕ) (m : Image) where
+  pub slots-leave : putAll n left m (slots (repairBy n m (recovery mark n m)) 0 592) ≡ recoveryLeaves n left m (recovery mark n m)
+  slots-leave = ap (putAll n left m) (stores-are mark n m) ∙ leaves-stores n left m (recovery mark n m)
+
+  pub slots-left : left - length (slots (repairBy n m (recovery mark n m)) 0 592) ≡ recoveryLeft left (recovery mark n m)
+  slots-left = ap (λ (ss : List Store). left - length ss) (stores-are mark n m) ∙ left-stores left (recovery mark n m)

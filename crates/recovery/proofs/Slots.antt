@@ -1,0 +1,256 @@
+-- The slots of a repair. What making one slot's store leaves is what the slot's list of stores leaves, so a loop over
+-- the slots makes the stores of all of them. And the slots of the repair of an image are the plan of the definition: the
+-- four stages one after the other, each over the workers that the image has, with empty slots for the others.
+use Prim.Native.Nat.{ℕ, suc, zero, _+_, _-_, _*_, _/_, _%_, _<_, _≤_}
+use borrow.Author.Tests.{lt-ltb, le-ltb}
+use mathlib.Core.Path.{_≡_, refl, sym, ap, _∙_}
+use mathlib.Core.Bool.{Bool, true, false, cond, not}
+use mathlib.Core.List.{List, [], _∷_, _++_, append-assoc, append-nil}
+use native.Mathlib.Omega.{arith}
+use lib.ListN.{length, getD, replicate, length-append}
+use lib.Dec.{ltb}
+use Rattle.base.proofs.Counting.{left-step, left-none}
+use Rattle.mask.specs.Mask.{has}
+use Rattle.mask.proofs.Laws.{has-none}
+use Rattle.image.specs.declared.Field.the-variants.{Count}
+use Rattle.image.specs.Place.{lock, field, Memory, Store}
+use Rattle.image.specs.Image.{Image, at, workers, putAll}
+use Rattle.image.proofs.Lists.{putAll-append}
+use Rattle.recovery.specs.declared.Repair.{Repair}
+use Rattle.recovery.specs.Recovery.{_≔_, owed, intended, unlocks, intents, withdraws, relocks, allRelocks, plan}
+use Rattle.recovery.specs.Repair.{eight, owedAt, unbegun, freedBy, withdrawnBy, repairOf, noRepair, lockSlot, intentSlot, withdrawSlot, relockSlot, slotAt, slots, slotOf, slotPut, slotLeft}
+use Rattle.recovery.proofs.Sets.{eight-at, freed-has, withdrawn-has, withdrawn-past, owed-inside, owed-outside}
+
+-- ---- one slot
+
+-- a list that is empty or one store
+abbrev pub single : List Store → Type 0
+single [] = Unit {0}
+single (s ∷ []) = Unit {0}
+single (s ∷ (t ∷ ss)) = ⊥
+
+private-single : (t : Bool) (s : Store) → single (cond t (s ∷ []) [])
+private-single true s = tt
+private-single false s = tt
+
+private-four : (p q u v : Bool) (a b c e : List Store) → single a → single b → single c → single e → single (cond p a (cond q b (cond u c (cond v e []))))
+private-four true q u v a b c e x y z w = x
+private-four false true u v a b c e x y z w = y
+private-four false false true v a b c e x y z w = z
+private-four false false false true a b c e x y z w = w
+private-four false false false false a b c e x y z w = tt
+
+pub slot-single : (r : Repair) (c : ℕ) → single (slotAt r c)
+unfolding slotAt
+slot-single r c =
+    private-four (ltb c 64) (ltb c 72) (ltb c 80) (ltb c 592) _ _ _ _ (private-single (has (r .freed) c) _) (private-single (ltb (c - 64) (r .workers)) _)
+    (private-single (has (r .withdrawn) (c - 72)) _)
+    (private-single (has (getD (r .owed) ((c - 80) / 64) 0) ((c - 80) % 64)) _)
+
+pub put-slot : (n left : ℕ) (m : Image) (ss : List Store) → single ss → slotPut left m (slotOf n ss) ≡ putAll n left m ss
+unfolding putAll
+put-slot n left m [] h = refl
+put-slot n left m (s ∷ []) h = refl
+put-slot n left m (s ∷ (t ∷ ss)) h = absurd h
+
+pub left-slot : (n left : ℕ) (ss : List Store) → single ss → slotLeft left (slotOf n ss) ≡ left - length ss
+left-slot n left [] h = omega arith
+left-slot n left (s ∷ []) h = refl
+left-slot n left (s ∷ (t ∷ ss)) h = absurd h
+
+-- ---- a loop over the slots
+
+module _ (r : Repair) where
+  pub slots-step : (c : ℕ) → c < 592 → slots r c (592 - c) ≡ slotAt r c ++ slots r (c + 1) (592 - (c + 1))
+  unfolding slots
+  slots-step c h = rw (left-step 592 c h)
+
+  pub slots-end : (c : ℕ) → 592 ≤ c → slots r c (592 - c) ≡ []
+  unfolding slots
+  slots-end c h = rw (left-none 592 c h)
+
+  module _ (n c : ℕ) (h : c < 592) where
+    pub image-step : (left left′ : ℕ) (m m′ : Image) → m′ ≡ slotPut left m (slotOf n (slotAt r c)) → left′ ≡ slotLeft left (slotOf n (slotAt r c))
+        → putAll n left′ m′ (slots r (c + 1) (592 - (c + 1))) ≡ putAll n left m (slots r c (592 - c))
+    image-step left left′ m m′ p q =
+        rw (p, q, slots-step c h, put-slot n left m (slotAt r c) (slot-single r c), left-slot n left (slotAt r c) (slot-single r c))
+        (sym (putAll-append n left m (slotAt r c) (slots r (c + 1) (592 - (c + 1)))))
+
+    pub left-step-slot : (left left′ : ℕ) → left′ ≡ slotLeft left (slotOf n (slotAt r c))
+        → left′ - length (slots r (c + 1) (592 - (c + 1))) ≡ left - length (slots r c (592 - c))
+    left-step-slot left left′ q =
+        rw (q, slots-step c h, left-slot n left (slotAt r c) (slot-single r c), length-append (slotAt r c) (slots r (c + 1) (592 - (c + 1)))) (omega arith)
+
+-- ---- the slots of a range
+
+module _ (r : Repair) where
+  slots-split : (j k c : ℕ) → slots r c (j + k) ≡ slots r c j ++ slots r (c + j) k
+  unfolding slots
+  slots-split zero k c =
+      let e : c + 0 ≡ c = omega arith in
+      let z : 0 + k ≡ k = omega arith in
+      rw (e, z)
+  slots-split (suc j) k c =
+      let e : c + suc j ≡ c + 1 + j = omega arith in
+      let z : suc j + k ≡ suc (j + k) = omega arith in
+      rw (e, z, slots-split j k (c + 1)) (sym (append-assoc (slotAt r c) (slots r (c + 1) j) (slots r (c + 1 + j) k)))
+
+  -- the same at an index and a number that are known otherwise
+  slots-at : (c j k c′ t : ℕ) → t ≡ j + k → c′ ≡ c + j → slots r c t ≡ slots r c j ++ slots r c′ k
+  slots-at c j k c′ t e f = rw (e, f) (slots-split j k c)
+
+  slots-none : (k c : ℕ) → ((i : ℕ) → i < k → slotAt r (c + i) ≡ []) → slots r c k ≡ []
+  unfolding slots
+  slots-none zero c h = refl
+  slots-none (suc k) c h =
+      let e : c + 0 ≡ c = omega arith in
+      rw (rw e at (h 0 (omega arith)))
+      (slots-none k (c + 1) (λ i l. let f : c + 1 + i ≡ c + suc i = omega arith in rw f (h (suc i) (omega arith))))
+
+  -- a range of which the first j slots are taken and the next k are empty
+  slots-part : (c j k c′ t : ℕ) → t ≡ j + k → c′ ≡ c + j → ((i : ℕ) → i < j → slotAt r (c + i) ≡ []) → slots r c t ≡ slots r c′ k
+  slots-part c j k c′ t e f h = rw (slots-at c j k c′ t e f, slots-none j c h)
+
+  slot-unlock : (c : ℕ) → c < 64 → slotAt r c ≡ lockSlot (r .freed) c 0
+  unfolding slotAt
+  slot-unlock c h = rw (lt-ltb c 64 h)
+
+  slot-intent : (c d : ℕ) → c ≡ 64 + d → d < 8 → slotAt r c ≡ intentSlot r d
+  unfolding slotAt
+  slot-intent c d q h =
+      let e : 64 + d - 64 ≡ d = omega arith in
+      rw (q, le-ltb (64 + d) 64 (omega arith), lt-ltb (64 + d) 72 (omega arith), e)
+
+  slot-withdraw : (c d : ℕ) → c ≡ 72 + d → d < 8 → slotAt r c ≡ withdrawSlot r d
+  unfolding slotAt
+  slot-withdraw c d q h =
+      let e : 72 + d - 72 ≡ d = omega arith in
+      rw (q, le-ltb (72 + d) 64 (omega arith), le-ltb (72 + d) 72 (omega arith), lt-ltb (72 + d) 80 (omega arith), e)
+
+  slot-relock : (c d b : ℕ) → c ≡ 80 + 64 * d + b → d < 8 → b < 64 → slotAt r c ≡ relockSlot r d b
+  unfolding slotAt
+  slot-relock c d b q h g =
+      let e : (c - 80) / 64 ≡ d = omega arith in
+      let f : (c - 80) % 64 ≡ b = omega arith in
+      rw (le-ltb c 64 (omega arith), le-ltb c 72 (omega arith), le-ltb c 80 (omega arith), lt-ltb c 592 (omega arith), e, f)
+
+-- ---- the four stages
+
+private-cons : (t : Bool) (s : Store) (l : List Store) → cond t (s ∷ []) [] ++ l ≡ cond t (s ∷ l) l
+private-cons true s l = refl
+private-cons false s l = refl
+
+module _ (n : ℕ) (rd : Memory) (D : ℕ) (few : D ≤ 8) where
+  abbrev R : Repair
+  R = record { workers = D; freed = freedBy rd D; withdrawn = withdrawnBy rd D; owed = eight (owedAt n rd D) }
+
+  owed-in : (d : ℕ) → d < D → getD (R .owed) d 0 ≡ owed n rd d
+  owed-in d h = eight-at (owedAt n rd D) d (omega arith) ∙ owed-inside n rd D d h
+
+  owed-out : (d : ℕ) → D ≤ d → d < 8 → getD (R .owed) d 0 ≡ 0
+  owed-out d h g = eight-at (owedAt n rd D) d g ∙ owed-outside n rd D d h
+
+  unlocks-are : (k b : ℕ) → b + k ≤ 64 → slots R b k ≡ unlocks n rd D b k
+  unfolding slots unlocks
+  unlocks-are zero b h = refl
+  unlocks-are (suc k) b h =
+      rw (slot-unlock R b (omega arith), freed-has n rd D b D, unlocks-are k (b + 1) (omega arith))
+      (private-cons (intended n rd D b D) (lock b ≔ 0) (unlocks n rd D (b + 1) k))
+
+  intents-are : (k d c : ℕ) → c ≡ 64 + d → d + k ≤ D → slots R c k ≡ intents n rd D d k
+  unfolding slots intents
+  intents-are zero d c q h = refl
+  intents-are (suc k) d c q h =
+      rw (slot-intent R c d q (omega arith), lt-ltb d D (omega arith), owed-in d (omega arith), intents-are k (d + 1) (c + 1) (omega arith) (omega arith))
+
+  withdraws-are : (k d c : ℕ) → c ≡ 72 + d → d + k ≤ D → slots R c k ≡ withdraws n rd D d k
+  unfolding slots withdraws
+  withdraws-are zero d c q h = refl
+  withdraws-are (suc k) d c q h =
+      rw (slot-withdraw R c d q (omega arith), withdrawn-has rd D d (omega arith), withdraws-are k (d + 1) (c + 1) (omega arith) (omega arith))
+      (private-cons (unbegun rd d) (field Count d ≔ 0) (withdraws n rd D (d + 1) k))
+
+  relocks-are : (k b d c : ℕ) → c ≡ 80 + 64 * d + b → d < D → b + k ≤ 64 → slots R c k ≡ relocks n rd D d b k
+  unfolding slots relocks
+  relocks-are zero b d c q h g = refl
+  relocks-are (suc k) b d c q h g =
+      rw (slot-relock R c d b q (omega arith) (omega arith), owed-in d h, relocks-are k (b + 1) d (c + 1) (omega arith) h (omega arith))
+      (private-cons (has (owed n rd d) b) (lock b ≔ d + 1) (relocks n rd D d (b + 1) k))
+
+  all-relocks-are : (k d c : ℕ) → c ≡ 80 + 64 * d → d + k ≤ D → slots R c (64 * k) ≡ allRelocks n rd D d k
+  unfolding slots allRelocks
+  all-relocks-are zero d c q h = refl
+  all-relocks-are (suc k) d c q h =
+      rw (slots-at R c 64 (64 * k) (c + 64) (64 * suc k) (omega arith) refl, relocks-are 64 0 d c (omega arith) (omega arith) (omega arith), all-relocks-are k (d + 1) (c + 64) (omega arith) (omega arith))
+
+  -- ---- and the workers that the image has not
+
+  no-intent : (c d : ℕ) → c ≡ 64 + d → D ≤ d → d < 8 → slotAt R c ≡ []
+  no-intent c d q h g = rw (slot-intent R c d q g, le-ltb d D h)
+
+  no-withdraw : (c d : ℕ) → c ≡ 72 + d → D ≤ d → d < 8 → slotAt R c ≡ []
+  no-withdraw c d q h g = rw (slot-withdraw R c d q g, withdrawn-past rd D d h)
+
+  no-relock : (c d b : ℕ) → c ≡ 80 + 64 * d + b → D ≤ d → d < 8 → b < 64 → slotAt R c ≡ []
+  no-relock c d b q h g l = rw (slot-relock R c d b q g l, owed-out d h g, has-none b)
+
+  last-stage : slots R 80 512 ≡ allRelocks n rd D 0 D
+  last-stage =
+      rw (slots-at R 80 (64 * D) (512 - 64 * D) (80 + 64 * D) 512 (omega arith) refl, all-relocks-are D 0 80 refl (omega arith))
+      (ap (λ (l : List Store). allRelocks n rd D 0 D ++ l) (slots-none R (512 - 64 * D) (80 + 64 * D) (λ i l. no-relock (80 + 64 * D + i) (D + i / 64) (i % 64) (omega arith) (omega arith) (omega arith) (omega arith)))
+      ∙ append-nil (allRelocks n rd D 0 D))
+
+  third-stage : slots R 72 520 ≡ withdraws n rd D 0 D ++ allRelocks n rd D 0 D
+  third-stage =
+      rw (
+        slots-at R 72 D (520 - D) (72 + D) 520 (omega arith) refl,
+        withdraws-are D 0 72 refl (omega arith),
+        slots-part R (72 + D) (8 - D) 512 80 (520 - D) (omega arith) (omega arith) (λ i l. no-withdraw (72 + D + i) (D + i) (omega arith) (omega arith) (omega arith)),
+        last-stage,
+      )
+
+  pub plan-slots : slots R 0 592 ≡ plan n rd D
+  unfolding plan
+  plan-slots =
+      rw (
+        slots-at R 0 64 528 64 592 refl refl,
+        unlocks-are 64 0 (omega arith),
+        slots-at R 64 D (528 - D) (64 + D) 528 (omega arith) refl,
+        intents-are D 0 64 refl (omega arith),
+        slots-part R (64 + D) (8 - D) 520 72 (528 - D) (omega arith) (omega arith) (λ i l. no-intent (64 + D + i) (D + i) (omega arith) (omega arith) (omega arith)),
+        third-stage,
+      )
+
+-- the slots of an image's repair are its plan
+pub repair-slots : (n : ℕ) (m : Image) → workers m ≤ 8 → slots (repairOf n m) 0 592 ≡ plan n (at n m) (workers m)
+unfolding repairOf
+repair-slots n m few = plan-slots n (at n m) (workers m) few
+
+-- ---- the repair that stores nothing
+
+private-zeros : (d : ℕ) → getD {A = ℕ} (replicate 8 0) d 0 ≡ 0
+private-zeros zero = refl
+private-zeros (suc zero) = refl
+private-zeros (suc (suc zero)) = refl
+private-zeros (suc (suc (suc zero))) = refl
+private-zeros (suc (suc (suc (suc zero)))) = refl
+private-zeros (suc (suc (suc (suc (suc zero))))) = refl
+private-zeros (suc (suc (suc (suc (suc (suc zero)))))) = refl
+private-zeros (suc (suc (suc (suc (suc (suc (suc zero))))))) = refl
+private-zeros (suc (suc (suc (suc (suc (suc (suc (suc d)))))))) = refl
+
+private-all : (p q u v : Bool) (a b c e : List Store) → a ≡ [] → b ≡ [] → c ≡ [] → e ≡ [] → cond p a (cond q b (cond u c (cond v e []))) ≡ []
+private-all true q u v a b c e x y z w = x
+private-all false true u v a b c e x y z w = y
+private-all false false true v a b c e x y z w = z
+private-all false false false true a b c e x y z w = w
+private-all false false false false a b c e x y z w = refl
+
+empty-slot : (c : ℕ) → slotAt noRepair c ≡ []
+unfolding slotAt noRepair
+empty-slot c =
+    private-all (ltb c 64) (ltb c 72) (ltb c 80) (ltb c 592) _ _ _ _ (rw (has-none c)) (rw (le-ltb (c - 64) 0 (omega arith))) (rw (has-none (c - 72)))
+    (rw (private-zeros ((c - 80) / 64), has-none ((c - 80) % 64)))
+
+pub empty-slots : slots noRepair 0 592 ≡ []
+empty-slots = slots-none noRepair 592 0 (λ i l. empty-slot (0 + i))

@@ -1,0 +1,73 @@
+-- `recovery::judge` meets its contract: its tests are the definition's, in the same order, each past those before it.
+use borrow.Author.Needs.{needs}
+use mathlib.Core.Path.{sym, ap, _∙_}
+use denote.Ref.{now}
+use Rattle.base.proofs.Bools.{denied, granted}
+use Rattle.image.proofs.Header.{header-workers}
+use Rattle.recovery.specs.Recover.{isDone}
+use Rattle.recovery.proofs.Answers.{record-none, by-header, by-record, by-lock}
+use Rattle.recovery.proofs.Records.{restorable}
+use Rattle.recovery.proofs.judge.Statement.{statement}
+use Rattle.recovery.proofs.judge.Tie as tie
+
+header-ok-requires : tie.Need-header-ok-requires
+header-ok-requires c κs = search needs
+
+returns : tie.Need-returns
+returns c = let A = c .before .before .before .args in by-header (A .mark) (A .own) (now (A .image)) (denied (c .before .header-ok .ensures) (c .if1 .taken))
+
+records-requires : tie.Need-records-requires
+records-requires c κs =
+    let S = c .before .before .before in
+    let A = S .args in
+    (S .pre, header-workers (A .mark) (A .own) (now (A .image)) (granted (c .before .header-ok .ensures) (c .if1 .left)) .1)
+
+done-requires : tie.Need-done-requires
+done-requires c κs = search needs
+
+returns-2 : tie.Need-returns-2
+returns-2 c =
+    let A = c .before .before .before .before .before .before .args in
+    let r = c .before .before .records in
+    r .ensures
+    ∙ by-record (A .mark) (A .own) (now (A .image)) (granted (c .before .before .before .before .header-ok .ensures) (c .before .before .before .if1 .left)) (ap isDone (sym (r .ensures)) ∙ denied (c .before .done .ensures) (c .if2 .taken))
+
+owed-sets-requires : tie.Need-owed-sets-requires
+owed-sets-requires c κs =
+    let S = c .before .before .before .before .before .before in
+    let A = S .args in
+    let r = c .before .before .records in
+    let h = granted (c .before .before .before .before .header-ok .ensures) (c .before .before .before .if1 .left) in
+    restorable (A .own) (now (A .image)) (S .pre) (header-workers (A .mark) (A .own) (now (A .image)) h .1)
+    (record-none _ (ap isDone (sym (r .ensures)) ∙ granted (c .before .done .ensures) (c .if2 .left)))
+
+slice-aggregate-locks : tie.Need-slice-aggregate-locks
+slice-aggregate-locks c = search needs
+
+locks-requires : tie.Need-locks-requires
+locks-requires c κs =
+    let S = c .before .before .before .before .before .before .before .before in
+    let A = S .args in
+    (S .pre, header-workers (A .mark) (A .own) (now (A .image)) (granted (c .before .before .before .before .before .before .header-ok .ensures) (c .before .before .before .before .before .if1 .left)) .1, c .before .owed-sets .ensures)
+
+returns-3 : tie.Need-returns-3
+returns-3 c =
+    let A = c .before .before .before .before .before .before .before .before .before .args in
+    let r = c .before .before .before .before .before .records in
+    c .locks .ensures
+    ∙ by-lock (A .mark) (A .own) (now (A .image)) (granted (c .before .before .before .before .before .before .before .header-ok .ensures) (c .before .before .before .before .before .before .if1 .left))
+    (record-none _ (ap isDone (sym (r .ensures)) ∙ granted (c .before .before .before .before .done .ensures) (c .before .before .before .if2 .left)))
+
+pub judge-spec : {M : Type 1} → statement M
+judge-spec =
+    tie.close
+    (tie.spec
+    header-ok-requires
+    returns
+    records-requires
+    done-requires
+    returns-2
+    owed-sets-requires
+    slice-aggregate-locks
+    locks-requires
+    returns-3)

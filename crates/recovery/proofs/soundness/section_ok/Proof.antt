@@ -1,0 +1,86 @@
+-- `recovery::soundness::section_ok` meets its contract: the definition's tests in their order; a count past 64 does not
+-- pass.
+use borrow.Author.Tests.{eq-eqb, ne-eqb, lt-leb, le-leb}
+use borrow.Author.Needs.{needs}
+use denote.Ref.{now}
+use Rattle.base.proofs.Bools.{denied, granted}
+use Rattle.image.specs.Image.{at}
+use Rattle.engine.specs.Turn.{codeIn}
+use Rattle.recovery.specs.Recovery.{sectionOk}
+use Rattle.recovery.proofs.Records.{check-long}
+use Rattle.recovery.proofs.soundness.section_ok.Statement.{statement}
+use Rattle.recovery.proofs.soundness.section_ok.Tie as tie
+
+read-field-requires : tie.Need-read-field-requires
+read-field-requires c κs = search needs
+
+read-field-requires-2 : tie.Need-read-field-requires-2
+read-field-requires-2 c κs = search needs
+
+returns : tie.Need-returns
+unfolding sectionOk
+returns c = rw (← c .before .before .read-field .ensures, eq-eqb (c .before .before .read-field .result) 0 (c .before .if1 .taken), ← c .read-field2 .ensures)
+
+returns-2 : tie.Need-returns-2
+unfolding sectionOk
+returns-2 c =
+    let A = c .before .before .before .before .args in
+    let k = c .before .before .read-field in
+    rw (← k .ensures, ne-eqb (k .result) 0 (c .before .if1 .left), check-long (A .own) (k .result) (codeIn (A .own) (at (A .own) (now (A .image))) (A .d)) (c .if2 .taken))
+
+section-passes-requires : tie.Need-section-passes-requires
+section-passes-requires c κs = search needs
+
+returns-3 : tie.Need-returns-3
+unfolding sectionOk
+returns-3 c =
+    let k = c .before .before .before .before .read-field in
+    rw (← k .ensures, ne-eqb (k .result) 0 (c .before .before .before .if1 .left), denied (c .before .section-passes .ensures) (c .if3 .taken))
+
+read-field-requires-3 : tie.Need-read-field-requires-3
+read-field-requires-3 c κs = search needs
+
+returns-4 : tie.Need-returns-4
+unfolding sectionOk
+returns-4 c =
+    let k = c .before .before .before .before .before .before .read-field in
+    let number = c .before .read-field3 in
+    rw (
+      ← k .ensures,
+      ne-eqb (k .result) 0 (c .before .before .before .before .before .if1 .left),
+      granted (c .before .before .before .section-passes .ensures) (c .before .before .if3 .left),
+      ← number .ensures,
+      lt-leb 1 (number .result) (c .if4 .taken),
+    )
+
+read-field-requires-4 : tie.Need-read-field-requires-4
+read-field-requires-4 c κs = search needs
+
+returns-5 : tie.Need-returns-5
+unfolding sectionOk
+returns-5 c =
+    let k = c .before .before .before .before .before .before .before .read-field in
+    let number = c .before .before .read-field3 in
+    rw (
+      ← k .ensures,
+      ne-eqb (k .result) 0 (c .before .before .before .before .before .before .if1 .left),
+      granted (c .before .before .before .before .section-passes .ensures) (c .before .before .before .if3 .left),
+      ← number .ensures,
+      le-leb 1 (number .result) (c .before .if4 .left),
+      ← c .read-field4 .ensures,
+    )
+
+pub section-ok-spec : {M : Type 1} → statement M
+section-ok-spec =
+    tie.close
+    (tie.spec
+    read-field-requires
+    read-field-requires-2
+    returns
+    returns-2
+    section-passes-requires
+    returns-3
+    read-field-requires-3
+    returns-4
+    read-field-requires-4
+    returns-5)

@@ -1,0 +1,12 @@
+-- `recovery::stock::no_repair` meets its contract.
+use mathlib.Core.Path.{refl}
+use Rattle.recovery.specs.Repair.{noRepair}
+use Rattle.recovery.proofs.stock.no_repair.Statement.{statement}
+use Rattle.recovery.proofs.stock.no_repair.Tie as tie
+
+returns : tie.Need-returns
+unfolding noRepair
+returns c = refl
+
+pub no-repair-spec : {M : Type 1} → statement M
+no-repair-spec = tie.close (tie.spec returns)

@@ -1,0 +1,92 @@
+-- The call: what it answers and leaves, by what the definition of recovery says of the image.
+use Prim.Native.Nat.{ℕ, _-_}
+use mathlib.Core.Bool.{Bool, true, false}
+use mathlib.Core.List.{List, [], _∷_}
+use lib.ListN.{length}
+use Rattle.image.specs.Place.{Store}
+use Rattle.image.specs.Image.{Image, putAll}
+use Rattle.engine.specs.declared.Cursors.{Cursors}
+use Rattle.engine.specs.Cursor.{allIdle}
+use Rattle.recovery.specs.declared.Repair.{Repair}
+use Rattle.recovery.specs.declared.Refusal.{Refusal}
+use Rattle.recovery.specs.declared.Refusal.the-variants.{Image as ImageRefused, Record, Lock}
+use Rattle.recovery.specs.declared.Answer.{Answer}
+use Rattle.recovery.specs.declared.Answer.the-variants.{Done, Refused}
+use Rattle.recovery.specs.Recovery.{Recovered, accepted, misshapen, unsoundRecord, wrongLock}
+use Rattle.recovery.specs.Repair.{repairOf, noRepair}
+
+-- ---- document 01's number of a refusal, and the worker or lock that goes with it; 0 where there is none
+
+abbrev pub causeOf : Refusal → ℕ
+causeOf ImageRefused = 10
+causeOf (Record d) = 12
+causeOf (Lock b) = 13
+
+abbrev pub valueOf : Refusal → ℕ
+valueOf ImageRefused = 0
+valueOf (Record d) = d
+valueOf (Lock b) = b
+
+-- ---- answers
+
+abbrev pub isDone : Answer → Bool
+isDone Done = true
+isDone (Refused r) = false
+
+-- the cause of an answer, and its value; 0 where it is done
+abbrev pub answerCause : Answer → ℕ
+answerCause Done = 0
+answerCause (Refused r) = causeOf r
+
+abbrev pub answerValue : Answer → ℕ
+answerValue Done = 0
+answerValue (Refused r) = valueOf r
+
+-- by the first record that is not sound
+abbrev pub byRecord : List ℕ → Answer
+byRecord [] = Done
+byRecord (d ∷ ds) = Refused (Record d)
+
+-- by the first lock that is wrong
+abbrev pub byLock : List ℕ → Answer
+byLock [] = Done
+byLock (b ∷ bs) = Refused (Lock b)
+
+abbrev pub answerOf : Recovered → Answer
+answerOf (accepted ss cs) = Done
+answerOf misshapen = Refused ImageRefused
+answerOf (unsoundRecord d) = Refused (Record d)
+answerOf (wrongLock b) = Refused (Lock b)
+
+-- ---- what it leaves: an accepted one makes its stores, while stores are left, and resumes; any other makes none, and all
+-- workers are idle
+
+abbrev pub cursorsOf : Recovered → Cursors
+cursorsOf (accepted ss cs) = cs
+cursorsOf misshapen = allIdle
+cursorsOf (unsoundRecord d) = allIdle
+cursorsOf (wrongLock b) = allIdle
+
+abbrev pub repairBy : ℕ → Image → Recovered → Repair
+repairBy n m (accepted ss cs) = repairOf n m
+repairBy n m misshapen = noRepair
+repairBy n m (unsoundRecord d) = noRepair
+repairBy n m (wrongLock b) = noRepair
+
+abbrev pub storesOf : Recovered → List Store
+storesOf (accepted ss cs) = ss
+storesOf misshapen = []
+storesOf (unsoundRecord d) = []
+storesOf (wrongLock b) = []
+
+abbrev pub recoveryLeaves : ℕ → ℕ → Image → Recovered → Image
+recoveryLeaves n left m (accepted ss cs) = putAll n left m ss
+recoveryLeaves n left m misshapen = m
+recoveryLeaves n left m (unsoundRecord d) = m
+recoveryLeaves n left m (wrongLock b) = m
+
+abbrev pub recoveryLeft : ℕ → Recovered → ℕ
+recoveryLeft left (accepted ss cs) = left - length ss
+recoveryLeft left misshapen = left
+recoveryLeft left (unsoundRecord d) = left
+recoveryLeft left (wrongLock b) = left

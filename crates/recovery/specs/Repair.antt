@@ -1,0 +1,133 @@
+-- What an accepted recovery stores, as the code has it: the sets and owed sets that decide it, worked out before the first
+-- store (`repairOf`), and the 592 slots of a repair, each a store or empty, in document 01's order (`slots`).
+use Prim.Native.Nat.{ℕ, suc, zero, _+_, _-_, _/_, _%_, _<_, _≤_}
+use mathlib.Core.Path.{_≡_}
+use mathlib.Core.Bool.{Bool, true, cond, _&&_, not}
+use mathlib.Core.List.{List, [], _∷_, _++_}
+use lib.Bits.{bitOr}
+use lib.ListN.{length, getD, replicate}
+use lib.Dec.{ltb, eqb}
+use Rattle.mask.specs.Mask.{has, with}
+use Rattle.image.specs.declared.Field.the-variants.{Count, Pc, Intent, Owned}
+use Rattle.image.specs.Place.{lock, field, Memory, Store}
+use Rattle.image.specs.Image.{Image, indexOf, at, workers, put}
+use Rattle.section.specs.declared.Op.{Op}
+use Rattle.section.specs.declared.Op.the-variants.{Acquire, Release, Assign, Jump, Finish, Unknown}
+use Rattle.section.specs.Check.{inRange}
+use Rattle.engine.specs.Turn.{codeIn, activeAddr, activeVal}
+use Rattle.recovery.specs.declared.Repair.{Repair}
+use Rattle.recovery.specs.declared.Slot.{Slot}
+use Rattle.recovery.specs.declared.Slot.the-variants.{Empty, Store as Filled}
+use Rattle.recovery.specs.Recovery.{_≔_, namedStep, owed}
+
+-- ---- what the functions that read a begun section ask
+
+-- the pc names a step of a section whose instructions are in their ranges
+pub record Begun (n : ℕ) (rd : Memory) (d : ℕ) : Type 0 where
+  pub some : 1 ≤ rd (field Pc d) % 9223372036854775808
+  pub named : namedStep n rd d < rd (field Count d)
+  pub most : rd (field Count d) ≤ 64
+  pub ranges : (j : ℕ) → j < rd (field Count d) → inRange n (codeIn n rd d j) ≡ true
+
+-- worker d has not begun a section, or one that can be read
+abbrev pub Legible : ℕ → Memory → ℕ → Type 0
+Legible n rd d = (rd (field Pc d) ≡ 0 → ⊥) → Begun n rd d
+
+-- every worker's record can be read
+pub record Restorable (n : ℕ) (m : Image) : Type 0 where
+  pub few : n ≤ 64
+  pub most : workers m ≤ 8
+  pub legible : (d : ℕ) → d < workers m → Legible n (at n m) d
+
+-- ---- the sets
+
+-- the active log entry is for worker d's owned word, with this set
+abbrev pub setLogged : ℕ → Memory → ℕ → ℕ → Bool
+setLogged n rd d set = eqb (rd (field (activeAddr n rd d) d)) (indexOf n (field Owned d)) && eqb (rd (field (activeVal n rd d) d)) set
+
+-- an instruction's owed set, from the held set after it and the set owned
+abbrev pub owedOf : Op → ℕ → ℕ → ℕ
+owedOf (Acquire a) next owned = next
+owedOf (Release a) next owned = owned
+owedOf (Assign a e) next owned = owned
+owedOf (Jump a b) next owned = owned
+owedOf Finish next owned = owned
+owedOf Unknown next owned = owned
+
+-- worker d's owed set; empty for one that the image has not
+abbrev pub owedAt : ℕ → Memory → ℕ → ℕ → ℕ
+owedAt n rd D d = cond (ltb d D) (owed n rd d) 0
+
+-- how many of the first k sets of a list have lock b
+unfoldable pub claimantsIn : List ℕ → ℕ → ℕ → ℕ
+claimantsIn sets b zero = 0
+claimantsIn sets b (suc k) = cond (has (getD sets k 0) b) 1 0 + claimantsIn sets b k
+
+-- worker d has a section that is not begun
+abbrev pub unbegun : Memory → ℕ → Bool
+unbegun rd d = eqb (rd (field Pc d)) 0 && not (eqb (rd (field Count d)) 0)
+
+-- the locks that the first k workers intend
+unfoldable pub freedBy : Memory → ℕ → ℕ
+freedBy rd zero = 0
+freedBy rd (suc k) = bitOr (freedBy rd k) (rd (field Intent k))
+
+-- of the first k workers those that are withdrawn, as a set
+unfoldable pub withdrawnBy : Memory → ℕ → ℕ
+withdrawnBy rd zero = 0
+withdrawnBy rd (suc k) = cond (unbegun rd k) (with (withdrawnBy rd k) k) (withdrawnBy rd k)
+
+-- ---- the repair
+
+abbrev pub eight : (ℕ → ℕ) → List ℕ
+eight f = f 0 ∷ f 1 ∷ f 2 ∷ f 3 ∷ f 4 ∷ f 5 ∷ f 6 ∷ f 7 ∷ []
+
+unfoldable pub repairOf : ℕ → Image → Repair
+repairOf n m =
+    record { workers = workers m; freed = freedBy (at n m) (workers m); withdrawn = withdrawnBy (at n m) (workers m); owed = eight (owedAt n (at n m) (workers m)) }
+
+-- the repair that stores nothing
+unfoldable pub noRepair : Repair
+noRepair = record { workers = 0; freed = 0; withdrawn = 0; owed = replicate 8 0 }
+
+-- ---- its slots
+
+-- a store of v in lock b's owner word, where b is in the set
+abbrev pub lockSlot : ℕ → ℕ → ℕ → List Store
+lockSlot set b v = cond (has set b) ((lock b ≔ v) ∷ []) []
+
+abbrev pub intentSlot : Repair → ℕ → List Store
+intentSlot r d = cond (ltb d (r .workers)) ((field Intent d ≔ getD (r .owed) d 0) ∷ []) []
+
+abbrev pub withdrawSlot : Repair → ℕ → List Store
+withdrawSlot r d = cond (has (r .withdrawn) d) ((field Count d ≔ 0) ∷ []) []
+
+abbrev pub relockSlot : Repair → ℕ → ℕ → List Store
+relockSlot r d b = lockSlot (getD (r .owed) d 0) b (d + 1)
+
+-- 64 unlocks, 8 intents, 8 withdrawals, 8 times 64 relocks
+unfoldable pub slotAt : Repair → ℕ → List Store
+slotAt r c =
+    cond (ltb c 64) (lockSlot (r .freed) c 0)
+    (cond (ltb c 72) (intentSlot r (c - 64))
+    (cond (ltb c 80) (withdrawSlot r (c - 72))
+    (cond (ltb c 592) (relockSlot r ((c - 80) / 64) ((c - 80) % 64)) [])))
+
+-- the stores of k slots from slot c on
+unfoldable pub slots : Repair → ℕ → ℕ → List Store
+slots r c zero = []
+slots r c (suc k) = slotAt r c ++ slots r (c + 1) k
+
+-- how the code says a slot
+abbrev pub slotOf : ℕ → List Store → Slot
+slotOf n [] = Empty
+slotOf n (s ∷ ss) = Filled (indexOf n (s .place)) (s .value)
+
+-- what making its store leaves
+abbrev pub slotPut : ℕ → Image → Slot → Image
+slotPut left m Empty = m
+slotPut left m (Filled i v) = put left m i v
+
+abbrev pub slotLeft : ℕ → Slot → ℕ
+slotLeft left Empty = left
+slotLeft left (Filled i v) = left - 1

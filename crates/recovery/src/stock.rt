@@ -1,0 +1,155 @@
+// What a recovery needs of an image before its first store: the sets of its repair, and the cursors.
+use crate::Repair;
+use crate::begun;
+use engine::Cursors;
+use image::Field;
+ghost use mathlib.Core.Path.{_≡_};
+ghost use mathlib.Core.Bool.{cond};
+ghost use Rattle.mask.specs.Mask.{with};
+ghost use Rattle.image.specs.Image.{at, workers, Inside};
+ghost use Rattle.engine.specs.Cursor.{stepNo, turnNo, allIdle};
+ghost use Rattle.recovery.specs.Recovery.{resumedAt, resumedAll};
+ghost use Rattle.recovery.specs.Repair.{Restorable, eight, owedAt, unbegun, freedBy, withdrawnBy, repairOf, noRepair};
+
+// Worker d's owed set; empty for one that the image has not.
+fn owed_at(image: &[u64], d: usize, own: usize) -> u64
+    requires { ⌜ Restorable own (now image) ⌝ }
+    ensures { λ r. ⌜ r ≡ owedAt own (at own (now (image .entry))) (workers (now (image .entry))) d ⌝ }
+{
+    if image::workers(image) <= d as u64 {
+        return 0;
+    }
+    begun::owed(image, d, own)
+}
+
+// The owed sets of all workers.
+pub fn owed_sets(image: &[u64], own: usize) -> [u64; 8]
+    requires { ⌜ Restorable own (now image) ⌝ }
+    ensures { λ r. ⌜ r ≡ eight (owedAt own (at own (now (image .entry))) (workers (now (image .entry)))) ⌝ }
+{
+    let mut sets = [0u64; 8];
+    let mut d: usize = 0;
+    while d < 8 {
+        sets[d] = owed_at(image, d, own);
+        d += 1;
+    }
+    sets
+}
+
+// The step at which worker d goes on; 0 for one that the image has not.
+fn step_at(image: &[u64], d: usize, own: usize) -> u8
+    requires { ⌜ Restorable own (now image) ⌝ }
+    ensures { λ r. ⌜ r ≡ stepNo (resumedAt own (at own (now (image .entry))) (workers (now (image .entry))) d) ⌝ }
+{
+    if image::workers(image) <= d as u64 {
+        return 0;
+    }
+    begun::resumed_step(image, d, own)
+}
+
+// The turn; 255, idle, for one that the image has not.
+fn turn_at(image: &[u64], d: usize, own: usize) -> u8
+    requires { ⌜ Restorable own (now image) ⌝ }
+    ensures { λ r. ⌜ r ≡ turnNo (resumedAt own (at own (now (image .entry))) (workers (now (image .entry))) d) ⌝ }
+{
+    if image::workers(image) <= d as u64 {
+        return 255;
+    }
+    begun::resumed_turn(image, d, own)
+}
+
+// Where all workers go on.
+pub fn resumed_all(image: &[u64], own: usize) -> Cursors
+    requires { ⌜ Restorable own (now image) ⌝ }
+    ensures { λ r. ⌜ r ≡ resumedAll own (at own (now (image .entry))) (workers (now (image .entry))) ⌝ }
+{
+    let mut step = [0u8; 8];
+    let mut turn = [255u8; 8];
+    let mut d: usize = 0;
+    while d < 8 {
+        step[d] = step_at(image, d, own);
+        turn[d] = turn_at(image, d, own);
+        d += 1;
+    }
+    Cursors {
+        step: step,
+        turn: turn,
+    }
+}
+
+// The locks that any worker intends.
+fn freed(image: &[u64], own: usize) -> u64
+    requires { ⌜ Restorable own (now image) ⌝ }
+    ensures { λ r. ⌜ r ≡ freedBy (at own (now (image .entry))) (workers (now (image .entry))) ⌝ }
+{
+    let n = image::workers(image) as usize;
+    let mut set: u64 = 0;
+    let mut d: usize = 0;
+    while d < n {
+        set = set | image::read_field(image, Field::Intent, d, own);
+        d += 1;
+    }
+    set
+}
+
+// Whether worker d has a section that is not begun.
+fn unbegun(image: &[u64], d: usize, own: usize) -> bool
+    requires { ⌜ Inside own (now image) d ⌝ }
+    ensures { λ r. ⌜ r ≡ unbegun (at own (now (image .entry))) d ⌝ }
+{
+    if image::read_field(image, Field::Pc, d, own) != 0 {
+        return false;
+    }
+    image::read_field(image, Field::Count, d, own) != 0
+}
+
+// A set of workers, with worker d where its section is withdrawn.
+fn with_withdrawn(image: &[u64], set: u64, d: usize, own: usize) -> u64
+    requires { ⌜ Inside own (now image) d ⌝ }
+    ensures { λ r. ⌜ r ≡ cond (unbegun (at own (now (image .entry))) d) (with set d) set ⌝ }
+{
+    if !unbegun(image, d, own) {
+        return set;
+    }
+    mask::with(set, d as u64)
+}
+
+// The workers whose sections are withdrawn.
+fn withdrawn(image: &[u64], own: usize) -> u64
+    requires { ⌜ Restorable own (now image) ⌝ }
+    ensures { λ r. ⌜ r ≡ withdrawnBy (at own (now (image .entry))) (workers (now (image .entry))) ⌝ }
+{
+    let n = image::workers(image) as usize;
+    let mut set: u64 = 0;
+    let mut d: usize = 0;
+    while d < n {
+        set = with_withdrawn(image, set, d, own);
+        d += 1;
+    }
+    set
+}
+
+// The repair.
+pub fn repair(image: &[u64], own: usize) -> Repair
+    requires { ⌜ Restorable own (now image) ⌝ }
+    ensures { λ r. ⌜ r ≡ repairOf own (now (image .entry)) ⌝ }
+{
+    Repair {
+        workers: image::workers(image),
+        freed: freed(image, own),
+        withdrawn: withdrawn(image, own),
+        owed: owed_sets(image, own),
+    }
+}
+
+// The repair that stores nothing.
+pub fn no_repair() -> Repair
+    ensures { λ r. ⌜ r ≡ noRepair ⌝ }
+{
+    Repair {
+        workers: 0,
+        freed: 0,
+        withdrawn: 0,
+        owed: [0; 8],
+    }
+}
