@@ -1,6 +1,6 @@
 -- The claims speak of the very effects that the functions' contracts speak of: a traced call leaves the world that the engine's
--- definitions leave. For a hand-in, a turn and a recovery that is their definition; a run is worked out turn by turn here, and
--- agrees with the run of the contract.
+-- and the recovery's definitions leave. For a hand-in, a turn and a recovery by definition; a run is worked out turn by turn
+-- here, and agrees with the run of the contract.
 use Prim.Native.Nat.{ℕ, suc, zero, _+_}
 use mathlib.Core.Path.{_≡_, refl, ap}
 use mathlib.Core.Bool.{Bool, true, false, cond}
@@ -8,10 +8,12 @@ use mathlib.Core.List.{List}
 use Rattle.tally.specs.Tally.{none}
 use Rattle.image.specs.Image.{workers, headerOk}
 use Rattle.engine.specs.Turn.{Outcome, stored, jumped, unheld, waiting, resting, refused}
-use Rattle.engine.specs.World.{World, leaves, outcomeAt, outcome}
+use Rattle.engine.specs.World.{World, world, leaves, outcomeAt, outcome}
 use Rattle.engine.specs.Submit.{submitAnswer, submitLeaves}
 use Rattle.engine.specs.Run.{anyOpen, Counting, counting, Ran, ran, Sweep, turned, swept, sweep, afterSweep, roundsOf, runOf}
-use Rattle.claims.specs.Calls.{Traced, turnedAt, refuses, round, rounds, ranBy, call, submits, turns, runs}
+use Rattle.recovery.specs.Recovery.{Recovered, accepted, misshapen, unsoundRecord, wrongLock, recovery}
+use Rattle.recovery.specs.Recover.{cursorsOf, recoveryLeaves, recoveryLeft}
+use Rattle.claims.specs.Calls.{Traced, turnedAt, refuses, round, rounds, ranBy, call, recoveredBy, submits, turns, runs, recovers}
 
 -- one turn
 pub turn-agrees : (mark n d : ℕ) (w : Traced) → call mark n (turns d) w .world ≡ leaves n (w .world) d (outcome mark n (w .world) d)
@@ -21,6 +23,20 @@ turn-agrees mark n d w = refl
 pub submit-agrees : (mark n d k : ℕ) (args ws : List ℕ) (w : Traced) → call mark n (submits d k args ws) w .world ≡ submitLeaves n (w .world) d k args ws (submitAnswer mark n (w .world) d k ws)
 unfolding call
 submit-agrees mark n d k args ws w = refl
+
+-- what `recovery::recover` leaves
+abbrev recoveredWorld : ℕ → World → Recovered → World
+recoveredWorld n w r = world (recoveryLeaves n (w .left) (w .image) r) (cursorsOf r) (recoveryLeft (w .left) r)
+
+pub recover-agrees : (mark n : ℕ) (w : Traced) → call mark n recovers w .world ≡ recoveredWorld n (w .world) (recovery mark n (w .world .image))
+unfolding call
+recover-agrees mark n w = by (recovery mark n (w .world .image))
+  where
+    by : (r : Recovered) → recoveredBy mark n w r .world ≡ recoveredWorld n (w .world) r
+    by (accepted ss cs) = refl
+    by misshapen = refl
+    by (unsoundRecord d) = refl
+    by (wrongLock b) = refl
 
 module _ (mark n : ℕ) where
   swept-agrees :
