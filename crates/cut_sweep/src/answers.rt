@@ -1,0 +1,72 @@
+// What a call answers, in numbers.
+use engine::Answer;
+use engine::End;
+use engine::Refusal;
+use engine::Submitted;
+
+// Tag 0 done or taken, 1 stored, 2 passed, 3 waiting, 4 idle, 5 all idle, 6 spent, 7 refused; document 01's cause, 0 where
+// it is not refused; and the step, worker, lock or index that goes with it, 0 where there is none.
+pub struct Told {
+    pub tag: u64,
+    pub cause: u64,
+    pub value: u64,
+}
+
+pub fn plain(tag: u64, value: u64) -> Told {
+    Told {
+        tag: tag,
+        cause: 0,
+        value: value,
+    }
+}
+
+pub fn no(cause: u64, value: u64) -> Told {
+    Told {
+        tag: 7,
+        cause: cause,
+        value: value,
+    }
+}
+
+fn refused(r: Refusal) -> Told {
+    match r {
+        Refusal::Worker => no(1, 0),
+        Refusal::Busy => no(2, 0),
+        Refusal::Number => no(3, 0),
+        Refusal::Section(v) => no(section::cause(v), section::step(v) as u64),
+        Refusal::Image => no(10, 0),
+        Refusal::Cursor(d) => no(11, d as u64),
+    }
+}
+
+pub fn submitted(a: Submitted) -> Told {
+    match a {
+        Submitted::Taken => plain(0, 0),
+        Submitted::Refused(r) => refused(r),
+    }
+}
+
+pub fn turned(a: Answer) -> Told {
+    match a {
+        Answer::Stored(at) => plain(1, at as u64),
+        Answer::Passed => plain(2, 0),
+        Answer::Waiting(b) => plain(3, b),
+        Answer::Idle => plain(4, 0),
+        Answer::Refused(r) => refused(r),
+    }
+}
+
+pub fn ran(e: End) -> Told {
+    match e {
+        End::AllIdle => plain(5, 0),
+        End::Spent => plain(6, 0),
+        End::Halted(r) => refused(r),
+    }
+}
+
+pub fn recovered(a: recovery::Answer) -> Told {
+    match a {
+        recovery::Answer::Done => plain(0, 0),
+        recovery::Answer::Refused(r) => no(recovery::cause(r), recovery::value(r)),
+    }
+}
