@@ -1,5 +1,5 @@
 -- The claims speak of the very effects that the functions' contracts speak of: a traced call leaves the world that the engine's
--- and the recovery's definitions leave. For a hand-in, a turn and a recovery by definition; a run is worked out turn by turn
+-- and the recovery's definitions leave. For a submit, a turn and a recovery by definition; a run is worked out turn by turn
 -- here, and agrees with the run of the contract.
 use Prim.Native.Nat.{ℕ, suc, zero, _+_}
 use mathlib.Core.Path.{_≡_, refl, ap}

@@ -36,7 +36,7 @@ use Rattle.claims.proofs.Unseen.{unseen-mirrors, plan-unseen, submissio
 use Rattle.claims.proofs.Held.{Reached, Running, few}
 use Rattle.claims.proofs.LiveTurn.{live-cursors}
 use Rattle.claims.proofs.Cursors.{full-set, cursors-placed}
-use Rattle.claims.proofs.Laid.{handedTo}
+use Rattle.claims.proofs.Laid.{submittedTo}
 
 -- ---- what an image is worth after a cut, whatever the cursors
 
@@ -156,5 +156,5 @@ module _ (mark n D : ℕ) (cells : List ℕ) (w : Traced) (d k : ℕ) (args ws :
         reached = submitted-reached left;
         full = full-set (w .world .cursors) d 0 0 (r .full);
         locks = but (r .locks) d 0;
-        live = rw e (live-cursors n D (handedTo n d k args ws rd) _ (cursorAt (placed (w .world .cursors) d (on 0 0))) _ _ _ (cursors-placed D (w .world .cursors) d (on 0 0) (r .full) (few mark n D cells w (r .reached)) dl (λ q. omega arith)) L);
+        live = rw e (live-cursors n D (submittedTo n d k args ws rd) _ (cursorAt (placed (w .world .cursors) d (on 0 0))) _ _ _ (cursors-placed D (w .world .cursors) d (on 0 0) (r .full) (few mark n D cells w (r .reached)) dl (λ q. omega arith)) L);
       }

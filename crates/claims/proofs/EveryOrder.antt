@@ -22,7 +22,7 @@ use Rattle.claims.specs.Reference.{Job, State, Given, start, advance, fo
 use Rattle.claims.specs.Calls.{Traced, Move, play, from, callable, ofMove, machine}
 use Rattle.claims.specs.Claims.{EveryOrderHad, concat, ofWorker, callsOf, Rested, Had, admissible}
 use Rattle.claims.proofs.OrderLevel.{Stand, Even}
-use Rattle.claims.proofs.OrderHandIn.{Able}
+use Rattle.claims.proofs.OrderSubmit.{Able}
 use Rattle.claims.proofs.OrderStep.{some-same, none-some}
 use Rattle.claims.proofs.OrderEntry.{EntryHad, entry}
 use Rattle.claims.proofs.OrderFeed.{rested-even, admitted-able}
@@ -175,7 +175,7 @@ orders-had mark n least most m rested gs admitted room order final followed ende
       by-worker = B .by-worker;
       words = B .words;
       follows = B .follows;
-      handed = λ d l. sym (append-nil (ofWorker d (play mark n (concat (B .blocks)) (from m) .trace .taken))) ∙ (rw (end d l .1) at (B .kept d));
+      entered = λ d l. sym (append-nil (ofWorker d (play mark n (concat (B .blocks)) (from m) .trace .taken))) ∙ (rw (end d l .1) at (B .kept d));
       rests = λ d l. end d l .0;
     }
 

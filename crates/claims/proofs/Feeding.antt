@@ -72,7 +72,7 @@ pub initial-cells : (n D : ℕ) (cells : List ℕ) (gs : List Given) → initial
 unfolding initial
 initial-cells n D cells gs = feed-cells n (state cells (replicate D [])) gs
 
--- a worker's queue is its sections, as they were handed in
+-- a worker's queue is its sections, as they were submitted
 pub initial-at : (n D : ℕ) (cells : List ℕ) (gs : List Given) (d : ℕ) → d < D → getD (initial n D cells gs .queues) d [] ≡ map (start n) (ofWorker d gs)
 unfolding initial
 initial-at n D cells gs d l =

@@ -30,7 +30,7 @@ use Rattle.claims.specs.Reference.{Given}
 use Rattle.claims.proofs.Invariant.{opAt, heldAt, Sectioned, Nearing, Due, Jumps, stay, leap, Phase, resting, fresh, due, unlocking, unlocked, between, ended}
 use Rattle.claims.proofs.Sets.{Within, within-refl, within-with, within-none}
 use Rattle.claims.proofs.Fields.{KeepsNamed, spare-addr-kept, spare-val-kept}
-use Rattle.claims.proofs.Origins.{op-kept, held-kept, value-kept, sectioned-kept, named-kept, handed-kept}
+use Rattle.claims.proofs.Origins.{op-kept, held-kept, value-kept, sectioned-kept, named-kept, entered-kept}
 
 -- the memories agree on what worker e, which has these locks, looks at
 pub record Agree (rd rd′ : Memory) (e locks : ℕ) : Type 0 where
@@ -176,7 +176,7 @@ phase-same n rd rd′ e g c locks j (fresh t l s h p o m) A =
     nearing-same n rd rd′ e l A 0 t 0 (opAt n rd e 0) (within-none l)
     (λ a z q. (subst (λ (h : ℕ). coveredIn h z ≡ true) (held-zero (codeIn n rd e)) (s .valid .operands 0 a z (some-steps (s .valid)) q), expr-range n (codeIn n rd e 0) a z (s .valid .ranges 0 (some-steps (s .valid))) q)) m
     in
-    fresh t l (sectioned-same n rd rd′ e l A s) (handed-kept n rd rd′ e (keeps n rd rd′ e l A) (A .owns) g h) (A .fields Pc ∙ p) (A .fields Owned ∙ o)
+    fresh t l (sectioned-same n rd rd′ e l A s) (entered-kept n rd rd′ e (keeps n rd rd′ e l A) (A .owns) g h) (A .fields Pc ∙ p) (A .fields Owned ∙ o)
     (subst (Nearing n rd′ e 0 t 0 l) (sym (op-kept n rd rd′ e (keeps n rd rd′ e l A) 0)) m′)
 phase-same n rd rd′ e g c locks j (due s l k m q) A =
     subst (λ (x : Op). Phase n rd′ e g (on s (targetTurn n rd′ e x)) l 0) (op-kept n rd rd′ e (keeps n rd rd′ e l A) s)

@@ -93,8 +93,8 @@ module _ (n : ℕ) (rd : Memory) (d : ℕ) where
     stay : Jumps i 0 i
     leap : (j k a b : ℕ) → Jumps i j k → k < rd (field Count d) → opAt k ≡ Jump a b → Jumps i (suc j) (cond (eqb (wordIn n rd d a) 0) b (suc k))
 
-  -- the record holds the section as it was handed in
-  pub record Handed (g : Given) : Type 0 where
+  -- the record holds the section as it was submitted
+  pub record Entered (g : Given) : Type 0 where
     pub by : g .worker ≡ d
     pub code : (i : ℕ) → i < rd (field Count d) → getD (g .code) i 0 ≡ rd (step d i)
     pub size : length (g .args ++ replicate (n - 8) 0) ≡ n
@@ -106,7 +106,7 @@ module _ (n : ℕ) (rd : Memory) (d : ℕ) where
     resting : rd (field Count d) ≡ 0 → rd (field Pc d) ≡ 0 → rd (field Intent d) ≡ 0 → rd (field Owned d) ≡ 0 → Phase g idle 0 0
     -- a section that is not begun
     fresh :
-        (t locks : ℕ) → Sectioned → Handed g → rd (field Pc d) ≡ 0 → rd (field Owned d) ≡ 0 → Nearing 0 t 0 locks (opAt 0)
+        (t locks : ℕ) → Sectioned → Entered g → rd (field Pc d) ≡ 0 → rd (field Owned d) ≡ 0 → Nearing 0 t 0 locks (opAt 0)
         → Phase g (on 0 t) locks 0
     -- the pc names step s, whose target store is next; also after recovery
     due : (s locks : ℕ) → Sectioned → Named s → Due s locks (opAt s) → Phase g (on s (targetTurn n rd d (opAt s))) locks 0

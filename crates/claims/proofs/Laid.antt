@@ -56,8 +56,8 @@ pub own-size : (n : ℕ) (args : List ℕ) → 8 ≤ n → length args ≡ 8 →
 own-size n args l e = simp (length-append, length-replicate) (omega arith)
 
 -- the memory after a submission
-abbrev pub handedTo : ℕ → ℕ → ℕ → List ℕ → List ℕ → Memory → Memory
-handedTo n d k args ws rd = updAll rd (submission n d k args ws)
+abbrev pub submittedTo : ℕ → ℕ → ℕ → List ℕ → List ℕ → Memory → Memory
+submittedTo n d k args ws rd = updAll rd (submission n d k args ws)
 
 -- what the stores leave
 pub record Laid (n : ℕ) (rd rd′ : Memory) (d k : ℕ) (args ws : List ℕ) : Type 0 where
@@ -83,7 +83,7 @@ module _ (n : ℕ) (rd : Memory) (d k : ℕ) (args ws : List ℕ) where
   coded = updAll owning (assigns (step d) 0 ws)
 
   -- the three parts and the count
-  parts : handedTo n d k args ws rd ≡ upd coded (field Count d) (length ws)
+  parts : submittedTo n d k args ws rd ≡ upd coded (field Count d) (length ws)
   unfolding submission
   parts =
       updAll-cons rd _ _
@@ -110,5 +110,5 @@ module _ (n : ℕ) (rd : Memory) (d k : ℕ) (args ws : List ℕ) where
         locks = λ b. rows-other (lock b) (λ i. refl) (λ i. refl);
       }
 
-  pub submission-laid : Laid n rd (handedTo n d k args ws rd) d k args ws
+  pub submission-laid : Laid n rd (submittedTo n d k args ws rd) d k args ws
   submission-laid = rw parts private-laid

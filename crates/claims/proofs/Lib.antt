@@ -73,7 +73,7 @@ pub mod OrderBlock
 pub mod OrderLocks
 pub mod OrderAssign
 pub mod OrderStep
-pub mod OrderHandIn
+pub mod OrderSubmit
 pub mod OrderEntry
 pub mod OrderFeed
 pub mod EveryOrder

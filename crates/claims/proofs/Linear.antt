@@ -58,7 +58,7 @@ unfolding PairedAt
 paired-aside e taken begun pc c g x i y = rw (of-snoc-other e taken x i) y
 
 module _ (mark n D : ℕ) (cells : List ℕ) where
-  -- ---- a hand-in
+  -- ---- a submit
 
   module _ (w : Traced) (d k : ℕ) (args ws : List ℕ) (wide : 8 ≤ n) (full8 : length args ≡ 8) (r : Running mark n D cells w) (t : TakenAs mark n (w .world) d k ws)
       (paired : Paired mark n D cells w) (left : ℕ) where

@@ -1,4 +1,4 @@
--- Laws of the reference machine. An order in two parts is followed part by part; a section handed in at the end of a queue
+-- Laws of the reference machine. An order in two parts is followed part by part; a section submitted at the end of a queue
 -- changes nothing for the instructions before it, so the machine can be fed late; and one equation for each instruction of
 -- the first section of a worker's queue. By cases on the instruction, and by induction on orders and on queues.
 use Prim.Native.Nat.{ℕ, suc, zero, _-_, _<_}
@@ -108,7 +108,7 @@ taken-set [] w q b e = refl
 taken-set (p ∷ qs) zero q b e = rw e
 taken-set (p ∷ qs) (suc w) q b e = rw (taken-set qs w q b e)
 
--- ---- a section handed in late
+-- ---- a section submitted late
 
 held-behind : (q : List Job) (n : ℕ) (g : Given) (b : ℕ) → heldIn (q ++ (start n g ∷ [])) b ≡ heldIn q b
 held-behind [] n g b = has-none b
@@ -150,7 +150,7 @@ module _ (n : ℕ) (g : Given) where
       let (f, i) = cond-some (taken (s .queues) a) x t e in
       rw (taken-enqueue s a, f) (back x y t p (ap some i))
 
-  -- an instruction of worker d, with js behind its section before, and ks after the section is handed in
+  -- an instruction of worker d, with js behind its section before, and ks after the section is submitted
   module _ (s : State) (d : ℕ) (js ks : List Job)
       (p : (cs : List ℕ) (h : Job) → state cs (set (enqueue n s g .queues) d (h ∷ ks)) ≡ enqueue n (state cs (set (s .queues) d (h ∷ js))) g)
       (q : (cs : List ℕ) → state cs (set (enqueue n s g .queues) d ks) ≡ enqueue n (state cs (set (s .queues) d js)) g) where

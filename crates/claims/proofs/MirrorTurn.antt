@@ -21,7 +21,7 @@ use Rattle.engine.specs.Turn.{Outcome, stored, jumped, unheld, waiting, resting
 use Rattle.recovery.specs.Recovery.{targetOf, targetTurn}
 use Rattle.claims.specs.Reference.{Given, Job, State, follow, enqueue, initial}
 use Rattle.claims.specs.Calls.{isPc}
-use Rattle.claims.proofs.Invariant.{opAt, heldAt, Sectioned, logsHeld, Nearing, Jumps, Handed, Phase, resting as rests, fresh, due, unlocking, unlocked, between, ended, Live, JobOf, Mirrors}
+use Rattle.claims.proofs.Invariant.{opAt, heldAt, Sectioned, logsHeld, Nearing, Jumps, Entered, Phase, resting as rests, fresh, due, unlocking, unlocked, between, ended, Live, JobOf, Mirrors}
 use Rattle.claims.proofs.Machine.{follow-then, initial-more}
 use Rattle.claims.proofs.Entries.{named-pc, operand-no-pc, addr-no-pc, val-no-pc}
 use Rattle.claims.proofs.Stutter.{mirror-kept, unmirrored-lock, unmirrored-intent, unmirrored-finished, unmirrored-spare-addr, unmirrored-spare-val, unmirrored-resting, mirror-target}
@@ -102,7 +102,7 @@ module _ (n D : ℕ) (rd : Memory) (cursor : ℕ → Cursor) (locks jumps : ℕ 
     (S : State) (M : Mirrors n D rd S) where
   -- a section that is not begun
   fresh-turn :
-      (t : ℕ) → Sectioned n rd d → Handed n rd d (given d) → rd (field Pc d) ≡ 0 → rd (field Owned d) ≡ 0 → Nearing n rd d 0 t 0 (locks d) (opAt n rd d 0)
+      (t : ℕ) → Sectioned n rd d → Entered n rd d (given d) → rd (field Pc d) ≡ 0 → rd (field Owned d) ≡ 0 → Nearing n rd d 0 t 0 (locks d) (opAt n rd d 0)
       → Mirrored n D rd S 0 (given d) d (turnAt n rd d (on 0 t))
   fresh-turn t sec H p o N =
       let (a, x) = sec .valid .first in

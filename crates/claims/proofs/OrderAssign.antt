@@ -142,5 +142,5 @@ module _
         by-worker = turns-calls 4 d;
         words = turns-words 4 d (small mark n D w s gs E d dl W);
         even = assign-even;
-        handed = assign-wrote .view .handed;
+        entered = assign-wrote .view .entered;
       })

@@ -38,7 +38,7 @@ pub record Block (mark n D : ℕ) (w : Traced) (d : ℕ) (t : State) (gs : ℕ �
   pub by-worker : callsOf d moves ≡ true
   pub words : machine moves ≡ true
   pub even : Even mark n D (play mark n moves w) t gs
-  pub handed : play mark n moves w .trace .taken ≡ w .trace .taken
+  pub entered : play mark n moves w .trace .taken ≡ w .trace .taken
 
 pub turns-calls : (k d : ℕ) → callsOf d (turnsOf k d) ≡ true
 turns-calls zero d = refl
@@ -59,7 +59,7 @@ pub owning-kept : (D : ℕ) (rd rd′ : Memory) (locks : ℕ → ℕ) (d m : ℕ
 owning-kept D rd rd′ locks d m same e O =
     rw e (subst (Owning D rd′) (sym (fun-ext (but-self locks d))) (owning-same D rd rd′ locks same O))
 
--- sections that are not handed in hold nothing
+-- sections that are not submitted hold nothing
 pub waiting-held : (n : ℕ) (gs : List Given) → heldOf (map (start n) gs) ≡ 0
 waiting-held n [] = refl
 waiting-held n (g ∷ gs) = refl
@@ -135,7 +135,7 @@ module _
     unfolding jump-to
     jump-block =
         let r = reads-alike a (jump-range n (rd (step d k)) a b (W .valid .ranges k (W .below)) o) in
-        rw r (record { moves = turnsOf 1 d; by-worker = turns-calls 1 d; words = turns-words 1 d small; even = jump-even; handed = jump-view .handed })
+        rw r (record { moves = turnsOf 1 d; by-worker = turns-calls 1 d; words = turns-words 1 d small; even = jump-even; entered = jump-view .entered })
 
   -- ---- a finish
 
@@ -185,4 +185,4 @@ module _
         (E .level .size) (E .level .cells)
 
     pub finish-block : Block mark n D w d (state (s .cells) (set (s .queues) d (map (start n) (gs d)))) gs
-    finish-block = record { moves = turnsOf 3 d; by-worker = turns-calls 3 d; words = turns-words 3 d small; even = finish-even; handed = finish-view .handed }
+    finish-block = record { moves = turnsOf 3 d; by-worker = turns-calls 3 d; words = turns-words 3 d small; even = finish-even; entered = finish-view .entered }

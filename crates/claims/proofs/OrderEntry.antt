@@ -1,4 +1,4 @@
--- One entry of an order that the reference machine allows: the worker's turns, after a hand-in where it is idle. Of each worker
+-- One entry of an order that the reference machine allows: the worker's turns, after a submit where it is idle. Of each worker
 -- the sections taken, with those that wait, are as before.
 use Prim.Native.Nat.{ℕ, _+_, _^_, _<_, _≤_}
 use mathlib.Core.Path.{_≡_, refl, ap, subst, _∙_, sym}
@@ -23,7 +23,7 @@ use Rattle.claims.proofs.OrderTurn.{view-few}
 use Rattle.claims.proofs.OrderLevel.{Idles, Stand, Even, even-view}
 use Rattle.claims.proofs.OrderBlock.{Block}
 use Rattle.claims.proofs.OrderStep.{none-some, step-block}
-use Rattle.claims.proofs.OrderHandIn.{Able, nextNumber, handIn, hand-in-room, hand-in-view, hand-in-even}
+use Rattle.claims.proofs.OrderSubmit.{Able, nextNumber, submitNext, next-room, next-view, next-even}
 use Rattle.claims.proofs.Feeding.{of-snoc-same, of-snoc-other}
 
 -- ---- the sections of one worker
@@ -74,59 +74,59 @@ module _
         rests = gs;
         able = able;
         even = b .even;
-        kept = λ e. ap (λ (l : List Given). ofWorker e l ++ gs e) (b .handed);
+        kept = λ e. ap (λ (l : List Given). ofWorker e l ++ gs e) (b .entered);
       }
 
-  -- a hand-in, and the first instruction's turns
+  -- a submit, and the first instruction's turns
   module _
       (idles : Idles n (at n (w .world .image)) d (cursorAt (w .world .cursors) d) (getD (s .queues) d []) (gs d)) (g : Given) (rest : List Given) (waits : gs d ≡ g ∷ rest) (fits : Able n d (g ∷ rest)) where
-    abbrev handing : Move
-    handing = handIn mark n D w s gs E d entry-worker least most idles g rest waits (fits .0)
+    abbrev submitting : Move
+    submitting = submitNext mark n D w s gs E d entry-worker least most idles g rest waits (fits .0)
 
     abbrev after : Traced
-    after = move mark n handing w
+    after = move mark n submitting w
 
     abbrev after-even : Even mark n D after s (but gs d rest)
-    after-even = hand-in-even mark n D w s gs E d entry-worker least most idles g rest waits (fits .0)
+    after-even = next-even mark n D w s gs E d entry-worker least most idles g rest waits (fits .0)
 
     after-mine : cursorAt (after .world .cursors) d ≡ on 0 0
-    after-mine = hand-in-view mark n D w s gs E d entry-worker least most idles g rest waits (fits .0) .mine
+    after-mine = next-view mark n D w s gs E d entry-worker least most idles g rest waits (fits .0) .mine
 
-    after-handed : after .trace .taken ≡ w .trace .taken ++ (g ∷ [])
-    after-handed = hand-in-view mark n D w s gs E d entry-worker least most idles g rest waits (fits .0) .handed
+    after-entered : after .trace .taken ≡ w .trace .taken ++ (g ∷ [])
+    after-entered = next-view mark n D w s gs E d entry-worker least most idles g rest waits (fits .0) .entered
 
-    hand-in-block : Stand n (at n (after .world .image)) d (cursorAt (after .world .cursors) d) (getD (s .queues) d []) (but gs d rest d) → Block mark n D after d t (but gs d rest)
-    hand-in-block (inl i) =
+    submit-block : Stand n (at n (after .world .image)) d (cursorAt (after .world .cursors) d) (getD (s .queues) d []) (but gs d rest d) → Block mark n D after d t (but gs d rest)
+    submit-block (inl i) =
         let a : cursorAt (after .world .cursors) d ≡ on 0 0 = after-mine in
         let b : cursorAt (after .world .cursors) d ≡ idle = i .cursor in
         let z : _≡_ {A = ℕ} 0 1 = cc in
         absurd (omega arith)
-    hand-in-block (inr W) = step-block mark n D after s t (but gs d rest) after-even d entry-worker W goes
+    submit-block (inr W) = step-block mark n D after s t (but gs d rest) after-even d entry-worker W goes
 
-    hand-in-callable : callable (submits d (nextNumber mark n D w s gs E d entry-worker least most idles g rest waits (fits .0)) (g .args) (g .code)) ≡ true
-    hand-in-callable =
+    submit-callable : callable (submits d (nextNumber mark n D w s gs E d entry-worker least most idles g rest waits (fits .0)) (g .args) (g .code)) ≡ true
+    submit-callable =
         let few = view-few mark n D w _ d idle _ _ (even-view mark n D w s gs E d idle (idles .cursor)) entry-worker in
         let dl = entry-worker in
-        let r = hand-in-room mark n D w s gs E d entry-worker least most idles g rest waits (fits .0) in
+        let r = next-room mark n D w s gs E d entry-worker least most idles g rest waits (fits .0) in
         rw (lt-ltb d (2 ^ 64) (omega arith), lt-ltb (at n (w .world .image) (field Finished d) + 1) (2 ^ 64) (omega arith), eq-eqb (length (g .args)) 8 (fits .0 .eight), fits .0 .arg-words, fits .0 .code-words)
 
-    hand-in-entry : EntryHad mark n D w d t gs
+    submit-entry : EntryHad mark n D w d t gs
     unfolding play machine
-    hand-in-entry =
-        let b = hand-in-block (after-even .level .stands d entry-worker) in
+    submit-entry =
+        let b = submit-block (after-even .level .stands d entry-worker) in
         record {
-          moves = handing ∷ b .moves;
+          moves = submitting ∷ b .moves;
           by-worker = rw (eq-eqb d d refl) (b .by-worker);
-          words = and-both _ (machine (b .moves)) hand-in-callable (b .words);
+          words = and-both _ (machine (b .moves)) submit-callable (b .words);
           rests = but gs d rest;
           able = λ e l. changed (λ (x : ℕ) (l : List Given). Able n x l) gs d rest (fits .1) e (λ h. able e l);
           even = b .even;
-          kept = λ e. ap (λ (l : List Given). ofWorker e l ++ but gs d rest e) (b .handed ∙ after-handed) ∙ kept-one d (w .trace .taken) rest g gs (fits .0 .by) waits e;
+          kept = λ e. ap (λ (l : List Given). ofWorker e l ++ but gs d rest e) (b .entered ∙ after-entered) ∙ kept-one d (w .trace .taken) rest g gs (fits .0 .by) waits e;
         }
 
   private-entry : Stand n (at n (w .world .image)) d (cursorAt (w .world .cursors) d) (getD (s .queues) d []) (gs d) → (l : List Given) → gs d ≡ l → EntryHad mark n D w d t gs
   private-entry (inl i) [] e = absurd (no-queue s t d (i .queue ∙ ap (map (start n)) e) goes)
-  private-entry (inl i) (g ∷ rest) e = hand-in-entry i g rest e (subst (Able n d) e (able d entry-worker))
+  private-entry (inl i) (g ∷ rest) e = submit-entry i g rest e (subst (Able n d) e (able d entry-worker))
   private-entry (inr W) l e = from-block (step-block mark n D w s t gs E d entry-worker W goes)
 
   pub entry : EntryHad mark n D w d t gs

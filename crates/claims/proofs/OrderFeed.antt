@@ -1,6 +1,6 @@
 -- The start of an order: an image at rest is level with the reference machine fed some sections, all of them waiting
 -- (`rested-even`), since the machine has in each worker's queue those of that worker and holds nothing. Sections that the check
--- admits can be handed in (`admitted-able`), by induction on the list.
+-- admits can be submitted (`admitted-able`), by induction on the list.
 use Prim.Native.Nat.{ℕ, suc, _+_, _^_, _<_, _≤_}
 use mathlib.Core.Path.{_≡_, refl, ap, _∙_, sym}
 use mathlib.Core.Logic.{inl}
@@ -25,7 +25,7 @@ use Rattle.claims.specs.Calls.{from, areWords}
 use Rattle.claims.specs.Claims.{ofWorker, Rested, admissible}
 use Rattle.claims.proofs.OrderLevel.{heldOf, heldsOf, Even}
 use Rattle.claims.proofs.OrderBlock.{waiting-held}
-use Rattle.claims.proofs.OrderHandIn.{Able}
+use Rattle.claims.proofs.OrderSubmit.{Able}
 use Rattle.claims.proofs.Cursors.{idle-at, full-idle}
 use Rattle.claims.proofs.Feeding.{initial-cells, initial-at}
 use Rattle.claims.proofs.Machine.{initial-length}

@@ -1,5 +1,5 @@
 -- A world level with a state of the reference machine, as it is between the blocks of an order: a worker is idle, and its
--- queue is of sections not yet handed in (`Idles`); or it stands before an instruction of the queue's first, which its record
+-- queue is of sections not yet submitted (`Idles`); or it stands before an instruction of the queue's first, which its record
 -- holds word by word (`Works`). The owner words name who holds the locks, and the cells are the state's. A change of one
 -- worker's words, of its queue and of the cells keeps the others as they are (`even-after`).
 use Prim.Native.Nat.{ℕ, _+_, _^_, _<_}
@@ -36,7 +36,7 @@ abbrev pub heldsOf : List (List Job) → ℕ → ℕ
 heldsOf qs d = heldOf (getD qs d [])
 
 module _ (n : ℕ) (rd : Memory) (d : ℕ) where
-  -- worker d has no section: those of its queue are not yet handed in
+  -- worker d has no section: those of its queue are not yet submitted
   pub record Idles (c : Cursor) (q : List Job) (gs : List Given) : Type 0 where
     pub cursor : c ≡ idle
     pub queue : q ≡ map (start n) gs
@@ -64,7 +64,7 @@ module _ (n : ℕ) (rd : Memory) (d : ℕ) where
   abbrev pub Stand : Cursor → List Job → List Given → Type 0
   Stand c q gs = Idles c q gs ⊎ Works c q gs
 
--- a memory level with a state, the sections not yet handed in being gs
+-- a memory level with a state, the sections not yet submitted being gs
 pub record Level (n D : ℕ) (rd : Memory) (cur : ℕ → Cursor) (s : State) (gs : ℕ → List Given) : Type 0 where
   pub stands : (d : ℕ) → d < D → Stand n rd d (cur d) (getD (s .queues) d []) (gs d)
   pub owning : Owning D rd (heldsOf (s .queues))
@@ -171,7 +171,7 @@ level-but n D rd rd′ cur cur′ s gs gs′ d cells q L dl curs rests beside mi
 
 module _ (mark n D : ℕ) (w : Traced) (s : State) (gs : ℕ → List Given) (E : Even mark n D w s gs) (d : ℕ) where
   pub even-view : (c : Cursor) → cursorAt (w .world .cursors) d ≡ c → View mark n D w (at n (w .world .image)) d c (cursorAt (w .world .cursors)) (w .trace .taken)
-  even-view c e = record { header = E .header; many = E .many; full = E .full; memory = refl; mine = e; others = λ f h. refl; handed = refl }
+  even-view c e = record { header = E .header; many = E .many; full = E .full; memory = refl; mine = e; others = λ f h. refl; entered = refl }
 
   pub even-after :
       (v : Traced) (rd′ : Memory) (c : Cursor) (taken : List Given) (gs′ : ℕ → List Given) (cells : List ℕ) (q : List Job)

@@ -147,7 +147,7 @@ module _
           words = turns-words 6 d (small mark n D w s gs E d dl W);
           even = even-after mark n D w s gs E d (play mark n (turnsOf 6 d) w) acquired (on (suc k) 0) (w .trace .taken) gs (s .cells) _ acquire-view dl (λ e h. refl) acquire-beside (inr acquire-works) acquire-owning
               (E .level .size) (λ x l. E .level .cells x l ∙ sym (acquire-wrote .noted .cells x));
-          handed = acquire-view .handed;
+          entered = acquire-view .entered;
         }
 
   -- ---- a release
@@ -234,5 +234,5 @@ module _
           words = turns-words 6 d (small mark n D w s gs E d dl W);
           even = even-after mark n D w s gs E d (play mark n (turnsOf 6 d) w) released (on (suc k) 0) (w .trace .taken) gs (s .cells) _ release-view dl (λ e h. refl) release-beside (inr release-works) release-owning
               (E .level .size) (λ x l. E .level .cells x l ∙ sym (release-wrote .noted .cells x));
-          handed = release-view .handed;
+          entered = release-view .entered;
         }

@@ -1,4 +1,4 @@
--- One entry of an order, where its worker's first section is handed in: whatever its instruction is, if the reference machine
+-- One entry of an order, where its worker's first section is submitted: whatever its instruction is, if the reference machine
 -- allows it, there is a block of turns after which the world is level with the state after it.
 use Prim.Native.Nat.{ℕ, _<_}
 use mathlib.Core.Path.{_≡_, refl, ap, subst, _∙_, sym}

@@ -30,7 +30,7 @@ pub record View (mark n D : ℕ) (w : Traced) (rd : Memory) (d : ℕ) (c : Curso
   pub memory : at n (w .world .image) ≡ rd
   pub mine : cursorAt (w .world .cursors) d ≡ c
   pub others : (e : ℕ) → e ≢ d → cursorAt (w .world .cursors) e ≡ cur e
-  pub handed : w .trace .taken ≡ taken
+  pub entered : w .trace .taken ≡ taken
 
 private-taken : (b : Bool) (g : Trace) (d : ℕ) (t : Bool) → cond b (recorded g d t) g .taken ≡ g .taken
 private-taken true g d t = refl
@@ -62,7 +62,7 @@ module _ (mark n D : ℕ) (w : Traced) (rd : Memory) (d : ℕ) (c : Cursor) (cur
         memory = memory-store n D (w .world .image) view-sized (2 ^ 64 - 1) p v ok (omega arith) ∙ ap (λ (m : Memory). upd m p v) (view .memory);
         mine = placed-same (w .world .cursors) d x (view .full) (omega arith) say;
         others = λ f h. placed-other (w .world .cursors) d f x h ∙ view .others f h;
-        handed = private-taken (isPc p && not (eqb (2 ^ 64 - 1) 0)) (w .trace) d (eqb (at n (w .world .image) (field Pc d)) 0) ∙ view .handed;
+        entered = private-taken (isPc p && not (eqb (2 ^ 64 - 1) 0)) (w .trace) d (eqb (at n (w .world .image) (field Pc d)) 0) ∙ view .entered;
       })
 
   pub turn-jumped : (x : Cursor) → turnAt n rd d c ≡ jumped x → sayable x → View mark n D (move mark n (whole (turns d)) w) rd d x cur taken
@@ -77,5 +77,5 @@ module _ (mark n D : ℕ) (w : Traced) (rd : Memory) (d : ℕ) (c : Cursor) (cur
         memory = view .memory;
         mine = placed-same (w .world .cursors) d x (view .full) (omega arith) say;
         others = λ f h. placed-other (w .world .cursors) d f x h ∙ view .others f h;
-        handed = view .handed;
+        entered = view .entered;
       })

@@ -19,7 +19,7 @@ use Rattle.engine.specs.Cursor.{on}
 use Rattle.engine.specs.Turn.{operand, codeIn, wordIn, activeAddr, activeVal}
 use Rattle.recovery.specs.Recovery.{targetOf}
 use Rattle.claims.specs.Reference.{Given}
-use Rattle.claims.proofs.Invariant.{opAt, heldAt, Sectioned, logsHeld, Named, Nearing, Jumps, stay, leap, Handed, Phase, fresh, between}
+use Rattle.claims.proofs.Invariant.{opAt, heldAt, Sectioned, logsHeld, Named, Nearing, Jumps, stay, leap, Entered, Phase, fresh, between}
 use Rattle.claims.proofs.Fields.{KeepsNamed, Quiet, active-addr-kept, active-val-kept, word-kept}
 
 -- ---- what is kept with the pc, the section and the active entry
@@ -65,8 +65,8 @@ module _ (n : ℕ) (rd rd′ : Memory) (d : ℕ) (k : KeepsNamed n rd rd′ d) w
         logs = subst (λ (x : Op). logsHeld n rd′ d s x) (sym (op-kept s)) (private-logs s (opAt n rd d s) (m .logs));
       }
 
-  pub handed-kept : ((i : ℕ) → rd′ (own d i) ≡ rd (own d i)) → (g : Given) → Handed n rd d g → Handed n rd′ d g
-  handed-kept owns g h =
+  pub entered-kept : ((i : ℕ) → rd′ (own d i) ≡ rd (own d i)) → (g : Given) → Entered n rd d g → Entered n rd′ d g
+  entered-kept owns g h =
       record {
         by = h .by;
         code = λ i l. h .code i (rw (k .count) at l) ∙ sym (k .steps i);
@@ -78,7 +78,7 @@ module _ (n : ℕ) (rd rd′ : Memory) (d : ℕ) (k : KeepsNamed n rd rd′ d) w
 
 pub data Origin (n : ℕ) (rd : Memory) (d : ℕ) (g : Given) : ℕ → ℕ → Type 0 where
   -- its section is not begun
-  began : Handed n rd d g → rd (field Pc d) ≡ 0 → Origin n rd d g 0 0
+  began : Entered n rd d g → rd (field Pc d) ≡ 0 → Origin n rd d g 0 0
   -- its step s is over
   after :
       (s k j : ℕ) → Named n rd d s → rd (targetOf d (opAt n rd d s)) ≡ rd (field (activeVal n rd d) d) → Jumps n rd d (suc s) j k → heldAt n rd d k ≡ heldAt n rd d (suc s)
@@ -104,7 +104,7 @@ module _ (n : ℕ) (rd rd′ : Memory) (d : ℕ) (q : Quiet n rd rd′ d) where
   jumps-kept (leap j k a b r l o) = rw (words a) at (leap j k a b (jumps-kept r) (rw (q .keeps .count) l) (op-kept n rd rd′ d (q .keeps) k ∙ o))
 
   pub origin-kept : {g : Given} {k j : ℕ} → Origin n rd d g k j → Origin n rd′ d g k j
-  origin-kept {g} (began h p) = began (handed-kept n rd rd′ d (q .keeps) (q .owns) g h) (q .keeps .pc ∙ p)
+  origin-kept {g} (began h p) = began (entered-kept n rd rd′ d (q .keeps) (q .owns) g h) (q .keeps .pc ∙ p)
   origin-kept {g} (after s k j m done r e) =
       let ks = q .keeps in
       after s k j (named-kept n rd rd′ d ks s m)

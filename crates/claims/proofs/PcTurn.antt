@@ -1,5 +1,5 @@
 -- The store of a pc in a live memory, on the reference machine: the jumps made before it and then the whole instruction that it
--- counts. First for a section's first instruction, an acquire, with which the section is handed in; then for a later one.
+-- counts. First for a section's first instruction, an acquire, with which the section is submitted; then for a later one.
 use Prim.Native.Nat.{ℕ, suc, _+_, _<_, _≤_}
 use mathlib.Core.Path.{_≡_, refl, sym, ap, _∙_}
 use mathlib.Core.Bool.{true, cond}
@@ -24,7 +24,7 @@ use Rattle.engine.specs.Cursor.{Cursor}
 use Rattle.engine.specs.Turn.{codeIn, wordIn, spareVal, activeVal, switched}
 use Rattle.recovery.specs.Recovery.{targetOf}
 use Rattle.claims.specs.Reference.{Given, Job, job, State, state, readIn, onto, follow, start, enqueue}
-use Rattle.claims.proofs.Invariant.{opAt, heldAt, Sectioned, Jumps, Handed, Live, JobOf, Mirrors}
+use Rattle.claims.proofs.Invariant.{opAt, heldAt, Sectioned, Jumps, Entered, Live, JobOf, Mirrors}
 use Rattle.claims.proofs.Machine.{follow-one, follow-last}
 use Rattle.claims.proofs.Entries.{named-pc, named-step}
 use Rattle.claims.proofs.Apart.{Busy, covered-guarded, virtual-resting, virtual-owned, reads-same}
@@ -33,7 +33,7 @@ use Rattle.claims.proofs.Counting.{Poised, Counts, counts-acquire, coun
 use Rattle.claims.proofs.Jumping.{jumps-follow}
 use Rattle.claims.proofs.Frame.{eval-same}
 
--- the state at which an instruction of worker d is made: a section that begins is handed in now
+-- the state at which an instruction of worker d is made: a section that begins is submitted now
 abbrev pub began : ℕ → Memory → State → Given → ℕ → State
 began n rd S g d = cond (eqb (rd (field Pc d)) 0) (enqueue n S g) S
 
@@ -45,10 +45,10 @@ module _ (n D : ℕ) (rd : Memory) (cursor : ℕ → Cursor) (locks jumps : ℕ 
     (S : State) (M : Mirrors n D rd S) (sec : Sectioned n rd d) where
   -- ---- the first instruction
 
-  began-fresh : Handed n rd d (given d) → rd (field Pc d) ≡ 0 → began n rd S (given d) d ≡ onto S d (start n (given d)) []
+  began-fresh : Entered n rd d (given d) → rd (field Pc d) ≡ 0 → began n rd S (given d) d ≡ onto S d (start n (given d)) []
   began-fresh H p = rw p (rw (H .by, M .none d l p))
 
-  poised-fresh : Handed n rd d (given d) → rd (field Pc d) ≡ 0 → rd (field Owned d) ≡ 0 → Poised n D rd d 0 (start n (given d))
+  poised-fresh : Entered n rd d (given d) → rd (field Pc d) ≡ 0 → rd (field Owned d) ≡ 0 → Poised n D rd d 0 (start n (given d))
   poised-fresh H p o =
       record {
         next = refl;
@@ -59,7 +59,7 @@ module _ (n D : ℕ) (rd : Memory) (cursor : ℕ → Cursor) (locks jumps : ℕ 
       }
 
   pub fresh-counted :
-      Handed n rd d (given d) → rd (field Pc d) ≡ 0 → rd (field Owned d) ≡ 0 → (a : ℕ) → opAt n rd d 0 ≡ Acquire a → has (locks d) a ≡ true
+      Entered n rd d (given d) → rd (field Pc d) ≡ 0 → rd (field Owned d) ≡ 0 → (a : ℕ) → opAt n rd d 0 ≡ Acquire a → has (locks d) a ≡ true
       → rd (field (spareVal n rd d) d) ≡ with 0 a → Counted n D rd S 0 (given d) d (switched n rd d 0)
   fresh-counted H p o a x h v =
       let c : 3 ≤ rd (field Count d) = sec .valid .least in

@@ -25,7 +25,7 @@ use Rattle.claims.proofs.LiveCrashed.{section-none, pc-none, owed-none}
 use Rattle.claims.proofs.Settled.{ok-owned}
 use Rattle.claims.proofs.StoreRows.{updAll-append, updAll-one, Keeps, keeps-nil, keeps-one, keeps-append, keeps-whole, prefix-append, prefix-one}
 use Rattle.claims.proofs.RecoveryFrame.{Framed, owed-frame, pc-frame, section-frame}
-use Rattle.claims.proofs.Laid.{filled, handedTo, Laid, submission-laid}
+use Rattle.claims.proofs.Laid.{filled, submittedTo, Laid, submission-laid}
 use Rattle.claims.proofs.Entries.{apart-of}
 
 -- ---- a row of assignments
@@ -119,7 +119,7 @@ module _ (n D d : ℕ) (rd : Memory) where
 
 module _ (n d k : ℕ) (args ws : List ℕ) (rd : Memory) where
   abbrev submitted : Memory
-  submitted = handedTo n d k args ws rd
+  submitted = submittedTo n d k args ws rd
 
   laid : Laid n rd submitted d k args ws
   laid = submission-laid n rd d k args ws
@@ -176,7 +176,7 @@ module _ (n d k : ℕ) (args ws : List ℕ) (rd : Memory) where
   pub submitted-check : check n (length ws) (codeOf ws) ≡ Pass → check n (length ws) (codeIn n submitted d) ≡ Pass
   submitted-check h = check-cong n (length ws) (codeIn n submitted d) (codeOf ws) (laid .code-words) ∙ h
 
-  -- the section that was handed in is right
+  -- the section that was submitted is right
   pub submitted-section : rd (field Count d) ≡ 0 → check n (length ws) (codeOf ws) ≡ Pass → rd (field Finished d) < k → sectionOk n submitted d ≡ true
   unfolding sectionOk
   submitted-section c h l =

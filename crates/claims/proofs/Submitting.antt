@@ -1,4 +1,4 @@
--- A section handed in: after the stores of a submission the worker stands at its first turn (`submit-phase`), and every other
+-- A section submitted: after the stores of a submission the worker stands at its first turn (`submit-phase`), and every other
 -- one where it stood, since it sees nothing of them; so that all of them stand right (`submit-live`). From what the stores
 -- leave, `Laid`.
 use Prim.Native.Nat.{ℕ, _<_, _≤_}
@@ -20,13 +20,13 @@ use Rattle.claims.specs.Calls.{but}
 use Rattle.claims.proofs.Invariant.{Sectioned, Nearing, Phase, resting, fresh, due, unlocking, unlocked, between, ended, Live}
 use Rattle.claims.proofs.Frame.{Agree, phase-same}
 use Rattle.claims.proofs.LiveTurn.{live-but, but-same, but-other, but-self}
-use Rattle.claims.proofs.Laid.{own-size, handedTo, Laid, submission-laid}
+use Rattle.claims.proofs.Laid.{own-size, submittedTo, Laid, submission-laid}
 
--- ---- the worker that handed it in, and the others
+-- ---- the worker that submitted it, and the others
 
 module _ (n : ℕ) (rd : Memory) (d k : ℕ) (args ws : List ℕ) where
   abbrev after : Memory
-  after = handedTo n d k args ws rd
+  after = submittedTo n d k args ws rd
 
   laid : Laid n rd after d k args ws
   laid = submission-laid n rd d k args ws
@@ -90,12 +90,12 @@ idle-rests n rd d g c locks j (ended s k p o i b q) e = absurd (on-not-idle _ _ 
 pub submit-live :
     (n D : ℕ) (rd : Memory) (cursor : ℕ → Cursor) (locks jumps : ℕ → ℕ) (last : ℕ → Given) (d k : ℕ) (args ws : List ℕ) → Live n D rd cursor locks jumps last → d < D → cursor d ≡ idle
     → 8 ≤ n → length args ≡ 8 → check n (length ws) (codeOf ws) ≡ Pass → rd (field Finished d) < k
-    → Live n D (handedTo n d k args ws rd) (but cursor d (on 0 0)) (but locks d 0) (but jumps d 0) (but last d (given d args ws))
+    → Live n D (submittedTo n d k args ws rd) (but cursor d (on 0 0)) (but locks d 0) (but jumps d 0) (but last d (given d args ws))
 submit-live n D rd cursor locks jumps last d k args ws L dl i wide full h numbers =
     let R = idle-rests n rd d (last d) (cursor d) (locks d) (jumps d) (L .phase d dl) i in
     let same : but locks d 0 ≡ locks = subst (λ (z : ℕ). but locks d z ≡ locks) (R .locks) (fun-ext (but-self locks d)) in
-    live-but n D rd (handedTo n d k args ws rd) cursor locks jumps (but last d (given d args ws)) d (on 0 0) 0 0
-    (λ e l r. rw (but-other last d (given d args ws) e r) (phase-same n rd (handedTo n d k args ws rd) e (last e) (cursor e) (locks e) (jumps e) (L .phase e l) (submit-agrees n rd d k args ws e (locks e) r)))
+    live-but n D rd (submittedTo n d k args ws rd) cursor locks jumps (but last d (given d args ws)) d (on 0 0) 0 0
+    (λ e l r. rw (but-other last d (given d args ws) e r) (phase-same n rd (submittedTo n d k args ws rd) e (last e) (cursor e) (locks e) (jumps e) (L .phase e l) (submit-agrees n rd d k args ws e (locks e) r)))
     (rw (but-same last d (given d args ws)) (submit-phase n rd d k args ws wide full h numbers (R .pc) (R .intent) (R .owned)))
     (rw same (record {
       locked = λ b e l p x. submission-laid n rd d k args ws .locks b ∙ L .locked b e l p x;

@@ -29,7 +29,7 @@ abbrev pub ofWorker : ℕ → List Given → List Given
 ofWorker d [] = []
 ofWorker d (g ∷ gs) = cond (eqb (g .worker) d) (g ∷ ofWorker d gs) (ofWorker d gs)
 
--- uncut hand-ins and turns of worker d alone
+-- uncut submits and turns of worker d alone
 abbrev pub callsOf : ℕ → List Move → Bool
 callsOf d [] = true
 callsOf d (cut k c ∷ xs) = false
@@ -89,7 +89,7 @@ module _ (mark n : ℕ) where
       (m : Image) → Rested m → (xs : List Move) → machine xs ≡ true → plain xs ≡ true → Idle (workers m) (after m xs .world .cursors)
       → Gives n (workers m) (cellsOf m) (after m xs .trace .taken) (after m xs .trace .order) (cellsOf (after m xs .world .image))
 
-  -- demand 2, second half: for each entry of the order a block of that worker's turns, after a hand-in where it was idle;
+  -- demand 2, second half: for each entry of the order a block of that worker's turns, after a submit where it was idle;
   -- after each block the cells are the reference machine's; in the end the sections given have been taken, and all is idle
   pub record Had (m : Image) (gs : List Given) (order : List ℕ) : Type 0 where
     pub blocks : List (List Move)
@@ -99,7 +99,7 @@ module _ (mark n : ℕ) where
     pub follows :
         (i : ℕ) → i ≤ length order → (s : State) → follow (initial n (workers m) (cellsOf m) gs) (take i order) ≡ some s
         → cellsOf (after m (concat (take i blocks)) .world .image) ≡ s .cells
-    pub handed : (d : ℕ) → d < workers m → ofWorker d (after m (concat blocks) .trace .taken) ≡ ofWorker d gs
+    pub entered : (d : ℕ) → d < workers m → ofWorker d (after m (concat blocks) .trace .taken) ≡ ofWorker d gs
     pub rests : Idle (workers m) (after m (concat blocks) .world .cursors)
 
   -- sections that the engine takes: they pass the check

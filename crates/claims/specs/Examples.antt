@@ -1,4 +1,4 @@
--- Document 01's worked rows ("Cuts of that ticket, and edges") that are to be proved, as one table: a section handed in on a
+-- Document 01's worked rows ("Cuts of that ticket, and edges") that are to be proved, as one table: a section submitted on a
 -- formatted image of one worker, cut after some of its turns or not, recovered, and run to its end.
 use Prim.Native.Nat.{ℕ, suc, zero, _+_, _*_, _^_}
 use mathlib.Core.List.{List, [], _∷_, map}
@@ -49,7 +49,7 @@ pub record Row : Type 0 where
 abbrev pub row : List ℕ → Cut → Row
 row ws p = record { steps = ws; power = p }
 
--- what is seen: the cause of a refused hand-in (0: taken), the turns to the end, counted from the recovery where there was a cut,
+-- what is seen: the cause of a refused submit (0: taken), the turns to the end, counted from the recovery where there was a cut,
 -- which of them passed (0: none), and what cell 24 then holds
 pub record Seen : Type 0 where
   pub cause : ℕ

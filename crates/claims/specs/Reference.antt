@@ -85,7 +85,7 @@ noneLeft [] = true
 noneLeft ([] ∷ qs) = noneLeft qs
 noneLeft ((j ∷ js) ∷ qs) = false
 
--- a section handed in: by which worker, with which arguments and instruction words
+-- a section submitted: by which worker, with which arguments and instruction words
 pub record Given : Type 0 where
   pub worker : ℕ
   pub args : List ℕ

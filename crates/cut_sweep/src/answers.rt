@@ -29,14 +29,7 @@ pub fn no(cause: u64, value: u64) -> Told {
 }
 
 fn refused(r: Refusal) -> Told {
-    match r {
-        Refusal::Worker => no(1, 0),
-        Refusal::Busy => no(2, 0),
-        Refusal::Number => no(3, 0),
-        Refusal::Section(v) => no(section::cause(v), section::step(v) as u64),
-        Refusal::Image => no(10, 0),
-        Refusal::Cursor(d) => no(11, d as u64),
-    }
+    no(engine::cause(r), engine::value(r) as u64)
 }
 
 pub fn submitted(a: Submitted) -> Told {

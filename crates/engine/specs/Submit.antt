@@ -1,4 +1,4 @@
--- Handing a section in. (Document 01: hand-in.)
+-- Submitting a section. (Document 01: hand-in.)
 use Prim.Native.Nat.{ℕ, _+_, _-_}
 use mathlib.Core.Bool.{Bool, true, false, cond, _&&_}
 use mathlib.Core.List.{List, [], _∷_, _++_}

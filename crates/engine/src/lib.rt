@@ -4,11 +4,11 @@ use section::Verdict;
 use tally::Tally;
 
 mod formatting;
-mod handing;
 mod log;
 mod planning;
 mod running;
 mod steps;
+mod submitting;
 mod turning;
 pub mod words;
 pub mod working;
@@ -16,6 +16,7 @@ pub mod working;
 ghost use mathlib.Core.Path.{_≡_};
 ghost use Rattle.engine.specs.Edition.{mark, ownWords};
 ghost use Rattle.engine.specs.Cursor.{allIdle};
+ghost use Rattle.engine.specs.Refusal.{causeOf, valueOf};
 ghost use Rattle.engine.specs.World.{world, answerOf, leaves, outcome};
 ghost use Rattle.engine.specs.Format.{formatAnswer, formatLeaves, formatLeft};
 ghost use Rattle.engine.specs.Submit.{submitAnswer, submitLeaves};
@@ -98,7 +99,7 @@ pub enum Submitted {
     Refused(Refusal),
 }
 
-pub struct Handed {
+pub struct Entered {
     pub answer: Submitted,
     pub cursors: Cursors,
 }
@@ -114,6 +115,34 @@ pub struct Ran {
     pub end: End,
     pub cursors: Cursors,
     pub tally: Tally,
+}
+
+// Document 01's number of a refusal.
+pub fn cause(r: Refusal) -> u64
+    ensures { λ n. ⌜ n ≡ causeOf r ⌝ }
+{
+    match r {
+        Refusal::Worker => 1,
+        Refusal::Busy => 2,
+        Refusal::Number => 3,
+        Refusal::Section(v) => section::cause(v),
+        Refusal::Image => 10,
+        Refusal::Cursor(_) => 11,
+    }
+}
+
+// The step or worker that goes with it; 0 where there is none.
+pub fn value(r: Refusal) -> usize
+    ensures { λ n. ⌜ n ≡ valueOf r ⌝ }
+{
+    match r {
+        Refusal::Worker => 0,
+        Refusal::Busy => 0,
+        Refusal::Number => 0,
+        Refusal::Section(v) => section::step(v),
+        Refusal::Image => 0,
+        Refusal::Cursor(d) => d,
+    }
 }
 
 // Formats an image for so many workers. All of them are idle, also where it is refused.
@@ -137,7 +166,7 @@ pub fn format(image: &mut [u64], workers: u64, left: &mut u64) -> Cleared
     }
 }
 
-// Hands a section in for worker d, with its number and its eight arguments.
+// Submits a section for worker d, with its number and its eight arguments.
 pub fn submit(
     image: &mut [u64],
     c: Cursors,
@@ -146,22 +175,22 @@ pub fn submit(
     args: &[u64; 8],
     words: &[u64],
     left: &mut u64,
-) -> Handed
+) -> Entered
     ensures answer { λ r. ⌜ r .answer ≡ submitAnswer mark ownWords (world (now (image .entry)) c (now (left .entry))) d number (now (words .entry)) ⌝ }
     ensures after { λ r. ⌜ world (now (image .exit)) (r .cursors) (now (left .exit))
         ≡ submitLeaves ownWords (world (now (image .entry)) c (now (left .entry))) d number (now (args .entry)) (now (words .entry))
         (submitAnswer mark ownWords (world (now (image .entry)) c (now (left .entry))) d number (now (words .entry))) ⌝ }
 {
-    let a = handing::judge(image, c, d, number, words, MARK, OWN);
-    if !handing::taken(a) {
-        return Handed {
+    let a = submitting::judge(image, c, d, number, words, MARK, OWN);
+    if !submitting::taken(a) {
+        return Entered {
             answer: a,
             cursors: c,
         };
     }
-    handing::hand_in(image, d, number, args, words, OWN, left);
+    submitting::store_section(image, d, number, args, words, OWN, left);
     let next = working::place(c, d, 0, 0);
-    Handed {
+    Entered {
         answer: a,
         cursors: next,
     }

@@ -6,6 +6,9 @@ ghost use lib.ListN.{getD};
 ghost use Rattle.image.specs.Place.{cell, lock, field, own, step, offset};
 ghost use Rattle.image.specs.Image.{put, headerOk, recordAt, indexOf, workers, at, Inside};
 
+// The words of the largest image, of eight workers with eight own words each.
+pub const LARGEST: usize = 1240;
+
 // The single words of a worker's record, in their order.
 pub enum Field {
     Count,

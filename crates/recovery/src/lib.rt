@@ -9,6 +9,7 @@ mod soundness;
 mod stock;
 mod storing;
 
+pub use stock::no_repair;
 ghost use mathlib.Core.Path.{_≡_};
 ghost use Prim.Native.Nat.{_≤_};
 ghost use Rattle.engine.specs.Edition.{mark, ownWords};
@@ -20,6 +21,9 @@ ghost use Rattle.recovery.specs.Recover.{causeOf, valueOf, isDone, answe
 const MARK: u64 = 1;
 
 const OWN: usize = 8;
+
+// The slots of a repair.
+pub const SLOTS: usize = 592;
 
 // Why a recovery is refused.
 pub enum Refusal {

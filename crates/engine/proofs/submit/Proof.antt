@@ -1,5 +1,5 @@
 -- `engine::submit` meets its contract, by its answer. A section that is taken has met all causes (`accepted`), so its worker is
--- one of the eight and it has at most 64 instructions, as handing it in asks.
+-- one of the eight and it has at most 64 instructions, as storing it asks.
 use borrow.Author.Needs.{needs}
 use mathlib.Core.Path.{sym}
 use native.Mathlib.Omega.{arith}
@@ -32,8 +32,8 @@ returns c =
     let r = denied (t .taken .ensures) (c .if1 .taken) in
     (e, rw (← e) (sym (leaves-refused ownWords w (A .d) (A .number) (now (A .args)) (now (A .words)) (j .judge .result) r)))
 
-hand-in-requires : tie.Need-hand-in-requires
-hand-in-requires c κs =
+store-section-requires : tie.Need-store-section-requires
+store-section-requires c κs =
     let t = c .before .before .before in
     let j = t .before in
     let A = j .before .before .before .before .args in
@@ -59,7 +59,7 @@ returns-2 c =
     let e = j .judge .ensures (now (A .left)) in
     let r = granted (t .taken .ensures) (h .before .before .before .if1 .left) in
     let l = leaves-taken ownWords w (A .d) (A .number) (now (A .args)) (now (A .words)) (j .judge .result) r in
-    (e, rw (← e, l, h .hand-in .ensures .0, h .hand-in .ensures .1, c .place .ensures))
+    (e, rw (← e, l, h .store-section .ensures .0, h .store-section .ensures .1, c .place .ensures))
 
 pub submit-spec : {M : Type 1} → statement M
 submit-spec =
@@ -69,7 +69,7 @@ submit-spec =
     taken-requires
     same-length
     returns
-    hand-in-requires
+    store-section-requires
     place-requires
     same-length-2
     returns-2)

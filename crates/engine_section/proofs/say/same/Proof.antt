@@ -1,9 +1,9 @@
--- `engine_ticket::say::same` is safe and ends: i is at most the image's length.
+-- `engine_section::say::same` is safe and ends: i is at most the image's length.
 use Prim.Native.Nat.{_-_, _≤_}
 use borrow.Author.Needs.{needs}
 use lib.ListN.{length}
-use Rattle.engine_ticket.proofs.say.same.Statement.{statement}
-use Rattle.engine_ticket.proofs.say.same.Tie as tie
+use Rattle.engine_section.proofs.say.same.Statement.{statement}
+use Rattle.engine_section.proofs.say.same.Tie as tie
 
 abbrev Inv-loop : tie.InvT-loop
 Inv-loop before image i₀ i = i ≤ length image

@@ -1,4 +1,4 @@
--- `engine::handing::by_verdict` meets its contract, by the variants of the verdict.
+-- `engine::submitting::by_verdict` meets its contract, by the variants of the verdict.
 use borrow.Author.Needs.{needs}
 use mathlib.Core.Bool.{false, true≢false}
 use mathlib.Core.Path.{_≡_, refl, sym, _∙_}
@@ -9,8 +9,8 @@ use Rattle.section.proofs.Passing.{passed-is}
 use Rattle.engine.specs.declared.Refusal.the-variants.{Section}
 use Rattle.engine.specs.declared.Submitted.the-variants.{Refused}
 use Rattle.engine.specs.Submit.{verdictAnswer}
-use Rattle.engine.proofs.handing.by_verdict.Statement.{statement}
-use Rattle.engine.proofs.handing.by_verdict.Tie as tie
+use Rattle.engine.proofs.submitting.by_verdict.Statement.{statement}
+use Rattle.engine.proofs.submitting.by_verdict.Tie as tie
 
 refused-says : (v : Verdict) → passes v ≡ false → verdictAnswer v ≡ Refused (Section v)
 refused-says Pass h = absurd (true≢false h)

@@ -1,4 +1,4 @@
--- `engine::handing::judge` meets its contract: its tests are the definition's, in the same order, each past those before it.
+-- `engine::submitting::judge` meets its contract: its tests are the definition's, in the same order, each past those before it.
 use Prim.Native.Nat.{ℕ, _≤_, _<_}
 use borrow.Author.Tests.{lt-ltb, le-ltb}
 use borrow.Author.Needs.{needs}
@@ -9,8 +9,8 @@ use Rattle.base.proofs.Bools.{denied, granted}
 use Rattle.image.specs.Image.{Image, workers, headerOk, Inside}
 use Rattle.image.proofs.Header.{header-workers}
 use Rattle.engine.specs.Submit.{submitAnswer}
-use Rattle.engine.proofs.handing.judge.Statement.{statement}
-use Rattle.engine.proofs.handing.judge.Tie as tie
+use Rattle.engine.proofs.submitting.judge.Statement.{statement}
+use Rattle.engine.proofs.submitting.judge.Tie as tie
 
 -- what the reads of worker d's record ask
 inside : (mark n : ℕ) (m : Image) (d : ℕ) → n ≤ 64 → headerOk mark n m ≡ true → d < workers m → Inside n m d

@@ -1,11 +1,11 @@
--- `engine::handing::hand_in` meets its contract: its stores are the definition's, one call after the other.
+-- `engine::submitting::store_section` meets its contract: its stores are the definition's, one call after the other.
 use borrow.Author.Needs.{needs}
 use mathlib.Core.Path.{_≡_}
 use denote.Ref.{now}
 use lib.ListN.{length}
 use Rattle.engine.proofs.Submission.{submission-stores, submission-left}
-use Rattle.engine.proofs.handing.hand_in.Statement.{statement}
-use Rattle.engine.proofs.handing.hand_in.Tie as tie
+use Rattle.engine.proofs.submitting.store_section.Statement.{statement}
+use Rattle.engine.proofs.submitting.store_section.Tie as tie
 
 field-index-requires : tie.Need-field-index-requires
 field-index-requires c κs = search needs
@@ -65,8 +65,8 @@ returns c =
           (s5 .store2 .ensures .1),
     )
 
-pub hand-in-spec : {M : Type 1} → statement M
-hand-in-spec =
+pub store-section-spec : {M : Type 1} → statement M
+store-section-spec =
     tie.close
     (tie.spec
     field-index-requires

@@ -1,4 +1,4 @@
--- An uncut hand-in of an idle worker's next section: it is taken, the record holds the section, and the world is level with the
+-- An uncut submit of an idle worker's next section: it is taken, the record holds the section, and the world is level with the
 -- same state of the reference machine, the section being under way instead of waiting.
 use Prim.Native.Nat.{ℕ, _+_, _-_, _^_, _<_, _≤_}
 use mathlib.Core.Path.{_≡_, refl, ap, subst, _∙_, sym}
@@ -78,7 +78,7 @@ module _ (mark n D : ℕ) (w : Traced) (rd : Memory) (d : ℕ) (cur : ℕ → Cu
         memory = submit-memory least most eight;
         mine = placed-same (w .world .cursors) d (on 0 0) (view .full) (omega arith) (λ q. omega arith);
         others = λ e h. placed-other (w .world .cursors) d e (on 0 0) h ∙ view .others e h;
-        handed = ap (λ (l : List Given). l ++ (given d args ws ∷ [])) (view .handed);
+        entered = ap (λ (l : List Given). l ++ (given d args ws ∷ [])) (view .entered);
       })
 
 -- the record after it
@@ -112,38 +112,38 @@ module _
   abbrev rd : Memory
   rd = at n (w .world .image)
 
-  -- the number handed in
+  -- the number submitted
   abbrev pub nextNumber : ℕ
   nextNumber = rd (field Finished d) + 1
 
-  abbrev pub handIn : Move
-  handIn = whole (submits d nextNumber (g .args) (g .code))
+  abbrev pub submitNext : Move
+  submitNext = whole (submits d nextNumber (g .args) (g .code))
 
   abbrev laid-in : Memory
   laid-in = updAll rd (submission n d nextNumber (g .args) (g .code))
 
-  pub hand-in-room : nextNumber + length rest < 2 ^ 64
-  hand-in-room =
+  pub next-room : nextNumber + length rest < 2 ^ 64
+  next-room =
       let r : rd (field Finished d) + length (g ∷ rest) < 2 ^ 64 = subst (λ (l : List Given). rd (field Finished d) + length l < 2 ^ 64) waits (idles .room) in
       omega arith
 
-  pub hand-in-view : View mark n D (move mark n handIn w) laid-in d (on 0 0) (cursorAt (w .world .cursors)) (w .trace .taken ++ (g ∷ []))
-  hand-in-view =
+  pub next-view : View mark n D (move mark n submitNext w) laid-in d (on 0 0) (cursorAt (w .world .cursors)) (w .trace .taken ++ (g ∷ []))
+  next-view =
       let same : given d (g .args) (g .code) ≡ g = ap (λ (e : ℕ). given e (g .args) (g .code)) (sym (fit .by)) in
-      subst (λ (x : Given). View mark n D (move mark n handIn w) laid-in d (on 0 0) (cursorAt (w .world .cursors)) (w .trace .taken ++ (x ∷ []))) same
+      subst (λ (x : Given). View mark n D (move mark n submitNext w) laid-in d (on 0 0) (cursorAt (w .world .cursors)) (w .trace .taken ++ (x ∷ []))) same
       (submit-view mark n D w rd d (cursorAt (w .world .cursors)) (w .trace .taken) (even-view mark n D w s gs E d idle (idles .cursor)) dl nextNumber (g .args) (g .code)
       (idles .count) (idles .pc) (omega arith) (fit .passed) least most (fit .eight))
 
   private-queue : getD (s .queues) d [] ≡ map (start n) (g ∷ rest)
   private-queue = idles .queue ∙ ap (map (start n)) waits
 
-  pub hand-in-even : Even mark n D (move mark n handIn w) s (but gs d rest)
-  hand-in-even =
+  pub next-even : Even mark n D (move mark n submitNext w) s (but gs d rest)
+  next-even =
       let laid = submission-laid n rd d nextNumber (g .args) (g .code) in
-      let works = laid-works n rd laid-in d nextNumber g rest least fit laid (idles .intent) (idles .owned) hand-in-room in
+      let works = laid-works n rd laid-in d nextNumber g rest least fit laid (idles .intent) (idles .owned) next-room in
       let q = getD (s .queues) d [] in
-      subst (λ (qs : List (List Job)). Even mark n D (move mark n handIn w) (state (s .cells) qs) (but gs d rest)) (set-getD (s .queues) d [])
-      (even-after mark n D w s gs E d (move mark n handIn w) laid-in (on 0 0) (w .trace .taken ++ (g ∷ [])) (but gs d rest) (s .cells) q hand-in-view dl (λ e h. but-other gs d rest e h)
+      subst (λ (qs : List (List Job)). Even mark n D (move mark n submitNext w) (state (s .cells) qs) (but gs d rest)) (set-getD (s .queues) d [])
+      (even-after mark n D w s gs E d (move mark n submitNext w) laid-in (on 0 0) (w .trace .taken ++ (g ∷ [])) (but gs d rest) (s .cells) q next-view dl (λ e h. but-other gs d rest e h)
       (λ e h. record { fields = laid .fields e h; steps = laid .steps e h; owns = laid .owns e h })
       (inr (rw (but-same gs d rest, private-queue) works))
       (owning-kept D rd laid-in (heldsOf (s .queues)) d (heldOf q) (laid .locks) refl (E .level .owning))

@@ -1,8 +1,8 @@
--- `engine_ticket::say::same_cursors` is safe and ends: d is at most 8.
+-- `engine_section::say::same_cursors` is safe and ends: d is at most 8.
 use Prim.Native.Nat.{_-_, _≤_}
 use borrow.Author.Needs.{needs}
-use Rattle.engine_ticket.proofs.say.same_cursors.Statement.{statement}
-use Rattle.engine_ticket.proofs.say.same_cursors.Tie as tie
+use Rattle.engine_section.proofs.say.same_cursors.Statement.{statement}
+use Rattle.engine_section.proofs.say.same_cursors.Tie as tie
 
 abbrev Inv-loop : tie.InvT-loop
 Inv-loop a b d₀ d = d ≤ 8

@@ -1,5 +1,5 @@
--- `engine::handing::store_steps` meets its contract. The loop's invariant, with i instructions stored: i stores are taken off,
--- and what the stores of the others leave of the image as it is now is what the whole row leaves of the first one.
+-- `engine::submitting::store_own` meets its contract. The loop's invariant, with i words stored: i stores are taken off, and what
+-- the stores of the other words leave of the image as it is now is what the whole row leaves of the first one.
 use Prim.Native.Nat.{_-_, _≤_}
 use borrow.Author.Needs.{needs}
 use mathlib.Core.Path.{_≡_, refl, sym, _∙_}
@@ -7,27 +7,27 @@ use native.Mathlib.Omega.{arith}
 use denote.Ref.{now}
 use lib.ListN.{length, drop}
 use Rattle.image.specs.Image.{putAll}
-use Rattle.image.specs.Place.{step}
+use Rattle.image.specs.Place.{own}
 use Rattle.engine.specs.Submit.{assigns}
 use Rattle.engine.proofs.Rows.{row-step, row-end}
-use Rattle.engine.proofs.handing.store_steps.Statement.{statement}
-use Rattle.engine.proofs.handing.store_steps.Tie as tie
+use Rattle.engine.proofs.submitting.store_own.Statement.{statement}
+use Rattle.engine.proofs.submitting.store_own.Tie as tie
 
 abbrev Inv-loop : tie.InvT-loop
-Inv-loop image₀ d own words left₀ i₀ image left i =
+Inv-loop image₀ d n words left₀ i₀ image left i =
     (i ≤ length words)
     × (length image ≡ length image₀)
     × (left ≡ left₀ - i)
-    × (putAll own left image (assigns (step d) i (drop i words)) ≡ putAll own left₀ image₀ (assigns (step d) 0 words))
+    × (putAll n left image (assigns (own d) i (drop i words)) ≡ putAll n left₀ image₀ (assigns (own d) 0 words))
 
 abbrev μ-loop : tie.MeasureT-loop
-μ-loop image₀ d own words left₀ i₀ image left i = length words - i
+μ-loop image₀ d n words left₀ i₀ image left i = length words - i
 
 loop-holds : tie.Need-loop-holds Inv-loop μ-loop
 loop-holds c = (omega arith, refl, omega arith, refl)
 
-step-index-requires : tie.Need-step-index-requires Inv-loop μ-loop
-step-index-requires c κs = search needs
+own-index-requires : tie.Need-own-index-requires Inv-loop μ-loop
+own-index-requires c κs = search needs
 
 mul-store : tie.Need-mul-store Inv-loop μ-loop
 mul-store c = search needs
@@ -53,7 +53,7 @@ loop-again c =
       omega arith,
       s .kept .0 ∙ L .loop .inv .1,
       omega (arith, s .ensures .1),
-      row-step (A .own) (step (A .d)) (now (A .words)) (L .loop .i) (x .step-index .result) _ (L .loop .left) _ (L .loop .image) _ (omega arith) (x .step-index .ensures) refl (s .ensures .0) (s .ensures .1)
+      row-step (A .n) (own (A .d)) (now (A .words)) (L .loop .i) (x .own-index .result) _ (L .loop .left) _ (L .loop .image) _ (omega arith) (x .own-index .ensures) refl (s .ensures .0) (s .ensures .1)
           ∙ L .loop .inv .3,
     )
 
@@ -64,16 +64,16 @@ returns : tie.Need-returns Inv-loop μ-loop
 returns c =
     let L = c .before .loop in
     let A = c .before .before .before .before .args in
-    (sym (row-end (A .own) (step (A .d)) (now (A .words)) (L .i) (L .left) (L .image) (c .loop-test .left)) ∙ L .inv .3, omega arith)
+    (sym (row-end (A .n) (own (A .d)) (now (A .words)) (L .i) (L .left) (L .image) (c .loop-test .left)) ∙ L .inv .3, omega arith)
 
-pub store-steps-spec : {M : Type 1} → statement M
-store-steps-spec =
+pub store-own-spec : {M : Type 1} → statement M
+store-own-spec =
     tie.close
     (tie.spec
     Inv-loop
     μ-loop
     loop-holds
-    step-index-requires
+    own-index-requires
     mul-store
     shared-slice-read-store
     store-requires

@@ -1,10 +1,10 @@
--- `engine_ticket::turns` is safe and ends: i is at most k, and the image keeps its length.
+-- `engine_section::turns` is safe and ends: i is at most k, and the image keeps its length.
 use Prim.Native.Nat.{_-_, _≤_}
 use borrow.Author.Needs.{needs}
 use mathlib.Core.Path.{_≡_}
 use lib.ListN.{length}
-use Rattle.engine_ticket.proofs.turns.Statement.{statement}
-use Rattle.engine_ticket.proofs.turns.Tie as tie
+use Rattle.engine_section.proofs.turns.Statement.{statement}
+use Rattle.engine_section.proofs.turns.Tie as tie
 
 abbrev Inv-loop : tie.InvT-loop
 Inv-loop image₀ d k left₀ c₀ i₀ t8 image left c i = (i ≤ k) × (length image ≡ length image₀)

@@ -1,4 +1,4 @@
--- `engine::handing::clear_own` meets its contract. The zeros from one word on are the end of a row of n zeros. The loop's
+-- `engine::submitting::clear_own` meets its contract. The zeros from one word on are the end of a row of n zeros. The loop's
 -- invariant, at word i: a store is taken off for each word before it, and what the rest of the row leaves of the image as
 -- it is now is what the row from the first word on leaves of the first one.
 use Prim.Native.Nat.{ℕ, _-_, _≤_, _<_}
@@ -10,8 +10,8 @@ use Rattle.image.specs.Image.{putAll}
 use Rattle.image.specs.Place.{own}
 use Rattle.engine.specs.Submit.{assigns}
 use Rattle.engine.proofs.Rows.{drop-replicate, replicate-zero, row-step, row-end}
-use Rattle.engine.proofs.handing.clear_own.Statement.{statement}
-use Rattle.engine.proofs.handing.clear_own.Tie as tie
+use Rattle.engine.proofs.submitting.clear_own.Statement.{statement}
+use Rattle.engine.proofs.submitting.clear_own.Tie as tie
 
 abbrev Inv-loop : tie.InvT-loop
 Inv-loop image₀ d from n left₀ i₀ image left i =

@@ -1,4 +1,4 @@
-// Handing a section in: the causes, and the stores of one that is taken.
+// Submitting a section: the causes, and the stores of one that is taken.
 use crate::Cursors;
 use crate::Refusal;
 use crate::Submitted;
@@ -53,7 +53,7 @@ fn store_steps(image: &mut [u64], d: usize, own: usize, words: &[u64], left: &mu
 }
 
 // The stores of a section that is taken.
-pub fn hand_in(
+pub fn store_section(
     image: &mut [u64],
     d: usize,
     number: u64,

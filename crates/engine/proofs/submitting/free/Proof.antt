@@ -1,11 +1,11 @@
--- `engine::handing::free` meets its contract: the three tests are the definition's, in the same order.
+-- `engine::submitting::free` meets its contract: the three tests are the definition's, in the same order.
 use borrow.Author.Tests.{eq-eqb, ne-eqb}
 use borrow.Author.Needs.{needs}
 use native.Mathlib.Omega.{arith}
 use Rattle.base.proofs.Bools.{denied, granted}
 use Rattle.engine.specs.Submit.{free}
-use Rattle.engine.proofs.handing.free.Statement.{statement}
-use Rattle.engine.proofs.handing.free.Tie as tie
+use Rattle.engine.proofs.submitting.free.Statement.{statement}
+use Rattle.engine.proofs.submitting.free.Tie as tie
 
 idle-requires : tie.Need-idle-requires
 idle-requires c κs = search needs
