@@ -18,6 +18,10 @@ putFrom left m i (v ∷ vs) = putFrom (left - 1) (put left m i v) (i + 1) vs
 unfoldable pub formattable : ℕ → Image → ℕ → Bool
 formattable n m D = leb 1 D && leb D 8 && eqb (length m) (lengthOf n D)
 
+-- the words of an image of D workers; 0 for a number that no image has
+unfoldable pub imageWords : ℕ → ℕ → ℕ
+imageWords n D = cond (leb 1 D && leb D 8) (lengthOf n D) 0
+
 -- the words of a formatted image from index 1 up
 abbrev pub formTail : ℕ → ℕ → List ℕ
 formTail n D = D ∷ replicate (lengthOf n D - 2) 0

@@ -18,7 +18,7 @@ ghost use Rattle.engine.specs.Edition.{mark, ownWords};
 ghost use Rattle.engine.specs.Cursor.{allIdle};
 ghost use Rattle.engine.specs.Refusal.{causeOf, valueOf};
 ghost use Rattle.engine.specs.World.{world, answerOf, leaves, outcome};
-ghost use Rattle.engine.specs.Format.{formatAnswer, formatLeaves, formatLeft};
+ghost use Rattle.engine.specs.Format.{imageWords, formatAnswer, formatLeaves, formatLeft};
 ghost use Rattle.engine.specs.Submit.{submitAnswer, submitLeaves};
 ghost use Rattle.engine.specs.Run.{counting, ran, runOf};
 
@@ -143,6 +143,19 @@ pub fn value(r: Refusal) -> usize
         Refusal::Image => 0,
         Refusal::Cursor(d) => d,
     }
+}
+
+// The words of an image of so many workers; 0 for a number that no image has.
+pub fn image_words(workers: u64) -> usize
+    ensures { λ r. ⌜ r ≡ imageWords ownWords workers ⌝ }
+{
+    if workers < 1 {
+        return 0;
+    }
+    if 8 < workers {
+        return 0;
+    }
+    image::record_at(workers as usize, OWN)
 }
 
 // Formats an image for so many workers. All of them are idle, also where it is refused.

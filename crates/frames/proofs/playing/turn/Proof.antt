@@ -1,0 +1,55 @@
+-- `frames::playing::turn` meets its contract: no turn where none is left, else the engine's.
+use borrow.Author.Needs.{needs}
+use Prim.Native.Nat.{suc, _-_}
+use mathlib.Core.Path.{_≡_, refl, sym, ap, _∙_}
+use native.Mathlib.Omega.{arith}
+use denote.Ref.{now}
+use Rattle.engine.specs.Edition.{mark, ownWords}
+use Rattle.engine.specs.World.{World, world, outcome, answerOf, leaves}
+use Rattle.frames.specs.Play.{Day, uncut, turned, turnDay}
+use Rattle.frames.specs.Play.{turnDay}
+use Rattle.frames.proofs.playing.turn.Statement.{statement}
+use Rattle.frames.proofs.playing.turn.Tie as tie
+
+over-requires : tie.Need-over-requires
+over-requires c κs = search needs
+
+returns : tie.Need-returns
+unfolding turnDay
+returns c = rw (c .before .if1 .taken, c .over .ensures)
+
+turn-requires : tie.Need-turn-requires
+turn-requires c κs = search needs
+
+turned-requires : tie.Need-turned-requires
+turned-requires c κs = search needs
+
+sub-turns-job : tie.Need-sub-turns-job
+sub-turns-job c = search needs
+
+turns-job-requires : tie.Need-turns-job-requires
+turns-job-requires c κs = search needs
+
+same-length : tie.Need-same-length
+same-length c = search needs
+
+returns-2 : tie.Need-returns-2
+unfolding turnDay
+returns-2 c =
+    let t = c .before .before .before .before .before .before .turn in
+    let A = c .before .before .before .before .before .before .before .before .before .before .before .before .before .args in
+    let k : A .turns ≡ suc (A .turns - 1) = omega arith in
+    rw (k, c .turns-job .ensures, c .before .turned .ensures, ← t .ensures .1, ← t .ensures .0)
+
+pub turn-spec : {M : Type 1} → statement M
+turn-spec =
+    tie.close
+    (tie.spec
+    over-requires
+    returns
+    turn-requires
+    turned-requires
+    sub-turns-job
+    turns-job-requires
+    same-length
+    returns-2)

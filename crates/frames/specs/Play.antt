@@ -1,0 +1,113 @@
+-- One line played on an image and cursors: what is printed, what is left to do, and what the image then is. A line is begun
+-- (`begin`), and gone on with (`goOn`) while turns are to be made or stores to be printed.
+use Prim.Native.Nat.{ℕ, zero, suc, _+_, _-_}
+use mathlib.Core.List.{List}
+use mathlib.Core.Bool.{Bool, true, false, cond}
+use lib.Dec.{ltb, eqb}
+use Rattle.image.specs.Image.{Image}
+use Rattle.engine.specs.declared.Cursors.{Cursors}
+use Rattle.engine.specs.declared.Submitted.{Submitted}
+use Rattle.engine.specs.declared.Answer.{Answer}
+use Rattle.engine.specs.declared.Answer.the-variants.{Stored, Passed, Waiting, Idle, Refused as TurnRefused}
+use Rattle.engine.specs.Edition.{mark, ownWords}
+use Rattle.engine.specs.Turn.{Outcome}
+use Rattle.engine.specs.World.{World, world, outcome, answerOf, leaves}
+use Rattle.engine.specs.Submit.{submitAnswer, submitLeaves}
+use Rattle.recovery.specs.declared.Repair.{Repair}
+use Rattle.recovery.specs.declared.Answer.{Answer as Recovery}
+use Rattle.recovery.specs.declared.Answer.the-variants.{Done, Refused as RecoveryRefused}
+use Rattle.recovery.specs.Repair.{noRepair, slotAt, slotOf}
+use Rattle.recovery.specs.Recovery.{Recovered, recovery}
+use Rattle.recovery.specs.Recover.{answerOf as recoveryAnswer, cursorsOf, repairBy, recoveryLeaves}
+use Rattle.frames.specs.declared.Frame.{Frame}
+use Rattle.frames.specs.declared.Frame.the-variants.{Submit, Turns, Recover, Malformed}
+use Rattle.frames.specs.declared.Printed.{Printed}
+use Rattle.frames.specs.declared.Printed.the-variants.{Nothing}
+use Rattle.frames.specs.declared.Job.{Job}
+use Rattle.frames.specs.declared.Job.the-variants.{Turns as TurnsLeft, Stores, Next, Stop}
+use Rattle.frames.specs.declared.Played.{Played}
+use Rattle.frames.specs.Line.{frameOf, argumentsOf, stepsPart, wordsOf}
+use Rattle.frames.specs.Print.{refusal, submitPrints, turnPrints, recoverPrints, slotPrints}
+
+-- an image with where the playing of a line on it stands
+pub record Day : Type 0 where
+  pub image : Image
+  pub played : Played
+
+abbrev pub day : Image → Played → Day
+day m p = record { image = m; played = p }
+
+abbrev pub played : Cursors → Printed → Job → Repair → Played
+played c p j r = record { cursors = c; printed = p; job = j; repair = r }
+
+-- no line is cut: a call is given all the stores there are
+abbrev pub uncut : Image → Cursors → World
+uncut m c = world m c 18446744073709551615
+
+-- ---- 01
+
+abbrev pub submitted : World → Submitted → Day
+submitted w a = day (w .image) (played (w .cursors) (submitPrints a) Next noRepair)
+
+abbrev pub submitDay : Image → Cursors → List ℕ → ℕ → ℕ → Day
+submitDay m c l d k =
+    let a = submitAnswer mark ownWords (uncut m c) d k (wordsOf (stepsPart l)) in
+    submitted (submitLeaves ownWords (uncut m c) d k (argumentsOf l) (wordsOf (stepsPart l)) a) a
+
+-- ---- 02
+
+-- after a turn with this answer the next one may do more; a refused one ends the line, and after one that waits or is idle
+-- all that follow would be the same
+abbrev pub goesOn : Answer → Bool
+goesOn (Stored i) = true
+goesOn Passed = true
+goesOn (Waiting b) = false
+goesOn Idle = false
+goesOn (TurnRefused r) = false
+
+abbrev pub turned : World → Answer → ℕ → ℕ → Repair → Day
+turned w a d k r = day (w .image) (played (w .cursors) (turnPrints (w .image) a) (cond (goesOn a) (TurnsLeft d k) Next) r)
+
+-- the first of so many turns of worker d
+unfoldable pub turnDay : Image → Played → ℕ → ℕ → Day
+turnDay m p d zero = day m (played (p .cursors) Nothing Next (p .repair))
+turnDay m p d (suc k) =
+    let o = outcome mark ownWords (uncut m (p .cursors)) d in
+    turned (leaves ownWords (uncut m (p .cursors)) d o) (answerOf ownWords o) d k (p .repair)
+
+-- ---- 03
+
+abbrev pub printJob : Recovery → Job
+printJob Done = Stores 0
+printJob (RecoveryRefused r) = Next
+
+abbrev pub recovered : Image → Recovered → Day
+recovered m g =
+    day (recoveryLeaves ownWords 18446744073709551615 m g)
+    (played (cursorsOf g) (recoverPrints (recoveryAnswer g)) (printJob (recoveryAnswer g)) (repairBy ownWords m g))
+
+-- the store of a slot is printed; a repair has 592 slots
+unfoldable pub slotDay : Image → Played → ℕ → Day
+slotDay m p i =
+    cond (ltb i 592) (day m (played (p .cursors) (slotPrints (slotOf ownWords (slotAt (p .repair) i))) (Stores (i + 1)) (p .repair)))
+    (day m (played (p .cursors) Nothing Next (p .repair)))
+
+-- ---- a line
+
+abbrev pub beginFrame : Image → Cursors → List ℕ → Frame → Day
+beginFrame m c l (Submit d k) = submitDay m c l d k
+beginFrame m c l (Turns d k) = day m (played c Nothing (TurnsLeft d k) noRepair)
+beginFrame m c l Recover = recovered m (recovery mark ownWords m)
+beginFrame m c l Malformed = day m (played c (refusal 14) Stop noRepair)
+
+abbrev pub begin : Image → Cursors → List ℕ → Day
+begin m c l = beginFrame m c l (frameOf l)
+
+abbrev pub goOnJob : Image → Played → Job → Day
+goOnJob m p (TurnsLeft d k) = turnDay m p d k
+goOnJob m p (Stores i) = slotDay m p i
+goOnJob m p Next = day m (played (p .cursors) Nothing Next (p .repair))
+goOnJob m p Stop = day m (played (p .cursors) Nothing Stop (p .repair))
+
+abbrev pub goOn : Day → Day
+goOn s = goOnJob (s .image) (s .played) (s .played .job)
