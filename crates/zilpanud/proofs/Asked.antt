@@ -1,0 +1,22 @@
+-- A question that is not refused is about a worker of the image, whose record can be read.
+use Prim.Native.Nat.{ℕ}
+use mathlib.Core.Path.{_≡_, refl}
+use mathlib.Core.Bool.{Bool, true, false, cond}
+use native.Mathlib.Omega.{arith}
+use lib.Dec.{ltb}
+use borrow.Author.Tests.{ltb-true}
+use Rattle.image.specs.Image.{Image, workers, headerOk, Inside}
+use Rattle.image.proofs.Header.{header-workers}
+use Rattle.engine.specs.Edition.{mark, ownWords}
+use Rattle.zilpanud.specs.Ask.{askCode, told}
+
+private-both : (a b : Bool) → _≡_ {A = ℕ} (cond a (cond b 0 1) 10) 0 → (a ≡ true) × (b ≡ true)
+private-both true true h = (refl, refl)
+private-both true false h = absurd (omega (arith, h))
+private-both false b h = absurd (omega (arith, h))
+
+pub asked : (m : Image) (d : ℕ) → askCode m d ≡ 0 → Inside ownWords m d
+unfolding askCode
+asked m d h =
+    let p = private-both (headerOk mark ownWords m) (ltb d (workers m)) h in
+    record { few = omega arith; below = ltb-true d (workers m) (p .1); most = header-workers mark ownWords m (p .0) .1 }

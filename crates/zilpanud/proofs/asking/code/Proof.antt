@@ -1,0 +1,34 @@
+-- `zilpanud::asking::code` meets its contract: the header test, then the worker's.
+use borrow.Author.Tests.{lt-ltb, le-ltb}
+use borrow.Author.Needs.{needs}
+use Rattle.base.proofs.Bools.{denied, granted}
+use Rattle.zilpanud.specs.Ask.{askCode}
+use Rattle.zilpanud.proofs.asking.code.Statement.{statement}
+use Rattle.zilpanud.proofs.asking.code.Tie as tie
+
+header-ok-requires : tie.Need-header-ok-requires
+header-ok-requires c κs = search needs
+
+returns : tie.Need-returns
+unfolding askCode
+returns c = rw (denied (c .before .header-ok .ensures) (c .if1 .taken))
+
+workers-requires : tie.Need-workers-requires
+workers-requires c κs = search needs
+
+returns-2 : tie.Need-returns-2
+unfolding askCode
+returns-2 c =
+    let w = c .before in
+    let h = w .before .before in
+    rw (granted (h .header-ok .ensures) (w .before .if1 .left), ← w .workers .ensures, le-ltb (h .before .before .args .d) (w .workers .result) (c .if2 .taken))
+
+returns-3 : tie.Need-returns-3
+unfolding askCode
+returns-3 c =
+    let w = c .before in
+    let h = w .before .before in
+    rw (granted (h .header-ok .ensures) (w .before .if1 .left), ← w .workers .ensures, lt-ltb (h .before .before .args .d) (w .workers .result) (c .if2 .left))
+
+pub code-spec : {M : Type 1} → statement M
+code-spec = tie.close (tie.spec header-ok-requires returns workers-requires returns-2 returns-3)

@@ -1,0 +1,54 @@
+// The questions about a worker of an image.
+use engine::Cursors;
+use image::Field;
+ghost use mathlib.Core.Path.{_≡_};
+ghost use Rattle.image.specs.Image.{Inside};
+ghost use Rattle.engine.specs.Edition.{ownWords};
+ghost use Rattle.zilpanud.specs.Ask.{askCode, idleBit, finishedNo, stageOf};
+
+// The edition of images that the library serves: word 0, and the own words of a record.
+const MARK: u64 = 1;
+
+const OWN: usize = 8;
+
+// The number that a question about worker d returns: causes 10 and 1, or 0.
+pub fn code(image: &[u64], d: usize) -> u64
+    ensures { λ r. ⌜ r ≡ askCode (now (image .entry)) d ⌝ }
+{
+    if !image::header_ok(image, MARK, OWN) {
+        return 10;
+    }
+    if image::workers(image) <= d as u64 {
+        return 1;
+    }
+    0
+}
+
+// 1 where worker d is idle, else 0.
+pub fn idle(c: Cursors, d: usize) -> u64
+    ensures { λ r. ⌜ r ≡ idleBit c d ⌝ }
+{
+    if engine::working::idle(c, d) { 1 } else { 0 }
+}
+
+// The number of the last section that worker d finished.
+pub fn finished(image: &[u64], d: usize) -> u64
+    requires { ⌜ Inside ownWords (now image) d ⌝ }
+    ensures { λ r. ⌜ r ≡ finishedNo (now (image .entry)) d ⌝ }
+{
+    image::read_field(image, Field::Finished, d, OWN)
+}
+
+// 0 where worker d has no section, 1 where it is not begun, 2 where it is.
+pub fn stage(image: &[u64], d: usize) -> u64
+    requires { ⌜ Inside ownWords (now image) d ⌝ }
+    ensures { λ r. ⌜ r ≡ stageOf (now (image .entry)) d ⌝ }
+{
+    if image::read_field(image, Field::Count, d, OWN) == 0 {
+        return 0;
+    }
+    if image::read_field(image, Field::Pc, d, OWN) == 0 {
+        return 1;
+    }
+    2
+}

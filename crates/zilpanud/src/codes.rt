@@ -1,0 +1,128 @@
+// The numbers that answers cross the boundary as: document 01's causes from 1 to 13 for refusals, 0 for done, 16 to 20 for the
+// other answers of turns and runs; and the detail beside each.
+use engine::Answer;
+use engine::End;
+use engine::Formatted;
+use engine::Refusal;
+use engine::Submitted;
+ghost use mathlib.Core.Path.{_≡_};
+ghost use Rattle.engine.specs.Refusal.{causeOf, valueOf};
+ghost use Rattle.recovery.specs.Recover.{answerCause, answerValue};
+ghost use Rattle.zilpanud.specs.Codes.{formatCode, submitCode, submitDetail, turnCode, turnDetail, endCode, endDetail};
+
+// Document 01's number of a refusal.
+pub fn cause(r: Refusal) -> u64
+    ensures { λ n. ⌜ n ≡ causeOf r ⌝ }
+{
+    match r {
+        Refusal::Worker => 1,
+        Refusal::Busy => 2,
+        Refusal::Number => 3,
+        Refusal::Section(v) => section::cause(v),
+        Refusal::Image => 10,
+        Refusal::Cursor(_) => 11,
+    }
+}
+
+// The step or worker that goes with it; 0 where there is none.
+pub fn value(r: Refusal) -> u64
+    ensures { λ n. ⌜ n ≡ valueOf r ⌝ }
+{
+    match r {
+        Refusal::Worker => 0,
+        Refusal::Busy => 0,
+        Refusal::Number => 0,
+        Refusal::Section(v) => section::step(v) as u64,
+        Refusal::Image => 0,
+        Refusal::Cursor(d) => d as u64,
+    }
+}
+
+pub fn format_code(a: Formatted) -> u64
+    ensures { λ n. ⌜ n ≡ formatCode a ⌝ }
+{
+    match a {
+        Formatted::Done => 0,
+        Formatted::Refused(r) => cause(r),
+    }
+}
+
+pub fn submit_code(a: Submitted) -> u64
+    ensures { λ n. ⌜ n ≡ submitCode a ⌝ }
+{
+    match a {
+        Submitted::Taken => 0,
+        Submitted::Refused(r) => cause(r),
+    }
+}
+
+pub fn submit_detail(a: Submitted) -> u64
+    ensures { λ n. ⌜ n ≡ submitDetail a ⌝ }
+{
+    match a {
+        Submitted::Taken => 0,
+        Submitted::Refused(r) => value(r),
+    }
+}
+
+pub fn turn_code(a: Answer) -> u64
+    ensures { λ n. ⌜ n ≡ turnCode a ⌝ }
+{
+    match a {
+        Answer::Stored(_) => 16,
+        Answer::Passed => 17,
+        Answer::Waiting(_) => 18,
+        Answer::Idle => 19,
+        Answer::Refused(r) => cause(r),
+    }
+}
+
+pub fn turn_detail(a: Answer) -> u64
+    ensures { λ n. ⌜ n ≡ turnDetail a ⌝ }
+{
+    match a {
+        Answer::Stored(i) => i as u64,
+        Answer::Passed => 0,
+        Answer::Waiting(b) => b,
+        Answer::Idle => 0,
+        Answer::Refused(r) => value(r),
+    }
+}
+
+pub fn end_code(e: End) -> u64
+    ensures { λ n. ⌜ n ≡ endCode e ⌝ }
+{
+    match e {
+        End::AllIdle => 0,
+        End::Spent => 20,
+        End::Halted(r) => cause(r),
+    }
+}
+
+pub fn end_detail(e: End) -> u64
+    ensures { λ n. ⌜ n ≡ endDetail e ⌝ }
+{
+    match e {
+        End::AllIdle => 0,
+        End::Spent => 0,
+        End::Halted(r) => value(r),
+    }
+}
+
+pub fn recovery_code(a: recovery::Answer) -> u64
+    ensures { λ n. ⌜ n ≡ answerCause a ⌝ }
+{
+    match a {
+        recovery::Answer::Done => 0,
+        recovery::Answer::Refused(r) => recovery::cause(r),
+    }
+}
+
+pub fn recovery_detail(a: recovery::Answer) -> u64
+    ensures { λ n. ⌜ n ≡ answerValue a ⌝ }
+{
+    match a {
+        recovery::Answer::Done => 0,
+        recovery::Answer::Refused(r) => recovery::value(r),
+    }
+}
