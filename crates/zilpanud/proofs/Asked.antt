@@ -4,7 +4,7 @@ use mathlib.Core.Path.{_≡_, refl}
 use mathlib.Core.Bool.{Bool, true, false, cond}
 use native.Mathlib.Omega.{arith}
 use lib.Dec.{ltb}
-use borrow.Author.Tests.{ltb-true}
+use borrow.Author.Tests.{ltb-true, eq-eqb, ne-eqb}
 use Rattle.image.specs.Image.{Image, workers, headerOk, Inside}
 use Rattle.image.proofs.Header.{header-workers}
 use Rattle.engine.specs.Edition.{mark, ownWords}
@@ -20,3 +20,12 @@ unfolding askCode
 asked m d h =
     let p = private-both (headerOk mark ownWords m) (ltb d (workers m)) h in
     record { few = omega arith; below = ltb-true d (workers m) (p .1); most = header-workers mark ownWords m (p .0) .1 }
+
+-- what is told, by the number returned
+pub told-yes : (m : Image) (d v : ℕ) → askCode m d ≡ 0 → v ≡ told m d v
+unfolding told
+told-yes m d v h = rw (eq-eqb _ _ h)
+
+pub told-no : (m : Image) (d v : ℕ) → (askCode m d ≡ 0 → ⊥) → 0 ≡ told m d v
+unfolding told
+told-no m d v h = rw (ne-eqb _ _ h)

@@ -27,6 +27,6 @@ idleBit c d = cond (isIdle (cursorAt c d)) 1 0
 abbrev pub finishedNo : Image → ℕ → ℕ
 finishedNo m d = at ownWords m (field Finished d)
 
--- 0: worker d has no section; 1: one that is handed in and not begun; 2: one that is begun
+-- 0: worker d has no section; 1: one that is submitted and not begun; 2: one that is begun
 unfoldable pub stageOf : Image → ℕ → ℕ
 stageOf m d = cond (eqb (at ownWords m (field Count d)) 0) 0 (cond (eqb (at ownWords m (field Pc d)) 0) 1 2)

@@ -1,6 +1,8 @@
 -- The number that each answer crosses as, and the detail beside it: 0 for done, document 01's cause for a refusal, with the step,
 -- worker or lock that goes with it, and 16 to 20 for what else a turn or a run answers. A detail that is not named is 0.
 use Prim.Native.Nat.{ℕ}
+use Rattle.section.specs.declared.Verdict.{Verdict}
+use Rattle.section.specs.Check.{causeOf as checkCause, stepOf}
 use Rattle.engine.specs.declared.Answer.{Answer}
 use Rattle.engine.specs.declared.Answer.the-variants.{Stored, Passed, Waiting, Idle, Refused}
 use Rattle.engine.specs.declared.Formatted.{Formatted}
@@ -10,10 +12,18 @@ use Rattle.engine.specs.declared.Submitted.the-variants.{Taken, Refused as Subm
 use Rattle.engine.specs.declared.End.{End}
 use Rattle.engine.specs.declared.End.the-variants.{AllIdle, Spent, Halted}
 use Rattle.engine.specs.Refusal.{causeOf, valueOf}
+use Rattle.recovery.specs.Recover.{answerCause, answerValue, answerOf}
+use Rattle.recovery.specs.Recovery.{Recovered}
 
 abbrev pub formatCode : Formatted → ℕ
 formatCode Done = 0
 formatCode (FormatRefused r) = causeOf r
+
+abbrev pub checkCode : Verdict → ℕ
+checkCode v = checkCause v
+
+abbrev pub checkDetail : Verdict → ℕ
+checkDetail v = stepOf v
 
 abbrev pub submitCode : Submitted → ℕ
 submitCode Taken = 0
@@ -47,3 +57,9 @@ abbrev pub endDetail : End → ℕ
 endDetail AllIdle = 0
 endDetail Spent = 0
 endDetail (Halted r) = valueOf r
+
+abbrev pub recoverCode : Recovered → ℕ
+recoverCode x = answerCause (answerOf x)
+
+abbrev pub recoverDetail : Recovered → ℕ
+recoverDetail x = answerValue (answerOf x)

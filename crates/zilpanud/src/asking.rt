@@ -1,15 +1,12 @@
 // The questions about a worker of an image.
+use crate::MARK;
+use crate::OWN;
 use engine::Cursors;
 use image::Field;
 ghost use mathlib.Core.Path.{_≡_};
 ghost use Rattle.image.specs.Image.{Inside};
 ghost use Rattle.engine.specs.Edition.{ownWords};
 ghost use Rattle.zilpanud.specs.Ask.{askCode, idleBit, finishedNo, stageOf};
-
-// The edition of images that the library serves: word 0, and the own words of a record.
-const MARK: u64 = 1;
-
-const OWN: usize = 8;
 
 // The number that a question about worker d returns: causes 10 and 1, or 0.
 pub fn code(image: &[u64], d: usize) -> u64

@@ -109,7 +109,7 @@ pub fn end_detail(e: End) -> u64
     }
 }
 
-pub fn recovery_code(a: recovery::Answer) -> u64
+pub fn recover_code(a: recovery::Answer) -> u64
     ensures { λ n. ⌜ n ≡ answerCause a ⌝ }
 {
     match a {
@@ -118,7 +118,7 @@ pub fn recovery_code(a: recovery::Answer) -> u64
     }
 }
 
-pub fn recovery_detail(a: recovery::Answer) -> u64
+pub fn recover_detail(a: recovery::Answer) -> u64
     ensures { λ n. ⌜ n ≡ answerValue a ⌝ }
 {
     match a {

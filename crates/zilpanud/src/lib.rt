@@ -2,13 +2,21 @@
 // number and a detail (codes.rt); the cursors as two arrays, a step and a turn for each worker.
 mod asking;
 mod codes;
+mod cursors;
 
-use engine::Cursors;
+ghost use mathlib.Core.Path.{_≡_};
+ghost use Rattle.zilpanud.specs.Codes.{formatCode, checkCode, checkDetail, submitCode, submitDetail};
+ghost use Rattle.zilpanud.specs.Codes.{turnCode, turnDetail, endCode, endDetail, recoverCode, recoverDetail};
+ghost use Rattle.zilpanud.specs.Lent.{cursors, lent, formatting, formatsTo, checking, submitting, submitsTo};
+ghost use Rattle.zilpanud.specs.Lent.{turning, turnsTo, running, counts, recovering, recoversTo};
+ghost use Rattle.zilpanud.specs.Ask.{askCode, told, idleBit, finishedNo, stageOf};
 
-// The own words of a record.
-const OWN: u16 = 8;
+// The edition of images that the library serves: word 0, and the own words of a record.
+const MARK: u64 = 1;
 
-// Formats an image for so many workers.
+const OWN: usize = 8;
+
+// Formats an image for so many workers: 0, or 10. All workers are idle, also where it is refused.
 #[no_mangle]
 pub extern "C" fn zilpanud_format(
     image: &mut [u64],
@@ -16,26 +24,30 @@ pub extern "C" fn zilpanud_format(
     step: &mut [u8; 8],
     turn: &mut [u8; 8],
     left: &mut u64,
-) -> u64 {
+) -> u64
+    ensures code { λ r. ⌜ r ≡ formatCode (formatting (now (image .entry)) workers) ⌝ }
+    ensures after { λ r. ⌜ lent (now (image .exit)) (now (step .exit)) (now (turn .exit)) (now (left .exit))
+        ≡ formatsTo (now (image .entry)) workers (now (left .entry)) ⌝ }
+{
     let r = engine::format(image, workers, left);
     let next = r.cursors;
-    let steps = next.step;
-    *step = steps;
-    let turns = next.turn;
-    *turn = turns;
+    cursors::leave(next, step, turn);
     let a = r.answer;
     codes::format_code(a)
 }
 
-// The check of a section.
+// The check of a section: 0, or 4 to 9, with the step.
 #[no_mangle]
-pub extern "C" fn zilpanud_check(words: &[u64], detail: &mut u64) -> u64 {
-    let v = section::check(words, OWN);
+pub extern "C" fn zilpanud_check(words: &[u64], detail: &mut u64) -> u64
+    ensures code { λ r. ⌜ r ≡ checkCode (checking (now (words .entry))) ⌝ }
+    ensures detail { λ r. ⌜ now (detail .exit) ≡ checkDetail (checking (now (words .entry))) ⌝ }
+{
+    let v = section::check(words, OWN as u16);
     *detail = section::step(v) as u64;
     section::cause(v)
 }
 
-// Hands a section in for a worker.
+// Hands a section in for a worker: 0, or 10, 1, 2, 3 and 4 to 9, the last with the step.
 #[no_mangle]
 pub extern "C" fn zilpanud_submit(
     image: &mut [u64],
@@ -47,22 +59,24 @@ pub extern "C" fn zilpanud_submit(
     words: &[u64],
     left: &mut u64,
     detail: &mut u64,
-) -> u64 {
-    let s = *step;
-    let t = *turn;
-    let c = Cursors { step: s, turn: t };
+) -> u64
+    ensures code { λ r. ⌜ r
+        ≡ submitCode (submitting (lent (now (image .entry)) (now (step .entry)) (now (turn .entry)) (now (left .entry))) worker number (now (words .entry))) ⌝ }
+    ensures detail { λ r. ⌜ now (detail .exit)
+        ≡ submitDetail (submitting (lent (now (image .entry)) (now (step .entry)) (now (turn .entry)) (now (left .entry))) worker number (now (words .entry))) ⌝ }
+    ensures after { λ r. ⌜ lent (now (image .exit)) (now (step .exit)) (now (turn .exit)) (now (left .exit))
+        ≡ submitsTo (lent (now (image .entry)) (now (step .entry)) (now (turn .entry)) (now (left .entry))) worker number (now (args .entry)) (now (words .entry)) ⌝ }
+{
+    let c = cursors::lent(step, turn);
     let r = engine::submit(image, c, worker, number, args, words, left);
-    let next = r.cursors;
-    let steps = next.step;
-    *step = steps;
-    let turns = next.turn;
-    *turn = turns;
+    let placed = r.cursors;
+    cursors::leave(placed, step, turn);
     let a = r.answer;
     *detail = codes::submit_detail(a);
     codes::submit_code(a)
 }
 
-// One turn of a worker.
+// One turn of a worker: 16 stored, with the index, 17 passed, 18 waiting, with the lock, 19 idle; or 10, 1, 11 with the worker.
 #[no_mangle]
 pub extern "C" fn zilpanud_turn(
     image: &mut [u64],
@@ -71,22 +85,23 @@ pub extern "C" fn zilpanud_turn(
     worker: usize,
     left: &mut u64,
     detail: &mut u64,
-) -> u64 {
-    let s = *step;
-    let t = *turn;
-    let c = Cursors { step: s, turn: t };
+) -> u64
+    ensures code { λ r. ⌜ r ≡ turnCode (turning (lent (now (image .entry)) (now (step .entry)) (now (turn .entry)) (now (left .entry))) worker) ⌝ }
+    ensures detail { λ r. ⌜ now (detail .exit)
+        ≡ turnDetail (turning (lent (now (image .entry)) (now (step .entry)) (now (turn .entry)) (now (left .entry))) worker) ⌝ }
+    ensures after { λ r. ⌜ lent (now (image .exit)) (now (step .exit)) (now (turn .exit)) (now (left .exit))
+        ≡ turnsTo (lent (now (image .entry)) (now (step .entry)) (now (turn .entry)) (now (left .entry))) worker ⌝ }
+{
+    let c = cursors::lent(step, turn);
     let r = engine::turn(image, c, worker, left);
     let next = r.cursors;
-    let steps = next.step;
-    *step = steps;
-    let turns = next.turn;
-    *turn = turns;
+    cursors::leave(next, step, turn);
     let a = r.answer;
     *detail = codes::turn_detail(a);
     codes::turn_code(a)
 }
 
-// Rounds of turns until all workers are idle.
+// Rounds of turns until all workers are idle: 0, 20 spent; or 10, 11 with the worker. The tally: turns, waits, stores.
 #[no_mangle]
 pub extern "C" fn zilpanud_run(
     image: &mut [u64],
@@ -96,16 +111,19 @@ pub extern "C" fn zilpanud_run(
     tally: &mut [u64; 3],
     left: &mut u64,
     detail: &mut u64,
-) -> u64 {
-    let s = *step;
-    let t = *turn;
-    let c = Cursors { step: s, turn: t };
+) -> u64
+    ensures code { λ r. ⌜ r ≡ endCode (running (lent (now (image .entry)) (now (step .entry)) (now (turn .entry)) (now (left .entry))) rounds .end) ⌝ }
+    ensures detail { λ r. ⌜ now (detail .exit)
+        ≡ endDetail (running (lent (now (image .entry)) (now (step .entry)) (now (turn .entry)) (now (left .entry))) rounds .end) ⌝ }
+    ensures after { λ r. ⌜ lent (now (image .exit)) (now (step .exit)) (now (turn .exit)) (now (left .exit))
+        ≡ running (lent (now (image .entry)) (now (step .entry)) (now (turn .entry)) (now (left .entry))) rounds .after .world ⌝ }
+    ensures tally { λ r. ⌜ now (tally .exit)
+        ≡ counts (running (lent (now (image .entry)) (now (step .entry)) (now (turn .entry)) (now (left .entry))) rounds .after .tally) ⌝ }
+{
+    let c = cursors::lent(step, turn);
     let r = engine::run(image, c, rounds, left);
     let next = r.cursors;
-    let steps = next.step;
-    *step = steps;
-    let turns = next.turn;
-    *turn = turns;
+    cursors::leave(next, step, turn);
     let n = r.tally;
     *tally = [n.turns, n.waits, n.stores];
     let e = r.end;
@@ -113,7 +131,7 @@ pub extern "C" fn zilpanud_run(
     codes::end_code(e)
 }
 
-// Recovers an image after a cut.
+// Recovers an image after a cut: 0, or 10, 12 with the worker, 13 with the lock. The arrays are lent for the new cursors alone.
 #[no_mangle]
 pub extern "C" fn zilpanud_recover(
     image: &mut [u64],
@@ -121,19 +139,21 @@ pub extern "C" fn zilpanud_recover(
     turn: &mut [u8; 8],
     left: &mut u64,
     detail: &mut u64,
-) -> u64 {
+) -> u64
+    ensures code { λ r. ⌜ r ≡ recoverCode (recovering (now (image .entry))) ⌝ }
+    ensures detail { λ r. ⌜ now (detail .exit) ≡ recoverDetail (recovering (now (image .entry))) ⌝ }
+    ensures after { λ r. ⌜ lent (now (image .exit)) (now (step .exit)) (now (turn .exit)) (now (left .exit))
+        ≡ recoversTo (now (image .entry)) (now (left .entry)) ⌝ }
+{
     let r = recovery::recover(image, left);
     let next = r.cursors;
-    let steps = next.step;
-    *step = steps;
-    let turns = next.turn;
-    *turn = turns;
+    cursors::leave(next, step, turn);
     let a = r.answer;
-    *detail = codes::recovery_detail(a);
-    codes::recovery_code(a)
+    *detail = codes::recover_detail(a);
+    codes::recover_code(a)
 }
 
-// Whether a worker is idle.
+// Whether a worker is idle, 1 or 0. It returns 0, or 10, 1, as all questions do, and answers 0 where it is refused.
 #[no_mangle]
 pub extern "C" fn zilpanud_is_idle(
     image: &[u64],
@@ -141,22 +161,27 @@ pub extern "C" fn zilpanud_is_idle(
     turn: &[u8; 8],
     worker: usize,
     answer: &mut u64,
-) -> u64 {
+) -> u64
+    ensures code { λ r. ⌜ r ≡ askCode (now (image .entry)) worker ⌝ }
+    ensures answer { λ r. ⌜ now (answer .exit)
+        ≡ told (now (image .entry)) worker (idleBit (cursors (now (step .entry)) (now (turn .entry))) worker) ⌝ }
+{
     let no = asking::code(image, worker);
     if no != 0 {
         *answer = 0;
         return no;
     }
-    let s = *step;
-    let t = *turn;
-    let c = Cursors { step: s, turn: t };
+    let c = cursors::lent(step, turn);
     *answer = asking::idle(c, worker);
     0
 }
 
 // The number of the last section that a worker finished.
 #[no_mangle]
-pub extern "C" fn zilpanud_finished(image: &[u64], worker: usize, number: &mut u64) -> u64 {
+pub extern "C" fn zilpanud_finished(image: &[u64], worker: usize, number: &mut u64) -> u64
+    ensures code { λ r. ⌜ r ≡ askCode (now (image .entry)) worker ⌝ }
+    ensures answer { λ r. ⌜ now (number .exit) ≡ told (now (image .entry)) worker (finishedNo (now (image .entry)) worker) ⌝ }
+{
     let no = asking::code(image, worker);
     if no != 0 {
         *number = 0;
@@ -166,9 +191,12 @@ pub extern "C" fn zilpanud_finished(image: &[u64], worker: usize, number: &mut u
     0
 }
 
-// How far a worker's section is: none, handed in and not begun, or begun.
+// How far a worker's section is: 0 none, 1 submitted and not begun, 2 begun.
 #[no_mangle]
-pub extern "C" fn zilpanud_under_way(image: &[u64], worker: usize, stage: &mut u64) -> u64 {
+pub extern "C" fn zilpanud_under_way(image: &[u64], worker: usize, stage: &mut u64) -> u64
+    ensures code { λ r. ⌜ r ≡ askCode (now (image .entry)) worker ⌝ }
+    ensures answer { λ r. ⌜ now (stage .exit) ≡ told (now (image .entry)) worker (stageOf (now (image .entry)) worker) ⌝ }
+{
     let no = asking::code(image, worker);
     if no != 0 {
         *stage = 0;

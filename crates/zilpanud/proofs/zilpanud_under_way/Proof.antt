@@ -1,7 +1,9 @@
+-- `zilpanud_under_way` meets its contract: refused, or about a worker whose record can be read.
 use borrow.Author.Needs.{needs}
-use denote.Ref.{now}
 use mathlib.Core.Path.{sym, _∙_}
-use Rattle.zilpanud.proofs.Asked.{asked}
+use denote.Ref.{now}
+use Rattle.zilpanud.specs.Ask.{stageOf}
+use Rattle.zilpanud.proofs.Asked.{asked, told-yes, told-no}
 use Rattle.zilpanud.proofs.zilpanud_under_way.Statement.{statement}
 use Rattle.zilpanud.proofs.zilpanud_under_way.Tie as tie
 
@@ -9,7 +11,10 @@ code-requires : tie.Need-code-requires
 code-requires c κs = search needs
 
 returns : tie.Need-returns
-returns c = search needs
+returns c =
+    let a = c .before in
+    let A = a .before .before .args in
+    (a .code .ensures, told-no (now (A .image)) (A .worker) (stageOf (now (A .image)) (A .worker)) (λ e. c .if1 .taken (a .code .ensures ∙ e)))
 
 stage-requires : tie.Need-stage-requires
 stage-requires c κs =
@@ -18,7 +23,11 @@ stage-requires c κs =
     asked (now (A .image)) (A .worker) (sym (a .code .ensures) ∙ c .if1 .left)
 
 returns-2 : tie.Need-returns-2
-returns-2 c = search needs
+returns-2 c =
+    let a = c .before .before in
+    let A = a .before .before .args in
+    let z = sym (a .code .ensures) ∙ c .before .if1 .left in
+    (sym z, c .stage .ensures ∙ told-yes (now (A .image)) (A .worker) (stageOf (now (A .image)) (A .worker)) z)
 
 pub zilpanud-under-way-spec : {M : Type 1} → statement M
 zilpanud-under-way-spec = tie.close (tie.spec code-requires returns stage-requires returns-2)

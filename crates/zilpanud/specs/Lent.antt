@@ -1,0 +1,73 @@
+-- What a call is lent and leaves, as the engine's world: an image, the cursors as two arrays, and the stores left; and what each
+-- call answers and leaves there, in the edition of images that the library serves.
+use Prim.Native.Nat.{ℕ}
+use mathlib.Core.List.{List, [], _∷_}
+use lib.ListN.{length}
+use Rattle.image.specs.Image.{Image}
+use Rattle.section.specs.declared.Verdict.{Verdict}
+use Rattle.section.specs.Check.{codeOf, check}
+use Rattle.tally.specs.declared.Tally.{Tally}
+use Rattle.engine.specs.declared.Cursors.{Cursors}
+use Rattle.engine.specs.declared.Answer.{Answer}
+use Rattle.engine.specs.declared.Formatted.{Formatted}
+use Rattle.engine.specs.declared.Submitted.{Submitted}
+use Rattle.engine.specs.Edition.{mark, ownWords}
+use Rattle.engine.specs.World.{World, world, answerOf, leaves, outcome}
+use Rattle.engine.specs.Format.{formatAnswer, formatLeaves, formatLeft}
+use Rattle.engine.specs.Submit.{submitAnswer, submitLeaves}
+use Rattle.engine.specs.Cursor.{allIdle}
+use Rattle.engine.specs.Run.{Ran, runOf}
+use Rattle.recovery.specs.Recovery.{Recovered, recovery}
+use Rattle.recovery.specs.Recover.{cursorsOf, recoveryLeaves, recoveryLeft}
+
+-- a step and a turn for each worker
+abbrev pub cursors : List ℕ → List ℕ → Cursors
+cursors step turn = record { step = step; turn = turn }
+
+abbrev pub lent : Image → List ℕ → List ℕ → ℕ → World
+lent image step turn left = world image (cursors step turn) left
+
+-- ---- formatting, of which the cursors lent do not matter
+
+abbrev pub formatting : Image → ℕ → Formatted
+formatting m D = formatAnswer ownWords m D
+
+abbrev pub formatsTo : Image → ℕ → ℕ → World
+formatsTo m D left = world (formatLeaves mark ownWords left m D (formatting m D)) allIdle (formatLeft ownWords left D (formatting m D))
+
+-- ---- the check
+
+abbrev pub checking : List ℕ → Verdict
+checking words = check ownWords (length words) (codeOf words)
+
+-- ---- submitting
+
+abbrev pub submitting : World → ℕ → ℕ → List ℕ → Submitted
+submitting w d number words = submitAnswer mark ownWords w d number words
+
+abbrev pub submitsTo : World → ℕ → ℕ → List ℕ → List ℕ → World
+submitsTo w d number args words = submitLeaves ownWords w d number args words (submitting w d number words)
+
+-- ---- a turn
+
+abbrev pub turning : World → ℕ → Answer
+turning w d = answerOf ownWords (outcome mark ownWords w d)
+
+abbrev pub turnsTo : World → ℕ → World
+turnsTo w d = leaves ownWords w d (outcome mark ownWords w d)
+
+-- ---- a run: its end, the world after it, and its tally as three numbers
+
+abbrev pub running : World → ℕ → Ran
+running w rounds = runOf mark ownWords w rounds
+
+abbrev pub counts : Tally → List ℕ
+counts t = t .turns ∷ t .waits ∷ t .stores ∷ []
+
+-- ---- recovery, of which the cursors lent do not matter
+
+abbrev pub recovering : Image → Recovered
+recovering m = recovery mark ownWords m
+
+abbrev pub recoversTo : Image → ℕ → World
+recoversTo m left = world (recoveryLeaves ownWords left m (recovering m)) (cursorsOf (recovering m)) (recoveryLeft left (recovering m))
