@@ -3,47 +3,17 @@
 use engine::Answer;
 use engine::End;
 use engine::Formatted;
-use engine::Refusal;
 use engine::Submitted;
 ghost use mathlib.Core.Path.{_≡_};
-ghost use Rattle.engine.specs.Refusal.{causeOf, valueOf};
 ghost use Rattle.recovery.specs.Recover.{answerCause, answerValue};
 ghost use Rattle.zilpanud.specs.Codes.{formatCode, submitCode, submitDetail, turnCode, turnDetail, endCode, endDetail};
-
-// Document 01's number of a refusal.
-pub fn cause(r: Refusal) -> u64
-    ensures { λ n. ⌜ n ≡ causeOf r ⌝ }
-{
-    match r {
-        Refusal::Worker => 1,
-        Refusal::Busy => 2,
-        Refusal::Number => 3,
-        Refusal::Section(v) => section::cause(v),
-        Refusal::Image => 10,
-        Refusal::Cursor(_) => 11,
-    }
-}
-
-// The step or worker that goes with it; 0 where there is none.
-pub fn value(r: Refusal) -> u64
-    ensures { λ n. ⌜ n ≡ valueOf r ⌝ }
-{
-    match r {
-        Refusal::Worker => 0,
-        Refusal::Busy => 0,
-        Refusal::Number => 0,
-        Refusal::Section(v) => section::step(v) as u64,
-        Refusal::Image => 0,
-        Refusal::Cursor(d) => d as u64,
-    }
-}
 
 pub fn format_code(a: Formatted) -> u64
     ensures { λ n. ⌜ n ≡ formatCode a ⌝ }
 {
     match a {
         Formatted::Done => 0,
-        Formatted::Refused(r) => cause(r),
+        Formatted::Refused(r) => engine::cause(r),
     }
 }
 
@@ -52,7 +22,7 @@ pub fn submit_code(a: Submitted) -> u64
 {
     match a {
         Submitted::Taken => 0,
-        Submitted::Refused(r) => cause(r),
+        Submitted::Refused(r) => engine::cause(r),
     }
 }
 
@@ -61,7 +31,7 @@ pub fn submit_detail(a: Submitted) -> u64
 {
     match a {
         Submitted::Taken => 0,
-        Submitted::Refused(r) => value(r),
+        Submitted::Refused(r) => engine::value(r) as u64,
     }
 }
 
@@ -73,7 +43,7 @@ pub fn turn_code(a: Answer) -> u64
         Answer::Passed => 17,
         Answer::Waiting(_) => 18,
         Answer::Idle => 19,
-        Answer::Refused(r) => cause(r),
+        Answer::Refused(r) => engine::cause(r),
     }
 }
 
@@ -85,7 +55,7 @@ pub fn turn_detail(a: Answer) -> u64
         Answer::Passed => 0,
         Answer::Waiting(b) => b,
         Answer::Idle => 0,
-        Answer::Refused(r) => value(r),
+        Answer::Refused(r) => engine::value(r) as u64,
     }
 }
 
@@ -95,7 +65,7 @@ pub fn end_code(e: End) -> u64
     match e {
         End::AllIdle => 0,
         End::Spent => 20,
-        End::Halted(r) => cause(r),
+        End::Halted(r) => engine::cause(r),
     }
 }
 
@@ -105,7 +75,7 @@ pub fn end_detail(e: End) -> u64
     match e {
         End::AllIdle => 0,
         End::Spent => 0,
-        End::Halted(r) => value(r),
+        End::Halted(r) => engine::value(r) as u64,
     }
 }
 
