@@ -2,3 +2,4 @@ pub mod Hex
 pub mod Line
 pub mod Print
 pub mod Play
+pub mod Whole

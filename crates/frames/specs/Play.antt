@@ -68,12 +68,14 @@ goesOn (TurnRefused r) = false
 abbrev pub turned : World → Answer → ℕ → ℕ → Repair → Day
 turned w a d k r = day (w .image) (played (w .cursors) (turnPrints (w .image) a) (cond (goesOn a) (TurnsLeft d k) Next) r)
 
+-- what a turn with this outcome leaves, with k more to make
+abbrev pub turnedBy : Image → Cursors → ℕ → ℕ → Repair → Outcome → Day
+turnedBy m c d k r o = turned (leaves ownWords (uncut m c) d o) (answerOf ownWords o) d k r
+
 -- the first of so many turns of worker d
 unfoldable pub turnDay : Image → Played → ℕ → ℕ → Day
 turnDay m p d zero = day m (played (p .cursors) Nothing Next (p .repair))
-turnDay m p d (suc k) =
-    let o = outcome mark ownWords (uncut m (p .cursors)) d in
-    turned (leaves ownWords (uncut m (p .cursors)) d o) (answerOf ownWords o) d k (p .repair)
+turnDay m p d (suc k) = turnedBy m (p .cursors) d k (p .repair) (outcome mark ownWords (uncut m (p .cursors)) d)
 
 -- ---- 03
 
