@@ -1,0 +1,66 @@
+//! The exported functions as C sees them. Nothing compares these lines with the library's source but the tests: keep
+//! them the same as `include/zilpanud.h`.
+
+unsafe extern "C" {
+    pub fn zilpanud_format(
+        image: *mut u64,
+        len: usize,
+        workers: u64,
+        step: *mut [u8; 8],
+        turn: *mut [u8; 8],
+        left: *mut u64,
+    ) -> u64;
+    pub fn zilpanud_check(words: *const u64, count: usize, detail: *mut u64) -> u64;
+    pub fn zilpanud_submit(
+        image: *mut u64,
+        len: usize,
+        step: *mut [u8; 8],
+        turn: *mut [u8; 8],
+        worker: usize,
+        number: u64,
+        args: *const [u64; 8],
+        words: *const u64,
+        count: usize,
+        left: *mut u64,
+        detail: *mut u64,
+    ) -> u64;
+    pub fn zilpanud_turn(
+        image: *mut u64,
+        len: usize,
+        step: *mut [u8; 8],
+        turn: *mut [u8; 8],
+        worker: usize,
+        left: *mut u64,
+        detail: *mut u64,
+    ) -> u64;
+    pub fn zilpanud_run(
+        image: *mut u64,
+        len: usize,
+        step: *mut [u8; 8],
+        turn: *mut [u8; 8],
+        rounds: u16,
+        tally: *mut [u64; 3],
+        left: *mut u64,
+        detail: *mut u64,
+    ) -> u64;
+    pub fn zilpanud_recover(
+        image: *mut u64,
+        len: usize,
+        step: *mut [u8; 8],
+        turn: *mut [u8; 8],
+        left: *mut u64,
+        detail: *mut u64,
+    ) -> u64;
+    pub fn zilpanud_is_idle(
+        image: *const u64,
+        len: usize,
+        step: *const [u8; 8],
+        turn: *const [u8; 8],
+        worker: usize,
+        answer: *mut u64,
+    ) -> u64;
+    pub fn zilpanud_finished(image: *const u64, len: usize, worker: usize, number: *mut u64)
+        -> u64;
+    pub fn zilpanud_under_way(image: *const u64, len: usize, worker: usize, stage: *mut u64)
+        -> u64;
+}

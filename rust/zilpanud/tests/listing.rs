@@ -1,0 +1,156 @@
+//! Document 01's listing: the ticket's first five turns and a recovery, store by store.
+
+mod common;
+
+use common::{Board, CELL_24, FINISHED, LOCK_3};
+use zilpanud::{Cursors, End, Stage, Tally, Turn};
+
+/// The listing's lines, as they stand in document 01: five of turns, three of the recovery.
+const LISTING: &str = "\
+024e 0000000000000008
+020b 0000000000000001
+024c 000000000000024f
+024d 0000000000000008
+0249 8000000000000001
+020b 0000000000000000
+024e 0000000000000008
+020b 0000000000000001
+";
+
+fn lines() -> Vec<(usize, u64)> {
+    let hex = |digits| u64::from_str_radix(digits, 16).unwrap();
+    LISTING
+        .lines()
+        .map(|line| line.split_once(' ').unwrap())
+        .map(|(index, value)| (hex(index) as usize, hex(value)))
+        .collect()
+}
+
+#[test]
+fn turns_store_what_the_listing_says() {
+    let mut board = Board::after_turns(0);
+    for (index, value) in &lines()[..5] {
+        let before = board.image.clone();
+        assert_eq!(board.turn(0).unwrap(), Turn::Stored(*index));
+        let mut expected = before;
+        expected[*index] = *value;
+        assert_eq!(board.image, expected);
+    }
+}
+
+/// The recovery's stores, found by cutting it after each of them.
+#[test]
+fn recovery_stores_what_the_listing_says() {
+    let start = Board::after_turns(5).image;
+    let stores = &lines()[5..];
+    for k in 0..=stores.len() {
+        let mut expected = start.clone();
+        for (index, value) in &stores[..k] {
+            expected[*index] = *value;
+        }
+        let (mut image, mut at, mut left) = (start.clone(), Cursors::IDLE, k as u64);
+        zilpanud::recover(&mut image, &mut at, &mut left).unwrap();
+        assert_eq!((image, left), (expected, 0));
+    }
+}
+
+#[test]
+fn recovery_makes_no_further_store() {
+    let mut board = Board::after_turns(5);
+    board.left = 10;
+    board.recover().unwrap();
+    assert_eq!(board.left, 7);
+    assert_eq!((board.at.step[0], board.at.turn[0]), (0, 5));
+}
+
+#[test]
+fn uncut_it_takes_19_turns() {
+    let mut board = Board::after_turns(0);
+    let mut tally = Tally::default();
+    let end = zilpanud::run(
+        &mut board.image,
+        &mut board.at,
+        19,
+        &mut tally,
+        &mut board.left,
+    );
+    assert_eq!(end, Ok(End::AllIdle));
+    let expected = Tally {
+        turns: 19,
+        waits: 0,
+        stores: 19,
+    };
+    assert_eq!(tally, expected);
+    assert_eq!(board.image[CELL_24], 5);
+    assert_eq!(board.image[LOCK_3], 0);
+    assert_eq!(board.turn(0), Ok(Turn::Idle));
+}
+
+#[test]
+fn a_run_of_18_rounds_is_spent() {
+    let mut board = Board::after_turns(0);
+    let mut tally = Tally::default();
+    let Board { image, at, left } = &mut board;
+    assert_eq!(
+        zilpanud::run(image, at, 18, &mut tally, left),
+        Ok(End::Spent)
+    );
+    assert_eq!(tally.turns, 18);
+    assert_eq!(
+        zilpanud::run(image, at, 0, &mut tally, left),
+        Ok(End::Spent)
+    );
+    assert_eq!(tally, Tally::default());
+    assert_eq!(
+        zilpanud::run(image, at, 1, &mut tally, left),
+        Ok(End::AllIdle)
+    );
+}
+
+/// Two workers at one lock: the second waits, and a waiting turn counts as a turn and as a wait.
+#[test]
+fn a_second_worker_waits() {
+    let mut board = Board::formatted(2);
+    board.submit(0, 1, &common::TICKET).unwrap();
+    board.submit(1, 1, &common::TICKET).unwrap();
+    for _ in 0..2 {
+        board.turn(0).unwrap();
+    }
+    assert!(matches!(board.turn(1), Ok(Turn::Stored(_))));
+    assert_eq!(board.turn(1), Ok(Turn::Waiting(3)));
+    let mut tally = Tally::default();
+    let Board { image, at, left } = &mut board;
+    let end = zilpanud::run(image, at, 768, &mut tally, left);
+    assert_eq!(end, Ok(End::AllIdle));
+    // 17 and 18 turns are left, and worker 1 waits in every round up to the one in which worker 0, whose turns come
+    // first, makes its 15th turn and frees the lock: rounds 1 to 12.
+    let expected = Tally {
+        turns: 17 + 18 + 12,
+        waits: 12,
+        stores: 17 + 18,
+    };
+    assert_eq!(tally, expected);
+}
+
+#[test]
+fn questions_follow_the_section() {
+    let mut board = Board::formatted(1);
+    let stage = |b: &Board| zilpanud::under_way(&b.image, 0).unwrap();
+    let idle = |b: &Board| zilpanud::is_idle(&b.image, &b.at, 0).unwrap();
+    assert_eq!((stage(&board), idle(&board)), (Stage::Empty, true));
+    board.submit(0, 9, &common::TICKET).unwrap();
+    for _ in 0..5 {
+        assert_eq!((stage(&board), idle(&board)), (Stage::Submitted, false));
+        board.turn(0).unwrap();
+    }
+    for _ in 5..18 {
+        assert_eq!((stage(&board), idle(&board)), (Stage::Begun, false));
+        board.turn(0).unwrap();
+    }
+    // the pc is 0 again, the count not yet
+    assert_eq!(stage(&board), Stage::Submitted);
+    assert_eq!(zilpanud::finished(&board.image, 0), Ok(9));
+    assert_eq!(board.image[FINISHED], 9);
+    board.turn(0).unwrap();
+    assert_eq!((stage(&board), idle(&board)), (Stage::Empty, true));
+}
