@@ -1,0 +1,117 @@
+//! The two engines behind one interface: ours through the wrapper crate, the twin through its functions.
+
+/// What the work calls of an engine. Calls are given enough stores, and none of them may be refused.
+pub trait Engine {
+    type Places: Copy;
+
+    fn format(image: &mut [u64], workers: u64) -> Self::Places;
+    fn check(section: &[u64]);
+    fn submit(
+        image: &mut [u64],
+        places: &mut Self::Places,
+        worker: usize,
+        number: u64,
+        section: &[u64],
+    );
+    /// Whether the worker was not idle.
+    fn turn(image: &mut [u64], places: &mut Self::Places, worker: usize) -> bool;
+    /// The turns made.
+    fn run(image: &mut [u64], places: &mut Self::Places, rounds: u16) -> u64;
+    fn recover(image: &mut [u64]) -> Self::Places;
+}
+
+/// The arguments of every section: own words 512 to 519.
+pub const ARGS: [u64; 8] = [1, 2, 3, 4, 5, 6, 7, 8];
+
+pub struct Ours;
+
+impl Engine for Ours {
+    type Places = zilpanud::Cursors;
+
+    fn format(image: &mut [u64], workers: u64) -> Self::Places {
+        let (mut places, mut left) = (zilpanud::Cursors::IDLE, u64::MAX);
+        zilpanud::format(image, workers, &mut places, &mut left).unwrap();
+        places
+    }
+
+    fn check(section: &[u64]) {
+        zilpanud::check(section).unwrap();
+    }
+
+    fn submit(
+        image: &mut [u64],
+        places: &mut Self::Places,
+        worker: usize,
+        number: u64,
+        section: &[u64],
+    ) {
+        let mut left = u64::MAX;
+        zilpanud::submit(image, places, worker, number, &ARGS, section, &mut left).unwrap();
+    }
+
+    fn turn(image: &mut [u64], places: &mut Self::Places, worker: usize) -> bool {
+        let mut left = u64::MAX;
+        zilpanud::turn(image, places, worker, &mut left).unwrap() != zilpanud::Turn::Idle
+    }
+
+    fn run(image: &mut [u64], places: &mut Self::Places, rounds: u16) -> u64 {
+        let (mut tally, mut left) = (zilpanud::Tally::default(), u64::MAX);
+        zilpanud::run(image, places, rounds, &mut tally, &mut left).unwrap();
+        tally.turns
+    }
+
+    fn recover(image: &mut [u64]) -> Self::Places {
+        let (mut places, mut left) = (zilpanud::Cursors::IDLE, u64::MAX);
+        zilpanud::recover(image, &mut places, &mut left).unwrap();
+        places
+    }
+}
+
+pub struct Twin;
+
+impl Engine for Twin {
+    type Places = twin::Working;
+
+    fn format(image: &mut [u64], workers: u64) -> Self::Places {
+        let (answer, places) = twin::format(image, workers, u64::MAX);
+        answer.unwrap();
+        places
+    }
+
+    fn check(section: &[u64]) {
+        twin::check(section).unwrap();
+    }
+
+    fn submit(
+        image: &mut [u64],
+        places: &mut Self::Places,
+        worker: usize,
+        number: u64,
+        section: &[u64],
+    ) {
+        let desk = worker as u64;
+        let (answer, after) = twin::hand_in(image, *places, desk, number, &ARGS, section, u64::MAX);
+        answer.unwrap();
+        *places = after;
+    }
+
+    fn turn(image: &mut [u64], places: &mut Self::Places, worker: usize) -> bool {
+        let (answer, after) = twin::turn(image, *places, worker as u64, u64::MAX);
+        *places = after;
+        answer.unwrap() != twin::Answer::Idle
+    }
+
+    fn run(image: &mut [u64], places: &mut Self::Places, rounds: u16) -> u64 {
+        let mut tally = twin::Tally::default();
+        let (answer, after) = twin::run(image, *places, rounds, u64::MAX, &mut tally);
+        answer.unwrap();
+        *places = after;
+        tally.turns
+    }
+
+    fn recover(image: &mut [u64]) -> Self::Places {
+        let (answer, places) = twin::recover(image, u64::MAX);
+        answer.unwrap();
+        places
+    }
+}

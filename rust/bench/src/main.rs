@@ -1,0 +1,88 @@
+//! Our engine, through the wrapper crate, against the twin and against stores that others have built. See usage().
+
+mod engine;
+mod instructions;
+mod measure;
+mod rows;
+mod sections;
+mod stores;
+mod work;
+
+use engine::{Ours, Twin};
+use rows::Row;
+use std::env;
+use std::process::exit;
+
+const ROUNDS: usize = 201;
+
+fn usage() -> ! {
+    eprintln!(
+        "usage: bench [rounds]         the tables ({ROUNDS} rounds by default)
+       bench instructions     instructions a unit by valgrind, which no other load disturbs
+       bench once ROW SIDE N  the work of a row, N times, on 'ours' or 'twin', for a profiler"
+    );
+    exit(2)
+}
+
+/// Times a row on both engines and compares what they leave.
+fn compared(row: &Row, rounds: usize) -> measure::Measured {
+    let (mut ours, mut twin) = (row.work.clone().on::<Ours>(), row.work.clone().on::<Twin>());
+    let measured = measure::compared(&mut |n| ours.batch(n), &mut |n| twin.batch(n), rounds);
+    let most = ours.times.max(twin.times);
+    ours.batch(most - ours.times);
+    twin.batch(most - twin.times);
+    if ours.image != twin.image {
+        eprintln!("{}: the images differ", row.name);
+        exit(1);
+    }
+    measured
+}
+
+fn table(title: &str, rows: Vec<Row>, rounds: usize) {
+    println!("\n{title}\n");
+    println!("| work | unit | ours, ns | twin, ns | twin time / our time |");
+    println!("|---|---|---:|---:|---:|");
+    for row in rows {
+        let m = compared(&row, rounds);
+        let (name, unit) = (row.name, row.unit);
+        println!(
+            "| {name} | {unit} | {:.2} | {:.2} | {:.2} |",
+            m.first, m.second, m.ratio
+        );
+    }
+}
+
+fn tables(rounds: usize) {
+    println!("{rounds} rounds a row, ours and the other by turns; times are medians a unit, ratios medians over the rounds.");
+    println!("A ratio of 1.00 is equal speed; above 1 ours is faster. Images were compared after each row.");
+    table("Ours against the twin", rows::against_twin(), rounds);
+    table(
+        "The cost of a turn by workers and by length",
+        rows::by_size(),
+        rounds,
+    );
+    stores::table(rounds);
+}
+
+fn once(name: &str, side: &str, times: u64) {
+    let row = rows::against_twin().into_iter().find(|r| r.name == name);
+    let work = row.unwrap_or_else(|| usage()).work;
+    let mut side = match side {
+        "ours" => work.on::<Ours>(),
+        "twin" => work.on::<Twin>(),
+        _ => usage(),
+    };
+    println!("{} units", side.batch(times));
+}
+
+fn main() {
+    let args: Vec<String> = env::args().skip(1).collect();
+    let args: Vec<&str> = args.iter().map(String::as_str).collect();
+    match args[..] {
+        ["instructions"] => instructions::table(),
+        ["once", row, side, times] => once(row, side, times.parse().unwrap_or_else(|_| usage())),
+        [] => tables(ROUNDS),
+        [rounds] => tables(rounds.parse().unwrap_or_else(|_| usage())),
+        _ => usage(),
+    }
+}

@@ -1,0 +1,2 @@
+//! Whole moves in stores that others have built.
+pub fn table(_rounds: usize) {}
