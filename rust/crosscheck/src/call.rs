@@ -1,0 +1,264 @@
+//! A call, as ours and as the twin's, and all that it gives.
+
+use twin::{Left, Refusal, Working};
+use zilpanud::{Cursors, End, Stage, Tally, Turn};
+
+#[derive(Clone, Debug)]
+pub enum Call {
+    Format {
+        workers: u64,
+    },
+    Check {
+        section: Vec<u64>,
+    },
+    Submit {
+        worker: usize,
+        number: u64,
+        args: [u64; 8],
+        section: Vec<u64>,
+    },
+    Turn {
+        worker: usize,
+    },
+    Run {
+        rounds: u16,
+    },
+    Recover,
+    IsIdle {
+        worker: usize,
+    },
+    Finished {
+        worker: usize,
+    },
+    UnderWay {
+        worker: usize,
+    },
+}
+
+pub const SORTS: [&str; 9] = [
+    "format",
+    "check",
+    "submit",
+    "turn",
+    "run",
+    "recover",
+    "is_idle",
+    "finished",
+    "under_way",
+];
+
+impl Call {
+    /// Which of `SORTS` it is.
+    pub fn sort(&self) -> usize {
+        match self {
+            Call::Format { .. } => 0,
+            Call::Check { .. } => 1,
+            Call::Submit { .. } => 2,
+            Call::Turn { .. } => 3,
+            Call::Run { .. } => 4,
+            Call::Recover => 5,
+            Call::IsIdle { .. } => 6,
+            Call::Finished { .. } => 7,
+            Call::UnderWay { .. } => 8,
+        }
+    }
+}
+
+/// What a call is lent beside the image, and what it leaves there.
+#[derive(Clone, Copy, PartialEq, Eq, Debug)]
+pub struct Lent {
+    pub step: [u8; 8],
+    pub turn: [u8; 8],
+    pub left: u64,
+}
+
+/// All that a call gives, but the image. Answers have the numbers of the exported functions: 0 done, 1 to 13 the
+/// causes, 16 to 20 the other answers; `detail` is what goes with it, or what a question answers.
+#[derive(Clone, Copy, PartialEq, Eq, Debug)]
+pub struct Given {
+    pub answer: u64,
+    pub detail: u64,
+    pub lent: Lent,
+    pub tally: Tally,
+}
+
+fn of_ours<T>(result: Result<T, zilpanud::Refusal>, told: impl Fn(T) -> (u64, u64)) -> (u64, u64) {
+    match result {
+        Ok(answer) => told(answer),
+        Err(no) => (no.0.number(), no.0.detail().unwrap_or(0)),
+    }
+}
+
+fn told_turn(answer: Turn) -> (u64, u64) {
+    match answer {
+        Turn::Stored(index) => (16, index as u64),
+        Turn::Passed => (17, 0),
+        Turn::Waiting(lock) => (18, lock),
+        Turn::Idle => (19, 0),
+    }
+}
+
+/// The call on our engine.
+pub fn ours(call: &Call, image: &mut [u64], lent: Lent) -> Given {
+    let mut at = Cursors {
+        step: lent.step,
+        turn: lent.turn,
+    };
+    let mut left = lent.left;
+    let mut tally = Tally::default();
+    let done = |()| (0, 0);
+    let (answer, detail) = match call {
+        Call::Format { workers } => {
+            of_ours(zilpanud::format(image, *workers, &mut at, &mut left), done)
+        }
+        Call::Check { section } => of_ours(zilpanud::check(section), done),
+        Call::Submit {
+            worker,
+            number,
+            args,
+            section,
+        } => {
+            let taken =
+                zilpanud::submit(image, &mut at, *worker, *number, args, section, &mut left);
+            of_ours(taken, done)
+        }
+        Call::Turn { worker } => of_ours(
+            zilpanud::turn(image, &mut at, *worker, &mut left),
+            told_turn,
+        ),
+        Call::Run { rounds } => {
+            let end = zilpanud::run(image, &mut at, *rounds, &mut tally, &mut left);
+            of_ours(end, |end| (if end == End::Spent { 20 } else { 0 }, 0))
+        }
+        Call::Recover => of_ours(zilpanud::recover(image, &mut at, &mut left), done),
+        Call::IsIdle { worker } => of_ours(zilpanud::is_idle(image, &at, *worker), |idle| {
+            (0, idle as u64)
+        }),
+        Call::Finished { worker } => of_ours(zilpanud::finished(image, *worker), |n| (0, n)),
+        Call::UnderWay { worker } => of_ours(zilpanud::under_way(image, *worker), |stage| {
+            (
+                0,
+                match stage {
+                    Stage::Empty => 0,
+                    Stage::Submitted => 1,
+                    Stage::Begun => 2,
+                },
+            )
+        }),
+    };
+    let lent = Lent {
+        step: at.step,
+        turn: at.turn,
+        left,
+    };
+    Given {
+        answer,
+        detail,
+        lent,
+        tally,
+    }
+}
+
+fn refused(no: Refusal) -> (u64, u64) {
+    (no.number as u64, no.at as u64)
+}
+
+/// What the twin gives: its functions take the places by value, and say the stores left only of a recovery. Of the
+/// others the stores made follow from the answer: a formatting's length + 1, a submit's section + 10, a turn's one.
+pub fn twins(call: &Call, image: &mut [u64], lent: Lent) -> Given {
+    let at = Working {
+        step: lent.step,
+        turn: lent.turn,
+    };
+    let mut tally = twin::Tally::default();
+    let ok = |(): ()| (0, 0);
+    let (told, after, stores) = match call {
+        Call::Format { workers } => {
+            let (answer, after) = twin::format(image, *workers, lent.left);
+            let stores = if answer.is_ok() {
+                image.len() as u64 + 1
+            } else {
+                0
+            };
+            (answer.map_or_else(refused, ok), after, stores)
+        }
+        Call::Check { section } => (twin::check(section).map_or_else(refused, ok), at, 0),
+        Call::Submit {
+            worker,
+            number,
+            args,
+            section,
+        } => {
+            let desk = *worker as u64;
+            let (answer, after) = twin::hand_in(image, at, desk, *number, args, section, lent.left);
+            let stores = if answer.is_ok() {
+                section.len() as u64 + 10
+            } else {
+                0
+            };
+            (answer.map_or_else(refused, ok), after, stores)
+        }
+        Call::Turn { worker } => {
+            let (answer, after) = twin::turn(image, at, *worker as u64, lent.left);
+            let told = answer.map_or_else(refused, told_desk);
+            (told, after, (told.0 == 16) as u64)
+        }
+        Call::Run { rounds } => {
+            let (end, after) = twin::run(image, at, *rounds, lent.left, &mut tally);
+            let told =
+                end.map_or_else(refused, |e| (if e == twin::End::Spent { 20 } else { 0 }, 0));
+            (told, after, tally.stores)
+        }
+        Call::Recover => {
+            let mut meter = Left(lent.left);
+            let (answer, after) = twin::recover_with(image, &mut meter);
+            (answer.map_or_else(refused, ok), after, lent.left - meter.0)
+        }
+        Call::IsIdle { worker } | Call::Finished { worker } | Call::UnderWay { worker } => {
+            (asked(call, *worker, image, at), at, 0)
+        }
+    };
+    let left = lent.left.saturating_sub(stores);
+    let lent = Lent {
+        step: after.step,
+        turn: after.turn,
+        left,
+    };
+    let tally = Tally {
+        turns: tally.turns,
+        waits: tally.waits,
+        stores: tally.stores,
+    };
+    Given {
+        answer: told.0,
+        detail: told.1,
+        lent,
+        tally,
+    }
+}
+
+fn told_desk(answer: twin::Answer) -> (u64, u64) {
+    match answer {
+        twin::Answer::Stored(index) => (16, index as u64),
+        twin::Answer::Passed => (17, 0),
+        twin::Answer::Waiting(bay) => (18, bay as u64),
+        twin::Answer::Idle => (19, 0),
+    }
+}
+
+/// The questions, which the twin has not: causes 10 and 1, and whether a desk is idle, are those of a turn of it; the
+/// rest is read in its record.
+fn asked(call: &Call, worker: usize, image: &[u64], at: Working) -> (u64, u64) {
+    let turned = twin::turn(&mut image.to_vec(), at, worker as u64, 0).0;
+    if let Err(no @ Refusal { number: 1 | 10, .. }) = turned {
+        return refused(no);
+    }
+    let record = &image[twin::HEAD + twin::REC * worker..];
+    let detail = match call {
+        Call::IsIdle { .. } => (turned == Ok(twin::Answer::Idle)) as u64,
+        Call::Finished { .. } => record[twin::LAST],
+        _ if record[twin::COUNT] == 0 => 0,
+        _ => 1 + (record[twin::PLACE] != 0) as u64,
+    };
+    (0, detail)
+}

@@ -1,0 +1,115 @@
+//! The calls of a list.
+
+use crate::call::{Call, Lent};
+use crate::rng::Rng;
+use crate::sections;
+use twin::{HEAD, LAST, REC};
+
+/// A worker of the image, or sometimes one that it has not.
+fn worker(r: &mut Rng, workers: u64) -> usize {
+    if r.chance(92) {
+        return r.below(workers) as usize;
+    }
+    r.pick(&[workers as usize, 7, 8, 9, 255, 256, 1 << 32, usize::MAX])
+}
+
+fn number(r: &mut Rng, image: &[u64], worker: usize) -> u64 {
+    let record = REC
+        .checked_mul(worker)
+        .and_then(|n| n.checked_add(HEAD + LAST));
+    let finished = record.and_then(|i| image.get(i)).copied().unwrap_or(0);
+    match r.below(10) {
+        0 => finished.wrapping_sub(r.below(2)),
+        1 => r.word(),
+        _ => finished.wrapping_add(1 + r.below(3)),
+    }
+}
+
+/// A worker that is not idle, where there is one.
+fn open_worker(r: &mut Rng, workers: u64, lent: &Lent) -> usize {
+    let open: Vec<usize> = (0..workers as usize)
+        .filter(|&d| lent.turn[d] != 255)
+        .collect();
+    match !open.is_empty() && r.chance(85) {
+        true => r.pick(&open),
+        false => worker(r, workers),
+    }
+}
+
+fn submit(r: &mut Rng, image: &[u64], workers: u64, lent: &Lent) -> Call {
+    let idle: Vec<usize> = (0..workers as usize)
+        .filter(|&d| lent.turn[d] == 255)
+        .collect();
+    let worker = match !idle.is_empty() && r.chance(70) {
+        true => r.pick(&idle),
+        false => worker(r, workers),
+    };
+    let locks = r.pick(&[2, 3, 5, 8, 64]);
+    Call::Submit {
+        worker,
+        number: number(r, image, worker),
+        args: std::array::from_fn(|_| r.word()),
+        section: sections::section(r, locks),
+    }
+}
+
+fn rounds(r: &mut Rng, workers: u64) -> u16 {
+    match r.below(40) {
+        0 => 0,
+        1..=31 => r.below(10) as u16,
+        32..=35 => r.below(60) as u16,
+        36..=38 => 384 * workers as u16,
+        _ if r.chance(5) => u16::MAX,
+        _ => r.below(1000) as u16,
+    }
+}
+
+/// The next call, where the image is formatted for so many workers.
+pub fn call(r: &mut Rng, image: &[u64], workers: u64, lent: &Lent) -> Call {
+    let someone = worker(r, workers);
+    match r.below(100) {
+        0..=24 => submit(r, image, workers, lent),
+        25..=62 => Call::Turn {
+            worker: open_worker(r, workers, lent),
+        },
+        63..=77 => Call::Run {
+            rounds: rounds(r, workers),
+        },
+        78..=85 => Call::Recover,
+        86..=89 => {
+            let locks = r.pick(&[2, 5, 64]);
+            Call::Check {
+                section: sections::section(r, locks),
+            }
+        }
+        90..=92 => Call::IsIdle { worker: someone },
+        93..=95 => Call::Finished { worker: someone },
+        96..=98 => Call::UnderWay { worker: someone },
+        _ => {
+            let other = r.pick(&[0, 1, 2, 8, 9, u64::MAX]);
+            Call::Format {
+                workers: if r.chance(50) { workers } else { other },
+            }
+        }
+    }
+}
+
+/// Cursors of any bytes: for one worker or for all, near a section's steps and turns or anything.
+pub fn odd_cursors(r: &mut Rng, lent: &mut Lent) {
+    let all = r.chance(30);
+    let one = r.below(8) as usize;
+    for d in 0..8 {
+        if all || d == one {
+            lent.step[d] = if r.chance(70) {
+                r.below(20)
+            } else {
+                r.below(256)
+            } as u8;
+            lent.turn[d] = match r.below(10) {
+                0..=6 => r.below(8) as u8,
+                7 => 255,
+                _ => r.below(256) as u8,
+            };
+        }
+    }
+}

@@ -1,0 +1,279 @@
+//! Random lists of calls on the library and on the twin, compared after every call: the image word for word, the
+//! answer, the cursors, the stores left and the tally. See usage().
+
+mod call;
+mod damage;
+mod draw;
+mod met;
+mod rng;
+mod sections;
+
+use call::{Call, Given, Lent};
+use met::Met;
+use rng::Rng;
+use std::env;
+use std::process::exit;
+
+const LISTS: u64 = 100_000;
+const SEED: u64 = 20_260_714;
+
+fn usage() -> ! {
+    eprintln!(
+        "usage: crosscheck [lists [seed [first]]]
+  {LISTS} lists, seed {SEED} and first list 0 by default. Exits with 1 at the first difference, which it prints, and
+  with 2 if there was none but some answer was never met (as may be with few lists)."
+    );
+    exit(2)
+}
+
+/// A difference: where it is and all that repeats it.
+struct Difference {
+    call: Call,
+    lent: Lent,
+    ours: Given,
+    twins: Given,
+    /// The first word of the image that differs: its index, ours and the twin's.
+    word: Option<(usize, u64, u64)>,
+}
+
+/// The same call on both, each with its own image of the same words.
+fn both(
+    call: &Call,
+    mine: &mut [u64],
+    other: &mut [u64],
+    lent: Lent,
+) -> Result<Given, Box<Difference>> {
+    let ours = call::ours(call, mine, lent);
+    let twins = call::twins(call, other, lent);
+    if ours == twins && mine == other {
+        return Ok(ours);
+    }
+    let word = (0..mine.len())
+        .find(|&i| mine[i] != other[i])
+        .map(|i| (i, mine[i], other[i]));
+    Err(Box::new(Difference {
+        call: call.clone(),
+        lent,
+        ours,
+        twins,
+        word,
+    }))
+}
+
+/// How a list is played.
+#[derive(Clone, Copy)]
+struct Manner {
+    /// Damaged words and odd cursors, in 100 calls.
+    damages: u64,
+    odd_cursors: u64,
+}
+
+struct Play<'a> {
+    r: Rng,
+    met: &'a mut Met,
+    mine: Vec<u64>,
+    other: Vec<u64>,
+    lent: Lent,
+    workers: u64,
+    /// Whether the call before was cut and the next one is to be a recovery.
+    was_cut: bool,
+}
+
+impl Play<'_> {
+    /// The stores that a call makes of the present image when it is not cut.
+    fn stores(&self, call: &Call) -> u64 {
+        let lent = Lent {
+            left: u64::MAX,
+            ..self.lent
+        };
+        u64::MAX - call::twins(call, &mut self.other.clone(), lent).lent.left
+    }
+
+    /// The call with every number of stores from 0 to all, each on copies of the image.
+    fn sweep(&mut self, call: &Call) -> Result<(), Box<Difference>> {
+        let stores = self.stores(call);
+        if stores == 0 || stores > 150 && self.r.chance(97) {
+            return Ok(());
+        }
+        let (mut mine, mut other) = (self.mine.clone(), self.other.clone());
+        for left in 0..=stores {
+            mine.copy_from_slice(&self.mine);
+            other.copy_from_slice(&self.other);
+            both(call, &mut mine, &mut other, Lent { left, ..self.lent })?;
+        }
+        self.met.swept += 1;
+        self.met.sweeps += stores + 1;
+        Ok(())
+    }
+
+    /// The call on an image that is some words shorter or longer, which then goes away.
+    fn another_length(&mut self, call: &Call) -> Result<(), Box<Difference>> {
+        let len = self.mine.len();
+        let lens = [len - 1, len + 1, len - 82, len + 82, 0, 1, 7, 8, 583, 584];
+        let len = self.r.pick(&lens);
+        let (mut mine, mut other) = (self.mine.clone(), self.other.clone());
+        mine.resize(len, 0);
+        other.resize(len, 0);
+        let given = both(call, &mut mine, &mut other, self.lent)?;
+        self.met.odd_lengths += 1;
+        self.met.call(call, &given, false, 9);
+        Ok(())
+    }
+
+    /// Damage and odd cursors before a call.
+    fn disturb(&mut self, manner: Manner) {
+        while self.r.chance(manner.damages) {
+            if let Some((sort, (index, word))) = damage::drawn(&mut self.r, &self.mine) {
+                self.mine[index] = word;
+                self.other[index] = word;
+                self.met.damages[sort] += 1;
+            }
+        }
+        if self.r.chance(manner.odd_cursors) {
+            draw::odd_cursors(&mut self.r, &mut self.lent);
+            self.met.odd_cursors += 1;
+        }
+    }
+
+    /// The stores that a call is lent: enough, or a number up to one more than it makes.
+    fn left(&mut self, call: &Call) -> u64 {
+        match self.r.below(10) {
+            0..=6 => u64::MAX,
+            7 => self.r.below(4000),
+            _ => {
+                let stores = self.stores(call);
+                self.r.below(stores + 2)
+            }
+        }
+    }
+
+    /// The kind of the instruction that a turn is at; 9 where there is none.
+    fn kind(&self, call: &Call) -> u64 {
+        let Call::Turn { worker } = call else {
+            return 9;
+        };
+        let step = self.lent.step.get(*worker).copied().unwrap_or(0) as usize;
+        let index = worker.checked_mul(82).map(|n| 584 + 18 + n + step);
+        index
+            .and_then(|i| self.mine.get(i))
+            .map_or(9, |word| word >> 48)
+    }
+
+    fn next(&mut self, manner: Manner) -> Result<(), Box<Difference>> {
+        self.disturb(manner);
+        let again = self.was_cut && self.r.chance(90);
+        let call = match again {
+            true => Call::Recover,
+            false => draw::call(&mut self.r, &self.mine, self.workers, &self.lent),
+        };
+        if self.r.chance(1) {
+            self.another_length(&call)?;
+        }
+        if self.r.chance(8) {
+            self.sweep(&call)?;
+        }
+        self.lent.left = self.left(&call);
+        let (before, kind) = (self.lent.left, self.kind(&call));
+        let given = both(&call, &mut self.mine, &mut self.other, self.lent)?;
+        // with none left one cannot tell whether a store was wanted: taken for a cut where the call stores at all
+        let stores = matches!(given.answer, 0 | 16 | 20) && call.sort() < 6 && call.sort() != 1;
+        self.was_cut = stores && before != u64::MAX && given.lent.left == 0;
+        self.met.call(&call, &given, self.was_cut, kind);
+        self.lent = given.lent;
+        Ok(())
+    }
+}
+
+/// Plays one list; gives the number of the call that differed.
+fn list(seed: u64, number: u64, met: &mut Met) -> Result<(), (u64, Box<Difference>)> {
+    let mut r = Rng::of_list(seed, number);
+    let workers = if r.chance(50) {
+        1 + r.below(3)
+    } else {
+        1 + r.below(8)
+    };
+    let manner = match r.below(10) {
+        0..=4 => Manner {
+            damages: 0,
+            odd_cursors: 0,
+        },
+        5..=7 => Manner {
+            damages: 6,
+            odd_cursors: 2,
+        },
+        _ => Manner {
+            damages: 25,
+            odd_cursors: 15,
+        },
+    };
+    let fill = r.word();
+    let image = vec![fill; twin::HEAD + twin::REC * workers as usize];
+    let calls = 10 + r.below(60);
+    let mut play = Play {
+        r,
+        met,
+        mine: image.clone(),
+        other: image,
+        lent: Lent {
+            step: [fill as u8; 8],
+            turn: [!fill as u8; 8],
+            left: u64::MAX,
+        },
+        workers,
+        was_cut: false,
+    };
+    let first = both(
+        &Call::Format { workers },
+        &mut play.mine,
+        &mut play.other,
+        play.lent,
+    );
+    play.lent = first.map_err(|d| (0, d))?.lent;
+    for n in 1..=calls {
+        play.next(manner).map_err(|d| (n, d))?;
+    }
+    met.lists += 1;
+    Ok(())
+}
+
+fn tell(seed: u64, list: u64, call: u64, d: &Difference) {
+    println!("DIFFERENCE in list {list}, call {call}, seed {seed}");
+    println!("to repeat: crosscheck 1 {seed} {list}");
+    println!("call:  {:x?}", d.call);
+    println!("lent:  {:?}", d.lent);
+    println!("ours:  {:?}", d.ours);
+    println!("twin:  {:?}", d.twins);
+    match d.word {
+        Some((index, ours, twins)) => {
+            println!("image word {index}: ours {ours:#x}, twin {twins:#x}")
+        }
+        None => println!("the images are the same"),
+    }
+}
+
+fn main() {
+    let args: Vec<u64> = env::args()
+        .skip(1)
+        .map(|word| word.parse().unwrap_or_else(|_| usage()))
+        .collect();
+    let (lists, seed, first) = match args[..] {
+        [] => (LISTS, SEED, 0),
+        [lists] => (lists, SEED, 0),
+        [lists, seed] => (lists, seed, 0),
+        [lists, seed, first] => (lists, seed, first),
+        _ => usage(),
+    };
+    let mut met = Met::default();
+    for number in first..first + lists {
+        if let Err((call, difference)) = list(seed, number, &mut met) {
+            met.report();
+            tell(seed, number, call, &difference);
+            exit(1);
+        }
+    }
+    met.report();
+    let missing = met.missing();
+    missing.iter().for_each(|line| println!("not met: {line}"));
+    println!("seed {seed}: no difference");
+    exit(if missing.is_empty() { 0 } else { 2 })
+}

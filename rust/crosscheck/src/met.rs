@@ -1,0 +1,113 @@
+//! What was tried: counts, so that one sees that nothing is missing.
+
+use crate::call::{Call, Given, SORTS};
+use crate::damage::DAMAGES;
+
+/// The answers' numbers, by column of the table.
+const ANSWERS: [u64; 19] = [
+    0, 1, 2, 3, 4, 5, 6, 7, 8, 9, 10, 11, 12, 13, 16, 17, 18, 19, 20,
+];
+
+/// The answers that each sort of call can have, by document 01.
+const POSSIBLE: [&[u64]; 9] = [
+    &[0, 10],
+    &[0, 4, 5, 6, 7, 8, 9],
+    &[0, 1, 2, 3, 4, 5, 6, 7, 8, 9, 10],
+    &[1, 10, 11, 16, 17, 18, 19],
+    &[0, 10, 11, 20],
+    &[0, 10, 12, 13],
+    &[0, 1, 10],
+    &[0, 1, 10],
+    &[0, 1, 10],
+];
+
+#[derive(Default)]
+pub struct Met {
+    pub lists: u64,
+    /// Calls by sort and answer.
+    calls: [[u64; 21]; 9],
+    /// Calls that were given fewer stores than they make, by sort.
+    cut: [u64; 9],
+    /// Calls that were tried with every number of stores from 0 to all that they make, and these tries.
+    pub swept: u64,
+    pub sweeps: u64,
+    pub damages: [u64; DAMAGES.len()],
+    pub odd_lengths: u64,
+    pub odd_cursors: u64,
+    /// Turns by the kind of the instruction.
+    kinds: [u64; 9],
+}
+
+impl Met {
+    pub fn call(&mut self, call: &Call, given: &Given, cut: bool, kind: u64) {
+        self.calls[call.sort()][given.answer as usize] += 1;
+        self.cut[call.sort()] += cut as u64;
+        let turned = matches!(call, Call::Turn { .. }) && (16..19).contains(&given.answer);
+        if turned && kind < 9 {
+            self.kinds[kind as usize] += 1;
+        }
+    }
+
+    /// The answers that a sort of call can have and that were not met, as lines; empty if all were.
+    pub fn missing(&self) -> Vec<String> {
+        let mut lines = vec![];
+        for (sort, answers) in POSSIBLE.iter().enumerate() {
+            for &answer in answers.iter() {
+                if self.calls[sort][answer as usize] == 0 {
+                    lines.push(format!("{} never answered {answer}", SORTS[sort]));
+                }
+            }
+            if sort < 6 && sort != 1 && self.cut[sort] == 0 {
+                lines.push(format!("{} was never cut", SORTS[sort]));
+            }
+        }
+        lines.extend(
+            (1..9)
+                .filter(|&k| self.kinds[k] == 0)
+                .map(|k| format!("no turn of kind {k}")),
+        );
+        lines
+    }
+
+    fn answers(&self) {
+        print!("{:>9}", "answer");
+        SORTS.iter().for_each(|sort| print!(" {sort:>9}"));
+        println!();
+        for answer in ANSWERS {
+            print!("{answer:>9}");
+            for (calls, possible) in self.calls.iter().zip(POSSIBLE) {
+                match possible.contains(&answer) {
+                    true => print!(" {:>9}", calls[answer as usize]),
+                    false => print!(" {:>9}", "-"),
+                }
+            }
+            println!();
+        }
+        print!("{:>9}", "cut");
+        self.cut.iter().for_each(|cut| print!(" {cut:>9}"));
+        println!();
+    }
+
+    pub fn report(&self) {
+        let calls: u64 = self.calls.iter().flatten().sum();
+        println!("{} lists, {calls} calls by sort and answer (0 done, 1 to 13 causes, 16 stored, 17 passed,", self.lists);
+        println!("18 waiting, 19 idle, 20 spent; '-' is an answer that the call does not have):");
+        self.answers();
+        println!(
+            "{} calls with every number of stores from 0 to all: {} tries",
+            self.swept, self.sweeps
+        );
+        println!(
+            "images of another length: {}; odd cursors: {}",
+            self.odd_lengths, self.odd_cursors
+        );
+        print!("damaged words:");
+        DAMAGES
+            .iter()
+            .zip(self.damages)
+            .for_each(|(name, n)| print!(" {name} {n};"));
+        print!("\nturns by kind of instruction:");
+        (1..9).for_each(|k| print!(" {k}: {};", self.kinds[k]));
+        println!();
+    }
+}
