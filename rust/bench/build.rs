@@ -2,18 +2,13 @@
 
 use std::process::Command;
 
-const LIBRARIES: [(&str, &str); 3] = [
-    ("sqlite3", "libsqlite3-dev"),
-    ("lmdb", "liblmdb-dev"),
-    ("pmemobj", "libpmemobj-dev"),
-];
+const LIBRARIES: [(&str, &str); 3] =
+    [("sqlite3", "libsqlite3-dev"), ("lmdb", "liblmdb-dev"), ("pmemobj", "libpmemobj-dev")];
 
 /// Whether the C compiler's linker would find a library: it then prints a whole path and not the bare name.
 fn found(library: &str) -> bool {
     let file = format!("lib{library}.so");
-    let asked = Command::new("cc")
-        .arg(format!("-print-file-name={file}"))
-        .output();
+    let asked = Command::new("cc").arg(format!("-print-file-name={file}")).output();
     asked.is_ok_and(|o| o.status.success() && o.stdout.trim_ascii() != file.as_bytes())
 }
 
@@ -25,7 +20,9 @@ fn main() {
             println!("cargo::rustc-link-lib={library}");
             println!("cargo::rustc-cfg=have_{library}");
         } else {
-            println!("cargo::warning=lib{library} is not found, its rows are left out; Debian has it as {package}");
+            println!(
+                "cargo::warning=lib{library} is not found, its rows are left out; Debian has it as {package}"
+            );
         }
     }
 }

@@ -19,10 +19,9 @@ fn main() {
     let archive = folder.join(ARCHIVE);
     println!("cargo::rerun-if-changed={}", archive.display());
     if !archive.is_file() {
-        println!(
-            "cargo::error=there is no {ARCHIVE} in {}: run `rt staticlib zilpanud` first, or let ZILPANUD_LIB name its folder",
-            folder.display()
-        );
+        let folder = folder.display();
+        println!("cargo::error=there is no {ARCHIVE} in {folder}: run `rt staticlib zilpanud` first");
+        println!("cargo::error=(or let ZILPANUD_LIB name the folder that has it)");
         return;
     }
     println!("cargo::rustc-link-search=native={}", folder.display());

@@ -6,13 +6,7 @@ pub trait Engine {
 
     fn format(image: &mut [u64], workers: u64) -> Self::Places;
     fn check(section: &[u64]);
-    fn submit(
-        image: &mut [u64],
-        places: &mut Self::Places,
-        worker: usize,
-        number: u64,
-        section: &[u64],
-    );
+    fn submit(image: &mut [u64], places: &mut Self::Places, worker: usize, number: u64, section: &[u64]);
     /// Whether the worker was not idle.
     fn turn(image: &mut [u64], places: &mut Self::Places, worker: usize) -> bool;
     /// The turns made.
@@ -38,13 +32,7 @@ impl Engine for Ours {
         zilpanud::check(section).unwrap();
     }
 
-    fn submit(
-        image: &mut [u64],
-        places: &mut Self::Places,
-        worker: usize,
-        number: u64,
-        section: &[u64],
-    ) {
+    fn submit(image: &mut [u64], places: &mut Self::Places, worker: usize, number: u64, section: &[u64]) {
         let mut left = u64::MAX;
         zilpanud::submit(image, places, worker, number, &ARGS, section, &mut left).unwrap();
     }
@@ -82,13 +70,7 @@ impl Engine for Twin {
         twin::check(section).unwrap();
     }
 
-    fn submit(
-        image: &mut [u64],
-        places: &mut Self::Places,
-        worker: usize,
-        number: u64,
-        section: &[u64],
-    ) {
+    fn submit(image: &mut [u64], places: &mut Self::Places, worker: usize, number: u64, section: &[u64]) {
         let desk = worker as u64;
         let (answer, after) = twin::hand_in(image, *places, desk, number, &ARGS, section, u64::MAX);
         answer.unwrap();

@@ -7,11 +7,7 @@ use std::process::Command;
 /// Instructions that the program executes for a row's work done so many times, and the units of it.
 fn counted(name: &str, side: &str, times: u64) -> Option<(f64, f64)> {
     let ran = Command::new("valgrind")
-        .args([
-            "--tool=cachegrind",
-            "--cache-sim=no",
-            "--cachegrind-out-file=/dev/null",
-        ])
+        .args(["--tool=cachegrind", "--cache-sim=no", "--cachegrind-out-file=/dev/null"])
         .arg(env::current_exe().ok()?)
         .args(["once", name, side, &times.to_string()])
         .output()
@@ -19,17 +15,8 @@ fn counted(name: &str, side: &str, times: u64) -> Option<(f64, f64)> {
     let told = String::from_utf8_lossy(&ran.stderr).into_owned();
     let refs = told.lines().find(|line| line.contains("refs:"))?;
     let (_, refs) = refs.split_once("refs:")?;
-    let refs: String = refs
-        .lines()
-        .next()?
-        .chars()
-        .filter(char::is_ascii_digit)
-        .collect();
-    let units = String::from_utf8_lossy(&ran.stdout)
-        .split(' ')
-        .next()?
-        .parse()
-        .ok()?;
+    let refs: String = refs.lines().next()?.chars().filter(char::is_ascii_digit).collect();
+    let units = String::from_utf8_lossy(&ran.stdout).split(' ').next()?.parse().ok()?;
     Some((refs.parse().ok()?, units))
 }
 
@@ -48,10 +35,6 @@ pub fn table() {
             println!("valgrind did not run: Debian has it as valgrind");
             return;
         };
-        println!(
-            "| {name} | {} | {ours:.0} | {twin:.0} | {:.2} |",
-            row.unit,
-            twin / ours
-        );
+        println!("| {name} | {} | {ours:.0} | {twin:.0} | {:.2} |", row.unit, twin / ours);
     }
 }

@@ -11,7 +11,8 @@ mod work;
 use engine::{Ours, Twin};
 use rows::Row;
 use std::env;
-use std::process::exit;
+use std::os::unix::process::CommandExt;
+use std::process::{exit, Command};
 
 const ROUNDS: usize = 201;
 
@@ -45,23 +46,32 @@ fn table(title: &str, rows: Vec<Row>, rounds: usize) {
     for row in rows {
         let m = compared(&row, rounds);
         let (name, unit) = (row.name, row.unit);
-        println!(
-            "| {name} | {unit} | {:.2} | {:.2} | {:.2} |",
-            m.first, m.second, m.ratio
-        );
+        println!("| {name} | {unit} | {:.2} | {:.2} | {:.2} |", m.first, m.second, m.ratio);
     }
 }
 
 fn tables(rounds: usize) {
-    println!("{rounds} rounds a row, ours and the other by turns; times are medians a unit, ratios medians over the rounds.");
+    with_pmdk_settings();
+    println!(
+        "{rounds} rounds a row, ours and the other by turns; times a unit and ratios are medians over them."
+    );
     println!("A ratio of 1.00 is equal speed; above 1 ours is faster. Images were compared after each row.");
     table("Ours against the twin", rows::against_twin(), rounds);
-    table(
-        "The cost of a turn by workers and by length",
-        rows::by_size(),
-        rounds,
-    );
+    table("The cost of a turn by workers and by length", rows::by_size(), rounds);
     stores::table(rounds);
+}
+
+/// PMDK reads these when it is loaded, before `main`: the program starts itself again with them.
+fn with_pmdk_settings() {
+    const FORCE: &str = "PMEM_IS_PMEM_FORCE";
+    if cfg!(have_pmemobj) && env::var_os(FORCE).is_none() {
+        let Ok(program) = env::current_exe() else {
+            return;
+        };
+        let mut again = Command::new(program);
+        again.args(env::args_os().skip(1)).env(FORCE, "1").env("PMEM_NO_FLUSH", "1");
+        eprintln!("not started again: {}", again.exec());
+    }
 }
 
 fn once(name: &str, side: &str, times: u64) {

@@ -11,11 +11,7 @@ pub struct Row {
 }
 
 fn row(name: impl Into<String>, unit: &'static str, work: Work) -> Row {
-    Row {
-        name: name.into(),
-        unit,
-        work,
-    }
+    Row { name: name.into(), unit, work }
 }
 
 fn run(workers: u64, sections: Vec<Vec<u64>>) -> Work {
@@ -24,140 +20,65 @@ fn run(workers: u64, sections: Vec<Vec<u64>>) -> Work {
 
 fn one_worker(workers: u64, section: Vec<u64>) -> Work {
     let worker = workers as usize - 1;
-    Work::OneWorker {
-        workers,
-        worker,
-        section,
-    }
+    Work::OneWorker { workers, worker, section }
 }
 
 fn turns() -> Vec<Row> {
-    let contending = |section: Vec<u64>| vec![section; 8];
+    let calls = |name, section| row(name, "turn", one_worker(1, section));
+    let sections = vec![hand_over_hand(); 8];
     vec![
-        row(
-            "turn calls, 1 worker, sums",
-            "turn",
-            one_worker(1, sums(3, 64)),
-        ),
-        row(
-            "turn calls, 1 worker, acquires and releases",
-            "turn",
-            one_worker(1, locks()),
-        ),
-        row(
-            "turn calls, 1 worker, jumps",
-            "turn",
-            one_worker(1, jumps()),
-        ),
-        row(
-            "turn calls, 8 workers contending, hand over hand",
-            "turn",
-            Work::Turns {
-                workers: 8,
-                sections: contending(hand_over_hand()),
-            },
-        ),
-        row("run, 1 worker, sums", "turn", run(1, vec![sums(3, 64)])),
-        row(
-            "run, 1 worker, acquires and releases",
-            "turn",
-            run(1, vec![locks()]),
-        ),
-        row(
-            "run, 8 workers, a lock each, sums",
-            "turn",
-            run(8, (0..8).map(|d| sums(d, 64)).collect()),
-        ),
-        row(
-            "run, 8 workers contending, hand over hand",
-            "turn",
-            run(8, contending(hand_over_hand())),
-        ),
-        row(
-            "run, 8 workers contending for one lock",
-            "turn",
-            run(8, contending(sums(3, 64))),
-        ),
-        row(
-            "run, 8 workers, one with a section",
-            "turn",
-            run(8, vec![sums(3, 64)]),
-        ),
+        calls("turn calls, 1 worker, sums", sums(3, 64)),
+        calls("turn calls, 1 worker, acquires and releases", locks()),
+        calls("turn calls, 1 worker, jumps", jumps()),
+        row("turn calls, 8 workers contending, hand over hand", "turn", Work::Turns { workers: 8, sections }),
     ]
 }
 
-fn calls() -> Vec<Row> {
-    let full = |of: fn(u16) -> Vec<u64>| Work::Recover {
-        sections: (0..8).map(of).collect(),
-        rounds: 100,
-    };
-    let none = Work::Recover {
-        sections: vec![],
-        rounds: 0,
-    };
+fn runs() -> Vec<Row> {
+    let of = |name, workers, sections| row(name, "turn", run(workers, sections));
     vec![
-        row(
-            "submit, 64 steps full of jumps",
-            "submit",
-            Work::Submit { section: jumps() },
-        ),
-        row(
-            "submit, 64 steps, sums",
-            "submit",
-            Work::Submit {
-                section: sums(3, 64),
-            },
-        ),
-        row(
-            "check, 64 steps full of jumps",
-            "check",
-            Work::Check { section: jumps() },
-        ),
-        row(
-            "check, 64 steps, sums",
-            "check",
-            Work::Check {
-                section: sums(3, 64),
-            },
-        ),
-        row(
-            "check, 64 steps, acquires and releases",
-            "check",
-            Work::Check { section: locks() },
-        ),
-        row(
-            "recovery, 8 workers at 64 steps, 56 locks held",
-            "recovery",
-            full(seven_locks),
-        ),
-        row(
-            "recovery, the same with sections full of jumps",
-            "recovery",
-            full(seven_locks_jumps),
-        ),
-        row("recovery, 8 idle workers", "recovery", none),
+        of("run, 1 worker, sums", 1, vec![sums(3, 64)]),
+        of("run, 1 worker, acquires and releases", 1, vec![locks()]),
+        of("run, 8 workers, a lock each, sums", 8, (0..8).map(|d| sums(d, 64)).collect()),
+        of("run, 8 workers contending, hand over hand", 8, vec![hand_over_hand(); 8]),
+        of("run, 8 workers contending for one lock", 8, vec![sums(3, 64); 8]),
+        of("run, 8 workers, one with a section", 8, vec![sums(3, 64)]),
+    ]
+}
+
+fn checks() -> Vec<Row> {
+    let submit = |name, section| row(name, "submit", Work::Submit { section });
+    let check = |name, section| row(name, "check", Work::Check { section });
+    vec![
+        submit("submit, 64 steps full of jumps", jumps()),
+        submit("submit, 64 steps, sums", sums(3, 64)),
+        check("check, 64 steps full of jumps", jumps()),
+        check("check, 64 steps, sums", sums(3, 64)),
+        check("check, 64 steps, acquires and releases", locks()),
+    ]
+}
+
+fn whole_images() -> Vec<Row> {
+    let recover = |name, sections, rounds| row(name, "recovery", Work::Recover { sections, rounds });
+    let (sums, jumps) = (seven_locks, seven_locks_jumps);
+    vec![
+        recover("recovery, 8 workers at 64 steps, 56 locks held", (0..8).map(sums).collect(), 100),
+        recover("recovery, the same with sections full of jumps", (0..8).map(jumps).collect(), 100),
+        recover("recovery, 8 idle workers", vec![], 0),
         row("format, 8 workers", "format", Work::Format { workers: 8 }),
     ]
 }
 
-pub fn moves() -> Vec<Row> {
+fn moves() -> Vec<Row> {
     let of = |section| Work::Move { section };
     vec![
-        row(
-            "move between two cells of one lock",
-            "move",
-            of(one_lock_move()),
-        ),
-        row(
-            "move between two locks, with a count",
-            "move",
-            of(two_lock_move()),
-        ),
+        row("move between two cells of one lock", "move", of(one_lock_move())),
+        row("move between two locks, with a count", "move", of(two_lock_move())),
     ]
 }
 
 pub fn against_twin() -> Vec<Row> {
-    [turns(), calls(), moves()].into_iter().flatten().collect()
+    [turns(), runs(), checks(), whole_images(), moves()].into_iter().flatten().collect()
 }
 
 /// The same turns on images of more workers and in longer sections.

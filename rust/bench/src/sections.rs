@@ -83,13 +83,7 @@ pub fn seven_locks_jumps(d: u16) -> Vec<u64> {
 
 /// Moves own word 512 from cell 24 to cell 25, both under lock 3: 23 turns.
 pub fn one_lock_move() -> Vec<u64> {
-    vec![
-        acquire(3),
-        instruction(5, 24, 24, 512),
-        sum(25, 25, 512),
-        release(3),
-        FINISH,
-    ]
+    vec![acquire(3), instruction(5, 24, 24, 512), sum(25, 25, 512), release(3), FINISH]
 }
 
 /// Moves own word 512 from cell 24 to cell 40, under locks 3 and 5, and counts the move in cell 41: 39 turns.

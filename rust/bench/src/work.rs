@@ -57,9 +57,7 @@ impl Side {
     /// Does the work so many times; the units done.
     pub fn batch(&mut self, times: u64) -> u64 {
         self.times += times;
-        (0..times)
-            .map(|_| (self.again)(black_box(&mut self.image)))
-            .sum()
+        (0..times).map(|_| (self.again)(black_box(&mut self.image))).sum()
     }
 }
 
@@ -86,11 +84,7 @@ fn reopen(image: &mut [u64], sections: &[Vec<u64>]) {
 }
 
 fn side(image: Vec<u64>, again: impl FnMut(&mut [u64]) -> u64 + 'static) -> Side {
-    Side {
-        image,
-        times: 0,
-        again: Box::new(again),
-    }
+    Side { image, times: 0, again: Box::new(again) }
 }
 
 fn run<E: Engine>(workers: u64, sections: Vec<Vec<u64>>) -> Side
@@ -191,11 +185,7 @@ impl Work {
         match self {
             Work::Run { workers, sections } => run::<E>(workers, sections),
             Work::Turns { workers, sections } => turns::<E>(workers, sections),
-            Work::OneWorker {
-                workers,
-                worker,
-                section,
-            } => one_worker::<E>(workers, worker, section),
+            Work::OneWorker { workers, worker, section } => one_worker::<E>(workers, worker, section),
             Work::Check { section } => side(vec![], move |_| {
                 E::check(black_box(&section));
                 1

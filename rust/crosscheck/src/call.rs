@@ -5,47 +5,19 @@ use zilpanud::{Cursors, End, Stage, Tally, Turn};
 
 #[derive(Clone, Debug)]
 pub enum Call {
-    Format {
-        workers: u64,
-    },
-    Check {
-        section: Vec<u64>,
-    },
-    Submit {
-        worker: usize,
-        number: u64,
-        args: [u64; 8],
-        section: Vec<u64>,
-    },
-    Turn {
-        worker: usize,
-    },
-    Run {
-        rounds: u16,
-    },
+    Format { workers: u64 },
+    Check { section: Vec<u64> },
+    Submit { worker: usize, number: u64, args: [u64; 8], section: Vec<u64> },
+    Turn { worker: usize },
+    Run { rounds: u16 },
     Recover,
-    IsIdle {
-        worker: usize,
-    },
-    Finished {
-        worker: usize,
-    },
-    UnderWay {
-        worker: usize,
-    },
+    IsIdle { worker: usize },
+    Finished { worker: usize },
+    UnderWay { worker: usize },
 }
 
-pub const SORTS: [&str; 9] = [
-    "format",
-    "check",
-    "submit",
-    "turn",
-    "run",
-    "recover",
-    "is_idle",
-    "finished",
-    "under_way",
-];
+pub const SORTS: [&str; 9] =
+    ["format", "check", "submit", "turn", "run", "recover", "is_idle", "finished", "under_way"];
 
 impl Call {
     /// Which of `SORTS` it is.
@@ -100,62 +72,35 @@ fn told_turn(answer: Turn) -> (u64, u64) {
 
 /// The call on our engine.
 pub fn ours(call: &Call, image: &mut [u64], lent: Lent) -> Given {
-    let mut at = Cursors {
-        step: lent.step,
-        turn: lent.turn,
-    };
+    let mut at = Cursors { step: lent.step, turn: lent.turn };
     let mut left = lent.left;
     let mut tally = Tally::default();
     let done = |()| (0, 0);
     let (answer, detail) = match call {
-        Call::Format { workers } => {
-            of_ours(zilpanud::format(image, *workers, &mut at, &mut left), done)
-        }
+        Call::Format { workers } => of_ours(zilpanud::format(image, *workers, &mut at, &mut left), done),
         Call::Check { section } => of_ours(zilpanud::check(section), done),
-        Call::Submit {
-            worker,
-            number,
-            args,
-            section,
-        } => {
-            let taken =
-                zilpanud::submit(image, &mut at, *worker, *number, args, section, &mut left);
+        Call::Submit { worker, number, args, section } => {
+            let taken = zilpanud::submit(image, &mut at, *worker, *number, args, section, &mut left);
             of_ours(taken, done)
         }
-        Call::Turn { worker } => of_ours(
-            zilpanud::turn(image, &mut at, *worker, &mut left),
-            told_turn,
-        ),
+        Call::Turn { worker } => of_ours(zilpanud::turn(image, &mut at, *worker, &mut left), told_turn),
         Call::Run { rounds } => {
             let end = zilpanud::run(image, &mut at, *rounds, &mut tally, &mut left);
             of_ours(end, |end| (if end == End::Spent { 20 } else { 0 }, 0))
         }
         Call::Recover => of_ours(zilpanud::recover(image, &mut at, &mut left), done),
-        Call::IsIdle { worker } => of_ours(zilpanud::is_idle(image, &at, *worker), |idle| {
-            (0, idle as u64)
-        }),
+        Call::IsIdle { worker } => of_ours(zilpanud::is_idle(image, &at, *worker), |idle| (0, idle as u64)),
         Call::Finished { worker } => of_ours(zilpanud::finished(image, *worker), |n| (0, n)),
-        Call::UnderWay { worker } => of_ours(zilpanud::under_way(image, *worker), |stage| {
-            (
-                0,
-                match stage {
-                    Stage::Empty => 0,
-                    Stage::Submitted => 1,
-                    Stage::Begun => 2,
-                },
-            )
-        }),
+        Call::UnderWay { worker } => of_ours(zilpanud::under_way(image, *worker), |s| (0, told_stage(s))),
     };
-    let lent = Lent {
-        step: at.step,
-        turn: at.turn,
-        left,
-    };
-    Given {
-        answer,
-        detail,
-        lent,
-        tally,
+    Given { answer, detail, lent: Lent { step: at.step, turn: at.turn, left }, tally }
+}
+
+fn told_stage(stage: Stage) -> u64 {
+    match stage {
+        Stage::Empty => 0,
+        Stage::Submitted => 1,
+        Stage::Begun => 2,
     }
 }
 
@@ -163,77 +108,64 @@ fn refused(no: Refusal) -> (u64, u64) {
     (no.number as u64, no.at as u64)
 }
 
-/// What the twin gives: its functions take the places by value, and say the stores left only of a recovery. Of the
-/// others the stores made follow from the answer: a formatting's length + 1, a submit's section + 10, a turn's one.
-pub fn twins(call: &Call, image: &mut [u64], lent: Lent) -> Given {
-    let at = Working {
-        step: lent.step,
-        turn: lent.turn,
-    };
-    let mut tally = twin::Tally::default();
-    let ok = |(): ()| (0, 0);
-    let (told, after, stores) = match call {
+/// What the twin tells, the places that it leaves, and the stores that it makes if it is given enough. It says the
+/// stores left only of a recovery; of the others the stores made follow from the answer: a formatting's length + 1, a
+/// submit's section + 10, a turn's one, a run's tally.
+fn twin_told(
+    call: &Call,
+    image: &mut [u64],
+    at: Working,
+    left: u64,
+    tally: &mut twin::Tally,
+) -> ((u64, u64), Working, u64) {
+    let done = |(): ()| (0, 0);
+    match call {
         Call::Format { workers } => {
-            let (answer, after) = twin::format(image, *workers, lent.left);
-            let stores = if answer.is_ok() {
-                image.len() as u64 + 1
-            } else {
-                0
-            };
-            (answer.map_or_else(refused, ok), after, stores)
+            let (answer, after) = twin::format(image, *workers, left);
+            let stores = if answer.is_ok() { image.len() as u64 + 1 } else { 0 };
+            (answer.map_or_else(refused, done), after, stores)
         }
-        Call::Check { section } => (twin::check(section).map_or_else(refused, ok), at, 0),
-        Call::Submit {
-            worker,
-            number,
-            args,
-            section,
-        } => {
-            let desk = *worker as u64;
-            let (answer, after) = twin::hand_in(image, at, desk, *number, args, section, lent.left);
-            let stores = if answer.is_ok() {
-                section.len() as u64 + 10
-            } else {
-                0
-            };
-            (answer.map_or_else(refused, ok), after, stores)
+        Call::Check { section } => (twin::check(section).map_or_else(refused, done), at, 0),
+        Call::Submit { worker, number, args, section } => {
+            let (answer, after) = twin::hand_in(image, at, *worker as u64, *number, args, section, left);
+            let stores = if answer.is_ok() { section.len() as u64 + 10 } else { 0 };
+            (answer.map_or_else(refused, done), after, stores)
         }
         Call::Turn { worker } => {
-            let (answer, after) = twin::turn(image, at, *worker as u64, lent.left);
+            let (answer, after) = twin::turn(image, at, *worker as u64, left);
             let told = answer.map_or_else(refused, told_desk);
             (told, after, (told.0 == 16) as u64)
         }
         Call::Run { rounds } => {
-            let (end, after) = twin::run(image, at, *rounds, lent.left, &mut tally);
-            let told =
-                end.map_or_else(refused, |e| (if e == twin::End::Spent { 20 } else { 0 }, 0));
-            (told, after, tally.stores)
+            let (end, after) = twin::run(image, at, *rounds, left, tally);
+            (end.map_or_else(refused, told_end), after, tally.stores)
         }
         Call::Recover => {
-            let mut meter = Left(lent.left);
+            let mut meter = Left(left);
             let (answer, after) = twin::recover_with(image, &mut meter);
-            (answer.map_or_else(refused, ok), after, lent.left - meter.0)
+            (answer.map_or_else(refused, done), after, left - meter.0)
         }
         Call::IsIdle { worker } | Call::Finished { worker } | Call::UnderWay { worker } => {
             (asked(call, *worker, image, at), at, 0)
         }
-    };
+    }
+}
+
+/// The call on the twin.
+pub fn twins(call: &Call, image: &mut [u64], lent: Lent) -> Given {
+    let at = Working { step: lent.step, turn: lent.turn };
+    let mut sums = twin::Tally::default();
+    let ((answer, detail), after, stores) = twin_told(call, image, at, lent.left, &mut sums);
     let left = lent.left.saturating_sub(stores);
-    let lent = Lent {
-        step: after.step,
-        turn: after.turn,
-        left,
-    };
-    let tally = Tally {
-        turns: tally.turns,
-        waits: tally.waits,
-        stores: tally.stores,
-    };
-    Given {
-        answer: told.0,
-        detail: told.1,
-        lent,
-        tally,
+    let lent = Lent { step: after.step, turn: after.turn, left };
+    let tally = Tally { turns: sums.turns, waits: sums.waits, stores: sums.stores };
+    Given { answer, detail, lent, tally }
+}
+
+fn told_end(end: twin::End) -> (u64, u64) {
+    match end {
+        twin::End::Idle => (0, 0),
+        twin::End::Spent => (20, 0),
     }
 }
 

@@ -64,13 +64,7 @@ fn log_entry(r: &mut Rng, image: &[u64]) -> Change {
     let offset = ENTRY + r.below(4) as usize;
     let index = in_record(r, image, offset);
     let was = word_at(image, index);
-    let near = [
-        was.wrapping_add(1),
-        one_bit(r, was),
-        r.word(),
-        0,
-        8 + r.below(512),
-    ];
+    let near = [was.wrapping_add(1), one_bit(r, was), r.word(), 0, 8 + r.below(512)];
     (index, r.pick(&near))
 }
 

@@ -14,9 +14,7 @@ fn worker(r: &mut Rng, workers: u64) -> usize {
 }
 
 fn number(r: &mut Rng, image: &[u64], worker: usize) -> u64 {
-    let record = REC
-        .checked_mul(worker)
-        .and_then(|n| n.checked_add(HEAD + LAST));
+    let record = REC.checked_mul(worker).and_then(|n| n.checked_add(HEAD + LAST));
     let finished = record.and_then(|i| image.get(i)).copied().unwrap_or(0);
     match r.below(10) {
         0 => finished.wrapping_sub(r.below(2)),
@@ -27,9 +25,7 @@ fn number(r: &mut Rng, image: &[u64], worker: usize) -> u64 {
 
 /// A worker that is not idle, where there is one.
 fn open_worker(r: &mut Rng, workers: u64, lent: &Lent) -> usize {
-    let open: Vec<usize> = (0..workers as usize)
-        .filter(|&d| lent.turn[d] != 255)
-        .collect();
+    let open: Vec<usize> = (0..workers as usize).filter(|&d| lent.turn[d] != 255).collect();
     match !open.is_empty() && r.chance(85) {
         true => r.pick(&open),
         false => worker(r, workers),
@@ -37,9 +33,7 @@ fn open_worker(r: &mut Rng, workers: u64, lent: &Lent) -> usize {
 }
 
 fn submit(r: &mut Rng, image: &[u64], workers: u64, lent: &Lent) -> Call {
-    let idle: Vec<usize> = (0..workers as usize)
-        .filter(|&d| lent.turn[d] == 255)
-        .collect();
+    let idle: Vec<usize> = (0..workers as usize).filter(|&d| lent.turn[d] == 255).collect();
     let worker = match !idle.is_empty() && r.chance(70) {
         true => r.pick(&idle),
         false => worker(r, workers),
@@ -69,27 +63,19 @@ pub fn call(r: &mut Rng, image: &[u64], workers: u64, lent: &Lent) -> Call {
     let someone = worker(r, workers);
     match r.below(100) {
         0..=24 => submit(r, image, workers, lent),
-        25..=62 => Call::Turn {
-            worker: open_worker(r, workers, lent),
-        },
-        63..=77 => Call::Run {
-            rounds: rounds(r, workers),
-        },
+        25..=62 => Call::Turn { worker: open_worker(r, workers, lent) },
+        63..=77 => Call::Run { rounds: rounds(r, workers) },
         78..=85 => Call::Recover,
         86..=89 => {
             let locks = r.pick(&[2, 5, 64]);
-            Call::Check {
-                section: sections::section(r, locks),
-            }
+            Call::Check { section: sections::section(r, locks) }
         }
         90..=92 => Call::IsIdle { worker: someone },
         93..=95 => Call::Finished { worker: someone },
         96..=98 => Call::UnderWay { worker: someone },
         _ => {
             let other = r.pick(&[0, 1, 2, 8, 9, u64::MAX]);
-            Call::Format {
-                workers: if r.chance(50) { workers } else { other },
-            }
+            Call::Format { workers: if r.chance(50) { workers } else { other } }
         }
     }
 }
@@ -100,11 +86,7 @@ pub fn odd_cursors(r: &mut Rng, lent: &mut Lent) {
     let one = r.below(8) as usize;
     for d in 0..8 {
         if all || d == one {
-            lent.step[d] = if r.chance(70) {
-                r.below(20)
-            } else {
-                r.below(256)
-            } as u8;
+            lent.step[d] = if r.chance(70) { r.below(20) } else { r.below(256) } as u8;
             lent.turn[d] = match r.below(10) {
                 0..=6 => r.below(8) as u8,
                 7 => 255,

@@ -37,27 +37,14 @@ struct Difference {
 }
 
 /// The same call on both, each with its own image of the same words.
-fn both(
-    call: &Call,
-    mine: &mut [u64],
-    other: &mut [u64],
-    lent: Lent,
-) -> Result<Given, Box<Difference>> {
+fn both(call: &Call, mine: &mut [u64], other: &mut [u64], lent: Lent) -> Result<Given, Box<Difference>> {
     let ours = call::ours(call, mine, lent);
     let twins = call::twins(call, other, lent);
     if ours == twins && mine == other {
         return Ok(ours);
     }
-    let word = (0..mine.len())
-        .find(|&i| mine[i] != other[i])
-        .map(|i| (i, mine[i], other[i]));
-    Err(Box::new(Difference {
-        call: call.clone(),
-        lent,
-        ours,
-        twins,
-        word,
-    }))
+    let word = (0..mine.len()).find(|&i| mine[i] != other[i]).map(|i| (i, mine[i], other[i]));
+    Err(Box::new(Difference { call: call.clone(), lent, ours, twins, word }))
 }
 
 /// How a list is played.
@@ -82,10 +69,7 @@ struct Play<'a> {
 impl Play<'_> {
     /// The stores that a call makes of the present image when it is not cut.
     fn stores(&self, call: &Call) -> u64 {
-        let lent = Lent {
-            left: u64::MAX,
-            ..self.lent
-        };
+        let lent = Lent { left: u64::MAX, ..self.lent };
         u64::MAX - call::twins(call, &mut self.other.clone(), lent).lent.left
     }
 
@@ -154,9 +138,7 @@ impl Play<'_> {
         };
         let step = self.lent.step.get(*worker).copied().unwrap_or(0) as usize;
         let index = worker.checked_mul(82).map(|n| 584 + 18 + n + step);
-        index
-            .and_then(|i| self.mine.get(i))
-            .map_or(9, |word| word >> 48)
+        index.and_then(|i| self.mine.get(i)).map_or(9, |word| word >> 48)
     }
 
     fn next(&mut self, manner: Manner) -> Result<(), Box<Difference>> {
@@ -184,50 +166,25 @@ impl Play<'_> {
     }
 }
 
+fn manner(r: &mut Rng) -> Manner {
+    match r.below(10) {
+        0..=4 => Manner { damages: 0, odd_cursors: 0 },
+        5..=7 => Manner { damages: 6, odd_cursors: 2 },
+        _ => Manner { damages: 25, odd_cursors: 15 },
+    }
+}
+
 /// Plays one list; gives the number of the call that differed.
 fn list(seed: u64, number: u64, met: &mut Met) -> Result<(), (u64, Box<Difference>)> {
     let mut r = Rng::of_list(seed, number);
-    let workers = if r.chance(50) {
-        1 + r.below(3)
-    } else {
-        1 + r.below(8)
-    };
-    let manner = match r.below(10) {
-        0..=4 => Manner {
-            damages: 0,
-            odd_cursors: 0,
-        },
-        5..=7 => Manner {
-            damages: 6,
-            odd_cursors: 2,
-        },
-        _ => Manner {
-            damages: 25,
-            odd_cursors: 15,
-        },
-    };
-    let fill = r.word();
+    let workers = if r.chance(50) { 1 + r.below(3) } else { 1 + r.below(8) };
+    let manner = manner(&mut r);
+    let (fill, calls) = (r.word(), 10 + r.below(60));
     let image = vec![fill; twin::HEAD + twin::REC * workers as usize];
-    let calls = 10 + r.below(60);
-    let mut play = Play {
-        r,
-        met,
-        mine: image.clone(),
-        other: image,
-        lent: Lent {
-            step: [fill as u8; 8],
-            turn: [!fill as u8; 8],
-            left: u64::MAX,
-        },
-        workers,
-        was_cut: false,
-    };
-    let first = both(
-        &Call::Format { workers },
-        &mut play.mine,
-        &mut play.other,
-        play.lent,
-    );
+    let lent = Lent { step: [fill as u8; 8], turn: [!fill as u8; 8], left: u64::MAX };
+    let (mine, other) = (image.clone(), image);
+    let mut play = Play { r, met, mine, other, lent, workers, was_cut: false };
+    let first = both(&Call::Format { workers }, &mut play.mine, &mut play.other, lent);
     play.lent = first.map_err(|d| (0, d))?.lent;
     for n in 1..=calls {
         play.next(manner).map_err(|d| (n, d))?;
@@ -252,10 +209,7 @@ fn tell(seed: u64, list: u64, call: u64, d: &Difference) {
 }
 
 fn main() {
-    let args: Vec<u64> = env::args()
-        .skip(1)
-        .map(|word| word.parse().unwrap_or_else(|_| usage()))
-        .collect();
+    let args: Vec<u64> = env::args().skip(1).map(|word| word.parse().unwrap_or_else(|_| usage())).collect();
     let (lists, seed, first) = match args[..] {
         [] => (LISTS, SEED, 0),
         [lists] => (lists, SEED, 0),

@@ -4,9 +4,7 @@ use crate::call::{Call, Given, SORTS};
 use crate::damage::DAMAGES;
 
 /// The answers' numbers, by column of the table.
-const ANSWERS: [u64; 19] = [
-    0, 1, 2, 3, 4, 5, 6, 7, 8, 9, 10, 11, 12, 13, 16, 17, 18, 19, 20,
-];
+const ANSWERS: [u64; 19] = [0, 1, 2, 3, 4, 5, 6, 7, 8, 9, 10, 11, 12, 13, 16, 17, 18, 19, 20];
 
 /// The answers that each sort of call can have, by document 01.
 const POSSIBLE: [&[u64]; 9] = [
@@ -61,11 +59,7 @@ impl Met {
                 lines.push(format!("{} was never cut", SORTS[sort]));
             }
         }
-        lines.extend(
-            (1..9)
-                .filter(|&k| self.kinds[k] == 0)
-                .map(|k| format!("no turn of kind {k}")),
-        );
+        lines.extend((1..9).filter(|&k| self.kinds[k] == 0).map(|k| format!("no turn of kind {k}")));
         lines
     }
 
@@ -90,22 +84,16 @@ impl Met {
 
     pub fn report(&self) {
         let calls: u64 = self.calls.iter().flatten().sum();
-        println!("{} lists, {calls} calls by sort and answer (0 done, 1 to 13 causes, 16 stored, 17 passed,", self.lists);
+        println!(
+            "{} lists, {calls} calls by sort and answer (0 done, 1 to 13 causes, 16 stored, 17 passed,",
+            self.lists
+        );
         println!("18 waiting, 19 idle, 20 spent; '-' is an answer that the call does not have):");
         self.answers();
-        println!(
-            "{} calls with every number of stores from 0 to all: {} tries",
-            self.swept, self.sweeps
-        );
-        println!(
-            "images of another length: {}; odd cursors: {}",
-            self.odd_lengths, self.odd_cursors
-        );
+        println!("{} calls with every number of stores from 0 to all: {} tries", self.swept, self.sweeps);
+        println!("images of another length: {}; odd cursors: {}", self.odd_lengths, self.odd_cursors);
         print!("damaged words:");
-        DAMAGES
-            .iter()
-            .zip(self.damages)
-            .for_each(|(name, n)| print!(" {name} {n};"));
+        DAMAGES.iter().zip(self.damages).for_each(|(name, n)| print!(" {name} {n};"));
         print!("\nturns by kind of instruction:");
         (1..9).for_each(|k| print!(" {k}: {};", self.kinds[k]));
         println!();

@@ -38,9 +38,7 @@ fn aim_jumps(r: &mut Rng, section: &mut [u64], held: &[u64]) {
             continue;
         }
         let a = (section[i] >> 32) as u16;
-        let to: Vec<usize> = (i + 1..section.len())
-            .filter(|&j| held[j] == held[i])
-            .collect();
+        let to: Vec<usize> = (i + 1..section.len()).filter(|&j| held[j] == held[i]).collect();
         section[i] = match to.is_empty() {
             true => instruction(3, a, 0, 1),
             false => instruction(7, a, r.pick(&to) as u16, 0),
@@ -108,12 +106,7 @@ pub fn spoil(r: &mut Rng, section: &mut Vec<u64>) {
         4 => section[i] = section[i] & !(0xffff << 48) | r.below(10) << 48,
         _ => {
             let shift = 16 * r.below(3);
-            let near = [
-                r.below(64),
-                r.below(70),
-                505 + r.below(20),
-                r.below(1 << 16),
-            ];
+            let near = [r.below(64), r.below(70), 505 + r.below(20), r.below(1 << 16)];
             section[i] = section[i] & !(0xffff << shift) | r.pick(&near) << shift;
         }
     }

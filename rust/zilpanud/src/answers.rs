@@ -161,10 +161,7 @@ pub struct Cursors {
 }
 
 impl Cursors {
-    pub const IDLE: Cursors = Cursors {
-        step: [0; 8],
-        turn: [255; 8],
-    };
+    pub const IDLE: Cursors = Cursors { step: [0; 8], turn: [255; 8] };
 }
 
 impl Default for Cursors {

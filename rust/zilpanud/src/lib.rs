@@ -81,16 +81,10 @@ fn done(answer: u64, detail: u64) -> Result<(), Refusal> {
 
 /// Formats an image for `workers` workers and leaves all cursors idle, also where it refuses (cause 10, with nothing
 /// stored).
-pub fn format(
-    image: &mut [u64],
-    workers: u64,
-    cursors: &mut Cursors,
-    left: &mut u64,
-) -> Result<(), Refusal> {
+pub fn format(image: &mut [u64], workers: u64, cursors: &mut Cursors, left: &mut u64) -> Result<(), Refusal> {
     let (step, turn) = (&mut cursors.step, &mut cursors.turn);
     // SAFETY: here and below, every pointer comes from a live reference, and every length is its slice's.
-    let answer =
-        unsafe { raw::zilpanud_format(image.as_mut_ptr(), image.len(), workers, step, turn, left) };
+    let answer = unsafe { raw::zilpanud_format(image.as_mut_ptr(), image.len(), workers, step, turn, left) };
     done(answer, 0)
 }
 
@@ -164,24 +158,9 @@ pub fn run(
     let mut counts = [0; 3];
     let (step, turn) = (&mut cursors.step, &mut cursors.turn);
     let (words, len) = (image.as_mut_ptr(), image.len());
-    let answer = unsafe {
-        raw::zilpanud_run(
-            words,
-            len,
-            step,
-            turn,
-            rounds,
-            &mut counts,
-            left,
-            &mut detail,
-        )
-    };
+    let answer = unsafe { raw::zilpanud_run(words, len, step, turn, rounds, &mut counts, left, &mut detail) };
     let [turns, waits, stores] = counts;
-    *tally = Tally {
-        turns,
-        waits,
-        stores,
-    };
+    *tally = Tally { turns, waits, stores };
     match answer {
         0 => Ok(End::AllIdle),
         20 => Ok(End::Spent),

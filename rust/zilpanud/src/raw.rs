@@ -59,8 +59,6 @@ unsafe extern "C" {
         worker: usize,
         answer: *mut u64,
     ) -> u64;
-    pub fn zilpanud_finished(image: *const u64, len: usize, worker: usize, number: *mut u64)
-        -> u64;
-    pub fn zilpanud_under_way(image: *const u64, len: usize, worker: usize, stage: *mut u64)
-        -> u64;
+    pub fn zilpanud_finished(image: *const u64, len: usize, worker: usize, number: *mut u64) -> u64;
+    pub fn zilpanud_under_way(image: *const u64, len: usize, worker: usize, stage: *mut u64) -> u64;
 }

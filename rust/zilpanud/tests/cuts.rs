@@ -11,10 +11,7 @@ fn carried_on(board: &mut Board) -> u64 {
     board.recover().unwrap();
     let mut tally = Tally::default();
     let Board { image, at, left } = board;
-    assert_eq!(
-        zilpanud::run(image, at, 384, &mut tally, left),
-        Ok(End::AllIdle)
-    );
+    assert_eq!(zilpanud::run(image, at, 384, &mut tally, left), Ok(End::AllIdle));
     assert_eq!(image[LOCK_3], 0);
     tally.turns
 }

@@ -67,19 +67,9 @@ fn recovery_makes_no_further_store() {
 fn uncut_it_takes_19_turns() {
     let mut board = Board::after_turns(0);
     let mut tally = Tally::default();
-    let end = zilpanud::run(
-        &mut board.image,
-        &mut board.at,
-        19,
-        &mut tally,
-        &mut board.left,
-    );
+    let end = zilpanud::run(&mut board.image, &mut board.at, 19, &mut tally, &mut board.left);
     assert_eq!(end, Ok(End::AllIdle));
-    let expected = Tally {
-        turns: 19,
-        waits: 0,
-        stores: 19,
-    };
+    let expected = Tally { turns: 19, waits: 0, stores: 19 };
     assert_eq!(tally, expected);
     assert_eq!(board.image[CELL_24], 5);
     assert_eq!(board.image[LOCK_3], 0);
@@ -91,20 +81,11 @@ fn a_run_of_18_rounds_is_spent() {
     let mut board = Board::after_turns(0);
     let mut tally = Tally::default();
     let Board { image, at, left } = &mut board;
-    assert_eq!(
-        zilpanud::run(image, at, 18, &mut tally, left),
-        Ok(End::Spent)
-    );
+    assert_eq!(zilpanud::run(image, at, 18, &mut tally, left), Ok(End::Spent));
     assert_eq!(tally.turns, 18);
-    assert_eq!(
-        zilpanud::run(image, at, 0, &mut tally, left),
-        Ok(End::Spent)
-    );
+    assert_eq!(zilpanud::run(image, at, 0, &mut tally, left), Ok(End::Spent));
     assert_eq!(tally, Tally::default());
-    assert_eq!(
-        zilpanud::run(image, at, 1, &mut tally, left),
-        Ok(End::AllIdle)
-    );
+    assert_eq!(zilpanud::run(image, at, 1, &mut tally, left), Ok(End::AllIdle));
 }
 
 /// Two workers at one lock: the second waits, and a waiting turn counts as a turn and as a wait.
@@ -124,11 +105,7 @@ fn a_second_worker_waits() {
     assert_eq!(end, Ok(End::AllIdle));
     // 17 and 18 turns are left, and worker 1 waits in every round up to the one in which worker 0, whose turns come
     // first, makes its 15th turn and frees the lock: rounds 1 to 12.
-    let expected = Tally {
-        turns: 17 + 18 + 12,
-        waits: 12,
-        stores: 17 + 18,
-    };
+    let expected = Tally { turns: 17 + 18 + 12, waits: 12, stores: 17 + 18 };
     assert_eq!(tally, expected);
 }
 

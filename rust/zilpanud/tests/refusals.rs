@@ -22,14 +22,8 @@ fn cause_1_worker() {
     for worker in [2, 8, 255, usize::MAX] {
         not_taken(&mut board, worker, 1, &TICKET, Cause::Worker);
         assert_eq!(board.turn(worker), refused(Cause::Worker));
-        assert_eq!(
-            zilpanud::finished(&board.image, worker),
-            refused(Cause::Worker)
-        );
-        assert_eq!(
-            zilpanud::under_way(&board.image, worker),
-            refused(Cause::Worker)
-        );
+        assert_eq!(zilpanud::finished(&board.image, worker), refused(Cause::Worker));
+        assert_eq!(zilpanud::under_way(&board.image, worker), refused(Cause::Worker));
         let idle = zilpanud::is_idle(&board.image, &board.at, worker);
         assert_eq!(idle, refused(Cause::Worker));
     }
@@ -89,10 +83,7 @@ fn cause_4_length() {
 #[test]
 fn cause_5_malformed() {
     passes(&[acquire(63), release(63), FINISH]);
-    fails(
-        &[acquire(64), release(64), FINISH],
-        Cause::Malformed { step: 0 },
-    );
+    fails(&[acquire(64), release(64), FINISH], Cause::Malformed { step: 0 });
     for kind in [0, 9, 65535] {
         let section = [acquire(3), instruction(kind, 0, 0, 0), release(3), FINISH];
         fails(&section, Cause::Malformed { step: 1 });
@@ -101,75 +92,36 @@ fn cause_5_malformed() {
     let section = [acquire(3), literal(520, 5), release(3), FINISH];
     fails(&section, Cause::Malformed { step: 1 });
     // another kind as the last step, a finish before it, a jump backwards and one past the end
-    fails(
-        &[acquire(3), literal(24, 5), release(3)],
-        Cause::Malformed { step: 2 },
-    );
-    fails(
-        &[acquire(3), FINISH, release(3), FINISH],
-        Cause::Malformed { step: 1 },
-    );
-    fails(
-        &[acquire(3), jump(24, 1), release(3), FINISH],
-        Cause::Malformed { step: 1 },
-    );
-    fails(
-        &[acquire(3), jump(24, 4), release(3), FINISH],
-        Cause::Malformed { step: 1 },
-    );
+    fails(&[acquire(3), literal(24, 5), release(3)], Cause::Malformed { step: 2 });
+    fails(&[acquire(3), FINISH, release(3), FINISH], Cause::Malformed { step: 1 });
+    fails(&[acquire(3), jump(24, 1), release(3), FINISH], Cause::Malformed { step: 1 });
+    fails(&[acquire(3), jump(24, 4), release(3), FINISH], Cause::Malformed { step: 1 });
 }
 
 #[test]
 fn cause_6_unbracketed() {
-    fails(
-        &[literal(512, 5), acquire(3), release(3), FINISH],
-        Cause::Unbracketed { step: 0 },
-    );
-    fails(
-        &[acquire(3), release(3), literal(512, 5), FINISH],
-        Cause::Unbracketed { step: 2 },
-    );
-    fails(
-        &[acquire(3), literal(24, 5), FINISH],
-        Cause::Unbracketed { step: 2 },
-    );
+    fails(&[literal(512, 5), acquire(3), release(3), FINISH], Cause::Unbracketed { step: 0 });
+    fails(&[acquire(3), release(3), literal(512, 5), FINISH], Cause::Unbracketed { step: 2 });
+    fails(&[acquire(3), literal(24, 5), FINISH], Cause::Unbracketed { step: 2 });
 }
 
 #[test]
 fn cause_7_unordered() {
-    fails(
-        &[acquire(3), acquire(3), release(3), FINISH],
-        Cause::Unordered { step: 1 },
-    );
-    fails(
-        &[acquire(5), acquire(3), release(3), release(5), FINISH],
-        Cause::Unordered { step: 1 },
-    );
-    fails(
-        &[acquire(3), release(4), release(3), FINISH],
-        Cause::Unordered { step: 1 },
-    );
+    fails(&[acquire(3), acquire(3), release(3), FINISH], Cause::Unordered { step: 1 });
+    fails(&[acquire(5), acquire(3), release(3), release(5), FINISH], Cause::Unordered { step: 1 });
+    fails(&[acquire(3), release(4), release(3), FINISH], Cause::Unordered { step: 1 });
 }
 
 #[test]
 fn cause_8_unguarded() {
-    fails(
-        &[acquire(3), literal(32, 5), release(3), FINISH],
-        Cause::Unguarded { step: 1 },
-    );
+    fails(&[acquire(3), literal(32, 5), release(3), FINISH], Cause::Unguarded { step: 1 });
     let sum = instruction(4, 24, 25, 32);
-    fails(
-        &[acquire(3), sum, release(3), FINISH],
-        Cause::Unguarded { step: 1 },
-    );
+    fails(&[acquire(3), sum, release(3), FINISH], Cause::Unguarded { step: 1 });
 }
 
 #[test]
 fn cause_9_unlevel() {
-    fails(
-        &[acquire(3), jump(24, 3), release(3), FINISH],
-        Cause::Unlevel { step: 1 },
-    );
+    fails(&[acquire(3), jump(24, 3), release(3), FINISH], Cause::Unlevel { step: 1 });
     passes(&[acquire(3), jump(24, 2), release(3), FINISH]);
 }
 
@@ -193,23 +145,12 @@ fn wrong_images() -> Vec<Vec<u64>> {
 fn cause_10_image() {
     let no = Cause::Image;
     for image in wrong_images() {
-        let busy = Cursors {
-            step: [1; 8],
-            turn: [2; 8],
-        };
-        let mut board = Board {
-            image,
-            at: busy,
-            left: ENOUGH,
-        };
+        let busy = Cursors { step: [1; 8], turn: [2; 8] };
+        let mut board = Board { image, at: busy, left: ENOUGH };
         not_taken(&mut board, 9, 0, &[], no);
         let before = board.image.clone();
         assert_eq!(board.turn(9), refused(no));
-        let mut tally = Tally {
-            turns: 1,
-            waits: 1,
-            stores: 1,
-        };
+        let mut tally = Tally { turns: 1, waits: 1, stores: 1 };
         let Board { image, at, left } = &mut board;
         assert_eq!(zilpanud::run(image, at, 5, &mut tally, left), refused(no));
         assert_eq!(tally, Tally::default());
@@ -227,10 +168,7 @@ fn cause_10_image() {
 fn cause_10_of_a_formatting() {
     for (len, workers) in [(584, 0), (1322, 9), (665, 1), (667, 1), (666, 2), (0, 1)] {
         let mut image = vec![7; len];
-        let mut at = Cursors {
-            step: [1; 8],
-            turn: [2; 8],
-        };
+        let mut at = Cursors { step: [1; 8], turn: [2; 8] };
         let mut left = 3;
         let answer = zilpanud::format(&mut image, workers, &mut at, &mut left);
         assert_eq!(answer, refused(Cause::Image));
@@ -257,9 +195,7 @@ fn cause_11_cursor() {
 
 /// A turn and a run of this worker are refused with 11 and leave all as it was.
 fn halts(board: &mut Board, worker: usize) {
-    let no = Cause::Cursor {
-        worker: worker as u64,
-    };
+    let no = Cause::Cursor { worker: worker as u64 };
     let before = (board.image.clone(), board.at, board.left);
     assert_eq!(board.turn(worker), refused(no));
     let mut tally = Tally::default();
@@ -279,18 +215,11 @@ fn cause_11_in_a_run() {
     let Board { image, at, left } = &mut board;
     let answer = zilpanud::run(image, at, 9, &mut tally, left);
     assert_eq!(answer, refused(Cause::Cursor { worker: 1 }));
-    let one = Tally {
-        turns: 1,
-        waits: 0,
-        stores: 1,
-    };
+    let one = Tally { turns: 1, waits: 0, stores: 1 };
     assert_eq!((tally, at.turn[0]), (one, 1));
     // an idle worker 1 with the same record would have ended the run
     at.turn[1] = 255;
-    assert_eq!(
-        zilpanud::run(image, at, 18, &mut tally, left),
-        Ok(End::AllIdle)
-    );
+    assert_eq!(zilpanud::run(image, at, 18, &mut tally, left), Ok(End::AllIdle));
 }
 
 /// A recovery that is refused leaves the image and all workers idle.

@@ -49,18 +49,8 @@ pub struct Board {
 
 impl Board {
     pub fn formatted(workers: usize) -> Board {
-        let mut board = Board {
-            image: vec![7; image_len(workers)],
-            at: Cursors::IDLE,
-            left: ENOUGH,
-        };
-        zilpanud::format(
-            &mut board.image,
-            workers as u64,
-            &mut board.at,
-            &mut board.left,
-        )
-        .unwrap();
+        let mut board = Board { image: vec![7; image_len(workers)], at: Cursors::IDLE, left: ENOUGH };
+        zilpanud::format(&mut board.image, workers as u64, &mut board.at, &mut board.left).unwrap();
         board
     }
 
@@ -74,12 +64,7 @@ impl Board {
         board
     }
 
-    pub fn submit(
-        &mut self,
-        worker: usize,
-        number: u64,
-        section: &[u64],
-    ) -> Result<(), zilpanud::Refusal> {
+    pub fn submit(&mut self, worker: usize, number: u64, section: &[u64]) -> Result<(), zilpanud::Refusal> {
         let Board { image, at, left } = self;
         zilpanud::submit(image, at, worker, number, &[0; 8], section, left)
     }

@@ -1,2 +1,0 @@
-//! Whole moves in stores that others have built.
-pub fn table(_rounds: usize) {}
