@@ -49,7 +49,7 @@ fn owner(r: &mut Rng, image: &[u64]) -> Change {
         true => LOCKS + r.below(locks) as usize,
         false => r.pick(&taken),
     };
-    (index, if r.chance(50) { 0 } else { r.word() })
+    (index, if r.chance(70) { 0 } else { r.word() })
 }
 
 fn count_or_pc(r: &mut Rng, image: &[u64]) -> Change {
@@ -102,8 +102,9 @@ fn change(r: &mut Rng, image: &[u64], sort: usize) -> Change {
 }
 
 /// A damage that the image has room for, and its sort.
-pub fn drawn(r: &mut Rng, image: &[u64]) -> Option<(usize, Change)> {
+pub fn drawn(r: &mut Rng, image: &[u64], only_owners: bool) -> Option<(usize, Change)> {
     let sort = match r.below(16) {
+        _ if only_owners => 1,
         0 => 0,
         1..=3 => 1,
         4..=5 => 2,

@@ -53,6 +53,8 @@ struct Manner {
     /// Damaged words and odd cursors, in 100 calls.
     damages: u64,
     odd_cursors: u64,
+    /// Only owner words are damaged: the records stay sound, and two workers may come to be owed one lock.
+    only_owners: bool,
 }
 
 struct Play<'a> {
@@ -107,7 +109,7 @@ impl Play<'_> {
     /// Damage and odd cursors before a call.
     fn disturb(&mut self, manner: Manner) {
         while self.r.chance(manner.damages) {
-            if let Some((sort, (index, word))) = damage::drawn(&mut self.r, &self.mine) {
+            if let Some((sort, (index, word))) = damage::drawn(&mut self.r, &self.mine, manner.only_owners) {
                 self.mine[index] = word;
                 self.other[index] = word;
                 self.met.damages[sort] += 1;
@@ -168,9 +170,10 @@ impl Play<'_> {
 
 fn manner(r: &mut Rng) -> Manner {
     match r.below(10) {
-        0..=4 => Manner { damages: 0, odd_cursors: 0 },
-        5..=7 => Manner { damages: 6, odd_cursors: 2 },
-        _ => Manner { damages: 25, odd_cursors: 15 },
+        0..=4 => Manner { damages: 0, odd_cursors: 0, only_owners: false },
+        5..=6 => Manner { damages: 6, odd_cursors: 2, only_owners: false },
+        7 => Manner { damages: 40, odd_cursors: 0, only_owners: true },
+        _ => Manner { damages: 25, odd_cursors: 15, only_owners: false },
     }
 }
 
