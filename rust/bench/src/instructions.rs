@@ -29,7 +29,7 @@ fn each(name: &str, side: &str) -> Option<f64> {
 pub fn table() {
     println!("| work | unit | ours, instructions | twin, instructions | twin / ours |");
     println!("|---|---|---:|---:|---:|");
-    for row in rows::against_twin() {
+    for row in rows::all() {
         let name = &row.name;
         let (Some(ours), Some(twin)) = (each(name, "ours"), each(name, "twin")) else {
             println!("valgrind did not run: Debian has it as valgrind");

@@ -75,7 +75,7 @@ fn with_pmdk_settings() {
 }
 
 fn once(name: &str, side: &str, times: u64) {
-    let row = rows::against_twin().into_iter().find(|r| r.name == name);
+    let row = rows::all().into_iter().find(|r| r.name == name);
     let work = row.unwrap_or_else(|| usage()).work;
     let mut side = match side {
         "ours" => work.on::<Ours>(),

@@ -85,11 +85,11 @@ pub fn against_twin() -> Vec<Row> {
 pub fn by_size() -> Vec<Row> {
     let mut rows = vec![];
     for n in [1, 2, 4, 8] {
-        let name = format!("turn calls, image of {n} workers");
+        let name = format!("turn calls, workers of the image: {n}");
         rows.push(row(name, "turn", one_worker(n, sums(3, 64))));
     }
     for n in [1u16, 2, 4, 8] {
-        let name = format!("run, {n} workers, a lock each");
+        let name = format!("run, a lock each, workers: {n}");
         let sections = (0..n).map(|d| sums(d, 64)).collect();
         rows.push(row(name, "turn", run(n as u64, sections)));
     }
@@ -101,5 +101,11 @@ pub fn by_size() -> Vec<Row> {
         let name = format!("run, section of {steps} steps");
         rows.push(row(name, "turn", run(1, vec![sums(3, steps)])));
     }
+    rows
+}
+
+pub fn all() -> Vec<Row> {
+    let mut rows = against_twin();
+    rows.extend(by_size());
     rows
 }
