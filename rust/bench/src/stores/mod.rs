@@ -26,8 +26,10 @@ pub trait Store {
 }
 
 /// A file in memory, removed at the end with those that a store puts beside it.
+#[allow(dead_code)] // where no library was found there is no store to make one
 pub struct Shm(PathBuf);
 
+#[allow(dead_code)]
 impl Shm {
     pub fn new(name: &str) -> Shm {
         static FILES: AtomicUsize = AtomicUsize::new(0);
@@ -56,6 +58,7 @@ impl Drop for Shm {
 }
 
 /// The stores whose libraries were found when this program was built.
+#[allow(unused_mut)] // where none was found
 fn all() -> Vec<Box<dyn Store>> {
     let mut stores: Vec<Box<dyn Store>> = vec![];
     #[cfg(have_sqlite3)]
