@@ -45,12 +45,15 @@ pub enum Work {
     },
 }
 
+/// Does a work once more on its image; gives the units done.
+type Again = Box<dyn FnMut(&mut [u64]) -> u64>;
+
 /// A work on one engine: an image and what is done with it again and again.
 pub struct Side {
     pub image: Vec<u64>,
     /// How often the work was done.
     pub times: u64,
-    again: Box<dyn FnMut(&mut [u64]) -> u64>,
+    again: Again,
 }
 
 impl Side {
