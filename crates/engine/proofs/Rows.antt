@@ -1,6 +1,6 @@
--- Rows of stores: the values of a list at the places of a row (`assigns`), or in the words from an index up (`putFrom`). A
--- loop that makes them has the rest of the row before it: `row-step` and `words-step` say that one store takes one off,
--- `row-end` and `words-end` that nothing is left at the end.
+-- Rows of stores: the values of a list at the places of a row (`assigns`), or in the words from an index up (`putFrom`); where
+-- the places stand one after the other these are the same (`row-words`). A loop that makes them has the rest of the row before
+-- it: `words-step` says that one store takes one off, `words-end` that nothing is left at the end.
 use Prim.Native.Nat.{ℕ, suc, zero, _+_, _-_, _<_, _≤_}
 use mathlib.Core.Path.{_≡_, refl, ap}
 use mathlib.Core.Bool.{true}
@@ -33,16 +33,12 @@ drop-next ws i h = rw (add-one i) (drop-cons ws i 0 h)
 
 -- ---- at the places of a row
 
-module _ (n : ℕ) (f : ℕ → Place) (ws : List ℕ) where
-  -- a store of element i, at the index of place i
-  pub row-step : (i j v left left′ : ℕ) (m m′ : Image) → i < length ws → j ≡ indexOf n (f i) → v ≡ getD ws i 0 → m′ ≡ put left m j v → left′ ≡ left - 1
-      → putAll n left′ m′ (assigns f (i + 1) (drop (i + 1) ws)) ≡ putAll n left m (assigns f i (drop i ws))
-  unfolding putAll assigns
-  row-step i j v left left′ m m′ h at value stored spent = rw (stored, spent, at, value, drop-next ws i h)
-
-  pub row-end : (i left : ℕ) (m : Image) → length ws ≤ i → putAll n left m (assigns f i (drop i ws)) ≡ m
-  unfolding putAll assigns
-  row-end i left m h = rw (drop-of-length-le ws {i = i} h)
+-- a row whose places stand one after the other is its words from the first one's index up
+pub row-words : (n : ℕ) (f : ℕ → Place) → ((j : ℕ) → indexOf n (f (j + 1)) ≡ indexOf n (f j) + 1)
+    → (i left : ℕ) (m : Image) (ws : List ℕ) → putAll n left m (assigns f i ws) ≡ putFrom left m (indexOf n (f i)) ws
+unfolding putAll assigns putFrom
+row-words n f next i left m [] = refl
+row-words n f next i left m (w ∷ ws) = rw (← next i) (row-words n f next (i + 1) (left - 1) (put left m (indexOf n (f i)) w) ws)
 
 pub assigns-length : (f : ℕ → Place) (i : ℕ) (ws : List ℕ) → length (assigns f i ws) ≡ length ws
 unfolding assigns

@@ -1,10 +1,10 @@
 // Formatting an image.
+use crate::storing;
 ghost use mathlib.Core.Path.{_≡_};
 ghost use mathlib.Core.Bool.{true};
 ghost use Prim.Native.Nat.{_+_, _-_, _≤_};
-ghost use lib.ListN.{length, replicate};
 ghost use Rattle.image.specs.Image.{lengthOf};
-ghost use Rattle.engine.specs.Format.{putFrom, formattable, formatStores};
+ghost use Rattle.engine.specs.Format.{formattable, formatStores};
 
 // Whether an image of this length can hold so many workers.
 pub fn formattable(image: &[u64], workers: u64, own: usize) -> bool
@@ -20,19 +20,6 @@ pub fn formattable(image: &[u64], workers: u64, own: usize) -> bool
     image.len() == image::record_at(workers as usize, own)
 }
 
-// Stores 0 in k words from an index up.
-fn clear(image: &mut [u64], at: usize, k: usize, left: &mut u64)
-    requires { ⌜ at + k ≤ length (now image) ⌝ }
-    ensures image { λ r. ⌜ now (image .exit) ≡ putFrom (now (left .entry)) (now (image .entry)) at (replicate k 0) ⌝ }
-    ensures left { λ r. ⌜ now (left .exit) ≡ now (left .entry) - k ⌝ }
-{
-    let mut i: usize = 0;
-    while i < k {
-        image::store(image, at + i, 0, left);
-        i += 1;
-    }
-}
-
 // The stores of a formatting.
 pub fn store_all(image: &mut [u64], workers: u64, mark: u64, own: usize, left: &mut u64)
     requires { ⌜ (own ≤ 64) × (formattable own (now image) workers ≡ true) ⌝ }
@@ -42,6 +29,6 @@ pub fn store_all(image: &mut [u64], workers: u64, mark: u64, own: usize, left: &
     let n = image.len();
     image::store(image, 0, 0, left);
     image::store(image, 1, workers, left);
-    clear(image, 2, n - 2, left);
+    storing::clear(image, 2, n - 2, left);
     image::store(image, 0, mark, left);
 }

@@ -8,6 +8,7 @@ mod log;
 mod planning;
 mod running;
 mod steps;
+mod storing;
 mod submitting;
 mod turning;
 pub mod words;

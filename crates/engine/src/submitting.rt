@@ -2,6 +2,7 @@
 use crate::Cursors;
 use crate::Refusal;
 use crate::Submitted;
+use crate::storing;
 use crate::working;
 use image::Field;
 ghost use mathlib.Core.Path.{_≡_};
@@ -12,45 +13,6 @@ ghost use Rattle.image.specs.Image.{putAll, Inside};
 ghost use Rattle.section.specs.Check.{codeOf, check};
 ghost use Rattle.engine.specs.World.{world};
 ghost use Rattle.engine.specs.Submit.{assigns, submission, verdictAnswer, free, submitAnswer, isTaken};
-
-// Stores the words of a list in worker d's own words.
-fn store_own(image: &mut [u64], d: usize, n: usize, words: &[u64], left: &mut u64)
-    requires { ⌜ (d < 8) × (n ≤ 64) × (length (now words) ≤ n) ⌝ }
-    ensures image { λ r. ⌜ now (image .exit) ≡ putAll n (now (left .entry)) (now (image .entry)) (assigns (own d) 0 (now (words .entry))) ⌝ }
-    ensures left { λ r. ⌜ now (left .exit) ≡ now (left .entry) - length (now (words .entry)) ⌝ }
-{
-    let mut i: usize = 0;
-    while i < words.len() {
-        image::store(image, image::own_index(d, i, n), words[i], left);
-        i += 1;
-    }
-}
-
-// Stores 0 in worker d's own words from one on.
-fn clear_own(image: &mut [u64], d: usize, from: usize, n: usize, left: &mut u64)
-    requires { ⌜ (d < 8) × (n ≤ 64) × (from ≤ n) ⌝ }
-    ensures image { λ r. ⌜ now (image .exit) ≡ putAll n (now (left .entry)) (now (image .entry)) (assigns (own d) from (replicate (n - from) 0)) ⌝ }
-    ensures left { λ r. ⌜ now (left .exit) ≡ now (left .entry) - (n - from) ⌝ }
-{
-    let mut i = from;
-    while i < n {
-        image::store(image, image::own_index(d, i, n), 0, left);
-        i += 1;
-    }
-}
-
-// Stores the instructions of a section in worker d's record.
-fn store_steps(image: &mut [u64], d: usize, own: usize, words: &[u64], left: &mut u64)
-    requires { ⌜ (d < 8) × (own ≤ 64) × (length (now words) ≤ 64) ⌝ }
-    ensures image { λ r. ⌜ now (image .exit) ≡ putAll own (now (left .entry)) (now (image .entry)) (assigns (step d) 0 (now (words .entry))) ⌝ }
-    ensures left { λ r. ⌜ now (left .exit) ≡ now (left .entry) - length (now (words .entry)) ⌝ }
-{
-    let mut i: usize = 0;
-    while i < words.len() {
-        image::store(image, image::step_index(d, i, own), words[i], left);
-        i += 1;
-    }
-}
 
 // The stores of a section that is taken.
 pub fn store_section(
@@ -67,9 +29,10 @@ pub fn store_section(
     ensures left { λ r. ⌜ now (left .exit) ≡ now (left .entry) - length (submission n d number (now (args .entry)) (now (words .entry))) ⌝ }
 {
     image::store(image, image::field_index(Field::Number, d, n), number, left);
-    store_own(image, d, n, args, left);
-    clear_own(image, d, 8, n, left);
-    store_steps(image, d, n, words, left);
+    let own = image::own_index(d, 0, n);
+    storing::store_words(image, own, args, left);
+    storing::clear(image, own + 8, n - 8, left);
+    storing::store_words(image, image::step_index(d, 0, n), words, left);
     image::store(
         image,
         image::field_index(Field::Count, d, n),

@@ -1,0 +1,184 @@
+#!/usr/bin/env python3
+"""Writes the days of data/ that are not among the given vectors: data/our-*.frames.
+
+Words are document 01's: a ticket's steps are kind, a, b, c in sixteen bits each; a frame line is lower-case hexadecimal.
+"""
+from pathlib import Path
+
+DATA = Path(__file__).parent / "data"
+
+
+def step(kind, a=0, b=0, c=0):
+    return f"{kind:04x}{a:04x}{b:04x}{c:04x}"
+
+
+def take(bay):
+    return step(1, bay)
+
+
+def drop(bay):
+    return step(2, bay)
+
+
+def put(word, value):
+    return step(3, word, value >> 16, value & 0xFFFF)
+
+
+def add(word, b, c):
+    return step(4, word, b, c)
+
+
+def skip(word, to):
+    return step(7, word, to)
+
+
+END = step(8)
+
+
+def hand_in(desk, number, steps, args=(0,) * 8):
+    return f"01{desk:02x}{number:016x}" + "".join(f"{a:016x}" for a in args) + "".join(steps)
+
+
+def turns(desk, n):
+    return f"02{desk:02x}{n:04x}"
+
+
+CUT = "03"
+TICKET = [take(3), put(24, 5), drop(3), END]
+
+
+def write(name, lines, last=b"\n"):
+    text = b"\n".join(l if isinstance(l, bytes) else l.encode() for l in lines)
+    (DATA / f"our-{name}.frames").write_bytes(text + last)
+
+
+def refusals():
+    """Each cause of a hand-in or a turn, and a good ticket after it: the board goes on."""
+    good = [hand_in(0, 9, TICKET), turns(0, 19)]
+    long = [take(3)] + [put(24, i) for i in range(62)]
+    rows = {
+        "1-desk": [hand_in(2, 1, TICKET), turns(2, 3), turns(255, 1)],
+        "2-busy": [hand_in(0, 1, TICKET), hand_in(0, 2, TICKET), turns(0, 5), hand_in(0, 3, TICKET), turns(0, 14)],
+        "3-number": [hand_in(0, 0, TICKET), hand_in(0, 5, TICKET), turns(0, 19), hand_in(0, 5, TICKET), hand_in(0, 4, TICKET)],
+        "4-none": [hand_in(0, 1, [])],
+        "4-two": [hand_in(0, 1, [take(3), END])],
+        "4-sixty-five": [hand_in(0, 1, long + [drop(3), END])],
+        "order": [hand_in(2, 1, []), hand_in(0, 0, [])],
+        "5-kind-0": [hand_in(0, 1, [take(3), step(0), drop(3), END])],
+        "5-kind-9": [hand_in(0, 1, [take(3), step(9), drop(3), END])],
+        "5-bay-64": [hand_in(0, 1, [take(64), drop(64), END])],
+        "5-word-520": [hand_in(0, 1, [take(3), put(520, 1), drop(3), END])],
+        "5-take-with-b": [hand_in(0, 1, [step(1, 3, 1), drop(3), END])],
+        "5-skip-back": [hand_in(0, 1, [take(3), skip(512, 1), drop(3), END])],
+        "5-skip-outside": [hand_in(0, 1, [take(3), skip(512, 4), drop(3), END])],
+        "5-end-inside": [hand_in(0, 1, [take(3), END, drop(3), END])],
+        "5-no-end": [hand_in(0, 1, [take(3), put(24, 5), drop(3)])],
+        "6-no-take": [hand_in(0, 1, [put(512, 1), take(3), drop(3), END])],
+        "6-nothing-held": [hand_in(0, 1, [take(3), drop(3), take(4), drop(4), END])],
+        "6-held-at-end": [hand_in(0, 1, [take(3), put(24, 5), END])],
+        "7-take-twice": [hand_in(0, 1, [take(3), take(3), drop(3), END])],
+        "7-take-below": [hand_in(0, 1, [take(3), take(2), drop(2), drop(3), END])],
+        "7-drop-not-held": [hand_in(0, 1, [take(3), drop(4), drop(3), END])],
+        "8-target": [hand_in(0, 1, [take(3), put(32, 5), drop(3), END])],
+        "8-operand": [hand_in(0, 1, [take(3), add(24, 23, 512), drop(3), END])],
+        "8-skip": [hand_in(0, 1, [take(3), skip(0, 2), drop(3), END])],
+        "9-skip-to-end": [hand_in(0, 1, [take(3), skip(512, 3), drop(3), END])],
+        "9-skip-over-take": [hand_in(0, 1, [take(3), skip(512, 3), take(4), drop(4), drop(3), END])],
+        "5-before-6": [hand_in(0, 1, [put(512, 1), step(9), END])],
+    }
+    for name, lines in rows.items():
+        write(f"cause-{name}", ["02"] + lines + good)
+    write("sixty-four-steps", ["01", hand_in(0, 1, [take(3)] + [put(24, i) for i in range(61)] + [drop(3), END]), turns(0, 300)])
+
+
+def malformed():
+    """Each sort of malformed line, after lines that print and before one that would."""
+    line = hand_in(0, 2, TICKET)
+    rows = {
+        "upper-case": "02000A05",
+        "upper-case-in-steps": line[:-1] + "F",
+        "blank": "02 00005",
+        "blank-behind": "02000005 ",
+        "carriage-return": "02000005\r",
+        "tab": "\t2000005",
+        "byte-0": b"02000\x0005",
+        "byte-128": b"0200\x800005"[:8],
+        "byte-255": b"\xff",
+        "slash": "0200000/",
+        "colon": "0200000:",
+        "backquote": "0200000`",
+        "letter-g": "0200000g",
+        "empty-line": "",
+        "one-digit": "0",
+        "kind-00": "00",
+        "kind-04": "040005",
+        "kind-10": "10000005",
+        "kind-ff": "ff",
+        "turns-7": "0200001",
+        "turns-9": "020000010",
+        "turns-2": "02",
+        "cut-3": "030",
+        "cut-4": "0300",
+        "hand-in-2": "01",
+        "hand-in-147": line[:147],
+        "steps-part-1": line[:149],
+        "steps-part-15": line[:163],
+        "steps-part-17": line[:165],
+        "steps-part-8": line[:156],
+        "digits-4096": hand_in(0, 2, [END] * 247)[:4096],
+        "digits-4097": hand_in(0, 2, [END] * 247)[:4097],
+        "digits-4100": hand_in(0, 2, [END] * 247),
+        "digits-9000": "0" * 9000,
+    }
+    for name, bad in rows.items():
+        write(f"malformed-{name}", ["01", hand_in(0, 1, TICKET), turns(0, 3), bad, turns(0, 3)])
+    write("malformed-at-the-end", ["01", hand_in(0, 1, TICKET), turns(0, 3), "0x"], last=b"")
+    write("digits-4084", ["02", hand_in(0, 1, [END] * 246), hand_in(2, 1, [END] * 246), turns(0, 1), CUT])
+
+
+def first_lines():
+    for d in list(range(11)) + [0x10, 0x80, 0xFF]:
+        write(f"first-{d:02x}", [f"{d:02x}", hand_in(0, 1, TICKET), turns(0, 2), CUT])
+    for name, bad in {"upper-case": "0A", "one-digit": "1", "three-digits": "001", "empty": "", "blank": " 1", "letter": "0g", "frame": CUT + "00"}.items():
+        write(f"first-{name}", [bad, hand_in(0, 1, TICKET), turns(0, 2)])
+    write("first-alone", ["08"])
+    write("first-alone-no-line-end", ["08"], last=b"")
+    write("first-half-no-line-end", ["0"], last=b"")
+    (DATA / "our-nothing.frames").write_bytes(b"")
+    (DATA / "our-line-end-alone.frames").write_bytes(b"\n")
+    (DATA / "our-two-line-ends.frames").write_bytes(b"01\n\n")
+
+
+def waits():
+    a = hand_in(0, 1, TICKET)
+    b = hand_in(1, 7, [take(3), add(24, 24, 512), drop(3), END], args=(2, 0, 0, 0, 0, 0, 0, 0))
+    write("wait", ["02", a, b, turns(0, 3), turns(1, 0xFFFF), turns(0, 19), turns(1, 0xFFFF), turns(0, 1)])
+    write("wait-across-a-cut", ["02", a, b, turns(0, 6), turns(1, 9), CUT, turns(1, 9), turns(0, 50), turns(1, 50), CUT])
+    write("no-turns", ["01", a, turns(0, 0), turns(9, 0), turns(0, 1), CUT, CUT, turns(0, 0)])
+    write("idle-turns", ["01", turns(0, 0xFFFF), a, turns(0, 0xFFFF), turns(0, 5), CUT, turns(0, 3)])
+    write("no-last-line-end", ["01", a, turns(0, 5), CUT], last=b"")
+    write("turns-no-last-line-end", ["01", a, turns(0, 5)], last=b"")
+    eight = ["08"] + [hand_in(d, 1, [take(d), take(8), add(64, 64, 512), drop(8), drop(d), END], args=(d + 1,) + (0,) * 7) for d in range(8)]
+    rounds = [turns(d, 3) for _ in range(40) for d in range(8)]
+    write("eight-desks", eight + rounds)
+    write("eight-desks-cut", eight + rounds[:77] + [CUT] + rounds[:50] + [CUT, CUT] + rounds * 2)
+
+
+def two_desks():
+    """Two desks at one bay, a turn each in turn, cut after n turns of each, and then to the end."""
+    a = hand_in(0, 3, [take(3), add(24, 24, 512), drop(3), END], args=(5,) + (0,) * 7)
+    b = hand_in(1, 4, [take(2), take(3), add(24, 24, 513), skip(24, 5), put(16, 9), drop(3), drop(2), END], args=(0, 70) + (0,) * 6)
+    for n in range(42):
+        lines = ["02", a, b] + [turns(d, 1) for _ in range(n) for d in (0, 1)] + [CUT]
+        lines += [turns(d, 5) for _ in range(14) for d in (0, 1)]
+        write(f"two-desks-cut-{n:02d}", lines + [CUT])
+
+
+if __name__ == "__main__":
+    for old in DATA.glob("our-*"):
+        old.unlink()
+    refusals()
+    malformed()
+    first_lines()
+    waits()
+    two_desks()

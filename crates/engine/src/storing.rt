@@ -1,0 +1,31 @@
+// Rows of stores: words from an index up.
+ghost use mathlib.Core.Path.{_≡_};
+ghost use Prim.Native.Nat.{_+_, _-_, _<_, _^_};
+ghost use lib.ListN.{length, replicate};
+ghost use Rattle.engine.specs.Format.{putFrom};
+
+// Stores the words of a list from an index up.
+pub fn store_words(image: &mut [u64], at: usize, words: &[u64], left: &mut u64)
+    requires { ⌜ at + length (now words) < 2 ^ 64 ⌝ }
+    ensures image { λ r. ⌜ now (image .exit) ≡ putFrom (now (left .entry)) (now (image .entry)) at (now (words .entry)) ⌝ }
+    ensures left { λ r. ⌜ now (left .exit) ≡ now (left .entry) - length (now (words .entry)) ⌝ }
+{
+    let mut i: usize = 0;
+    while i < words.len() {
+        image::store(image, at + i, words[i], left);
+        i += 1;
+    }
+}
+
+// Stores 0 in k words from an index up.
+pub fn clear(image: &mut [u64], at: usize, k: usize, left: &mut u64)
+    requires { ⌜ at + k < 2 ^ 64 ⌝ }
+    ensures image { λ r. ⌜ now (image .exit) ≡ putFrom (now (left .entry)) (now (image .entry)) at (replicate k 0) ⌝ }
+    ensures left { λ r. ⌜ now (left .exit) ≡ now (left .entry) - k ⌝ }
+{
+    let mut i: usize = 0;
+    while i < k {
+        image::store(image, at + i, 0, left);
+        i += 1;
+    }
+}
