@@ -1,11 +1,11 @@
--- What the decoding functions ask: a number that is none of the eight kinds says no instruction, and a kind's row stands
--- at the kind less one.
-use Prim.Native.Nat.{ℕ, zero, suc, _-_, _≤_}
+-- What the decoding functions ask: a number that is none of the eight kinds says no instruction, a known kind is one of
+-- the eight, and the largest value of a field by its entry.
+use Prim.Native.Nat.{ℕ, zero, suc, _+_, _≤_}
 use mathlib.Core.Path.{_≡_, refl}
-use mathlib.Core.List.{[]}
-use lib.ListN.{getD}
+use mathlib.Core.Bool.{cond}
+use lib.Dec.{eqb}
 use native.Mathlib.Omega.{arith}
-use Rattle.section.specs.Table.{table, entry}
+use Rattle.section.specs.Table.{entry, highest}
 use Rattle.section.specs.declared.Op.the-variants.{Unknown}
 use Rattle.section.specs.Op.{byKind}
 
@@ -21,8 +21,20 @@ no-kind (suc (suc (suc (suc (suc (suc (suc zero))))))) a b c n1 n2 n3 n4 n5 n6 n
 no-kind (suc (suc (suc (suc (suc (suc (suc (suc zero)))))))) a b c n1 n2 n3 n4 n5 n6 n7 n8 = absurd (n8 refl)
 no-kind (suc (suc (suc (suc (suc (suc (suc (suc (suc k))))))))) a b c n1 n2 n3 n4 n5 n6 n7 n8 = refl
 
--- the row of a kind, by the kind less one
-pub entry-row : (k j : ℕ) → 1 ≤ k → entry k j ≡ getD (getD table (k - 1) []) j 0
-unfolding entry
-entry-row zero j h = absurd (omega arith)
-entry-row (suc k) j h = let e : suc k - 1 ≡ k = omega arith in rw e
+-- a known kind that is none of the first seven is the eighth
+pub last-kind : (k : ℕ) → 1 ≤ k → k ≤ 8 → (k ≡ 1 → ⊥) → (k ≡ 2 → ⊥) → (k ≡ 3 → ⊥) → (k ≡ 4 → ⊥) → (k ≡ 5 → ⊥) → (k ≡ 6 → ⊥) → (k ≡ 7 → ⊥) → k ≡ 8
+last-kind zero l u n1 n2 n3 n4 n5 n6 n7 = absurd (omega arith)
+last-kind (suc zero) l u n1 n2 n3 n4 n5 n6 n7 = absurd (n1 refl)
+last-kind (suc (suc zero)) l u n1 n2 n3 n4 n5 n6 n7 = absurd (n2 refl)
+last-kind (suc (suc (suc zero))) l u n1 n2 n3 n4 n5 n6 n7 = absurd (n3 refl)
+last-kind (suc (suc (suc (suc zero)))) l u n1 n2 n3 n4 n5 n6 n7 = absurd (n4 refl)
+last-kind (suc (suc (suc (suc (suc zero))))) l u n1 n2 n3 n4 n5 n6 n7 = absurd (n5 refl)
+last-kind (suc (suc (suc (suc (suc (suc zero)))))) l u n1 n2 n3 n4 n5 n6 n7 = absurd (n6 refl)
+last-kind (suc (suc (suc (suc (suc (suc (suc zero))))))) l u n1 n2 n3 n4 n5 n6 n7 = absurd (n7 refl)
+last-kind (suc (suc (suc (suc (suc (suc (suc (suc zero)))))))) l u n1 n2 n3 n4 n5 n6 n7 = refl
+last-kind (suc (suc (suc (suc (suc (suc (suc (suc (suc k))))))))) l u n1 n2 n3 n4 n5 n6 n7 = absurd (omega arith)
+
+-- the largest value of a field, by its entry
+pub highest-entry : (own k j e : ℕ) → e ≡ entry k j → highest own k j ≡ cond (eqb e 511) (511 + own) e
+unfolding highest
+highest-entry own k j e h = rw h

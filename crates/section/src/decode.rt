@@ -1,8 +1,10 @@
 // Decoding: the fixed table of the kinds, the fields of an instruction word, the instruction that it says, and cause 5.
 ghost use mathlib.Core.Path.{_≡_};
-ghost use Prim.Native.Nat.{_<_, _≤_};
-ghost use mathlib.Core.Bool.{true};
-ghost use Rattle.section.specs.Table.{entry, highest, turnsOf, kindOf, fieldA, fieldB, fieldC};
+ghost use Prim.Native.Nat.{ℕ, _+_, _<_, _≤_};
+ghost use mathlib.Core.Bool.{true, cond};
+ghost use lib.ListN.{getD};
+ghost use lib.Dec.{eqb};
+ghost use Rattle.section.specs.Table.{entry, turnsOf, kindOf, fieldA, fieldB, fieldC};
 ghost use Rattle.section.specs.Op.{byKind, opOf};
 ghost use Rattle.section.specs.Check.{inRange, inPlace, wellFormed, lockOk, heldAfter};
 use super::Expr;
@@ -21,12 +23,21 @@ const TABLE: [[u64; 4]; 8] = [
     [0, 0, 0, 3],
 ];
 
-// Entry j of the row of a kind.
-pub fn entry(kind: u64, j: usize) -> u64
-    requires { ⌜ (1 ≤ kind) × (kind ≤ 8) × (j < 4) ⌝ }
-    ensures { λ r. ⌜ r ≡ entry kind j ⌝ }
+// The row of a kind. Every index is constant, so that a look-up is a load of a constant.
+fn row(kind: u64) -> [u64; 4]
+    requires { ⌜ (1 ≤ kind) × (kind ≤ 8) ⌝ }
+    ensures { λ r. ⌜ ((j : ℕ) → getD r j 0 ≡ entry kind j) ⌝ }
 {
-    TABLE[kind as usize - 1][j]
+    match kind {
+        1 => TABLE[0],
+        2 => TABLE[1],
+        3 => TABLE[2],
+        4 => TABLE[3],
+        5 => TABLE[4],
+        6 => TABLE[5],
+        7 => TABLE[6],
+        _ => TABLE[7],
+    }
 }
 
 // The turns of an instruction word of a known kind.
@@ -34,15 +45,14 @@ pub fn turns(w: u64) -> u64
     requires { ⌜ (1 ≤ kindOf w) × (kindOf w ≤ 8) ⌝ }
     ensures { λ r. ⌜ r ≡ turnsOf w ⌝ }
 {
-    entry(kind_of(w), 3)
+    let r = row(kind_of(w));
+    r[3]
 }
 
-// The largest value of field j of a kind.
-fn highest(kind: u64, j: usize, own: u16) -> u64
-    requires { ⌜ (1 ≤ kind) × (kind ≤ 8) × (j < 4) ⌝ }
-    ensures { λ r. ⌜ r ≡ highest own kind j ⌝ }
+// The largest value of a field whose entry is e.
+fn highest(e: u64, own: u16) -> u64
+    ensures { λ r. ⌜ r ≡ cond (eqb e 511) (511 + own) e ⌝ }
 {
-    let e = entry(kind, j);
     if e == 511 { 511 + own as u64 } else { e }
 }
 
@@ -105,13 +115,14 @@ fn in_range(w: u64, own: u16) -> bool
     if 8 < k {
         return false;
     }
-    if highest(k, 0, own) < field_a(w) {
+    let r = row(k);
+    if highest(r[0], own) < field_a(w) {
         return false;
     }
-    if highest(k, 1, own) < field_b(w) {
+    if highest(r[1], own) < field_b(w) {
         return false;
     }
-    field_c(w) <= highest(k, 2, own)
+    field_c(w) <= highest(r[2], own)
 }
 
 // Whether step i of n is a position that the instruction may have.

@@ -1,4 +1,5 @@
--- `section::decode::turns` meets its contract: the table's last column.
+-- `section::decode::turns` meets its contract: the last entry of the row.
+use mathlib.Core.Path.{_∙_}
 use borrow.Author.Needs.{needs}
 use Rattle.section.proofs.decode.turns.Statement.{statement}
 use Rattle.section.proofs.decode.turns.Tie as tie
@@ -6,11 +7,14 @@ use Rattle.section.proofs.decode.turns.Tie as tie
 kind-of-requires : tie.Need-kind-of-requires
 kind-of-requires c κs = search needs
 
-entry-requires : tie.Need-entry-requires
-entry-requires c κs = search needs
+row-requires : tie.Need-row-requires
+row-requires c κs = search needs
+
+array-read-result : tie.Need-array-read-result
+array-read-result c = search needs
 
 returns : tie.Need-returns
-returns c = cc
+returns c = rw (← c .before .kind-of .ensures) (c .row .ensures 3)
 
 pub turns-spec : {M : Type 1} → statement M
-turns-spec = tie.close (tie.spec kind-of-requires entry-requires returns)
+turns-spec = tie.close (tie.spec kind-of-requires row-requires array-read-result returns)
