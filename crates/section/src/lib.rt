@@ -78,36 +78,24 @@ fn uses(words: &[u64], held: &[u64]) -> Verdict
     Verdict::Pass
 }
 
-// What one pass over the steps finds: the first that fails cause 5, or the held set before each of them.
-struct Sets {
-    verdict: Verdict,
-    held: [u64; 64],
-}
-
-fn held_sets(words: &[u64], own: u16) -> Sets
-    requires { ⌜ length (now words) ≤ 64 ⌝ }
-    ensures { λ r. ⌜ Passed own (now (words .entry)) (r .verdict) (r .held) ⌝ }
+// One pass over the steps: the first that fails cause 5; with none, the held set before each step is left in `held`.
+fn held_sets(words: &[u64], own: u16, held: &mut [u64]) -> Verdict
+    requires { ⌜ length (now words) ≤ length (now held) ⌝ }
+    ensures { λ r. ⌜ Passed own (now (words .entry)) r (now (held .exit)) ⌝ }
 {
     let n = words.len();
-    let mut held = [0u64; 64];
     let mut h: u64 = 0;
     let mut i: usize = 0;
     while i < n {
         let w = words[i];
         if !well_formed(w, i, n, own) {
-            return Sets {
-                verdict: Verdict::Malformed(i),
-                held: held,
-            };
+            return Verdict::Malformed(i);
         }
         held[i] = h;
         h = held_after(h, op_of(w));
         i += 1;
     }
-    Sets {
-        verdict: Verdict::Pass,
-        held: held,
-    }
+    Verdict::Pass
 }
 
 // The check of a section: it passes, or the first of causes 4 to 9.
@@ -121,9 +109,8 @@ pub fn check(words: &[u64], own: u16) -> Verdict
     if 64 < n {
         return Verdict::Length;
     }
-    let s = held_sets(words, own);
-    let v = s.verdict;
-    let held = s.held;
+    let mut held = [0u64; 64];
+    let v = held_sets(words, own, &mut held);
     if !passes(v) {
         return v;
     }

@@ -1,5 +1,5 @@
 -- `section::held_sets` meets its contract. The loop's invariant, with i steps passed: h is the held set before step i, the
--- array has the held set before each step below i, and the first refusal from i on is that of the whole section.
+-- slice has the held set before each step below i, and the first refusal from i on is that of the whole section.
 use Prim.Native.Nat.{ℕ, _-_, _≤_, _<_}
 use borrow.Author.Needs.{needs}
 use mathlib.Core.Path.{_≡_, refl, sym, ap, _∙_}
@@ -17,19 +17,19 @@ use Rattle.section.proofs.held_sets.Statement.{statement}
 use Rattle.section.proofs.held_sets.Tie as tie
 
 abbrev Inv-loop : tie.InvT-loop
-Inv-loop words own n held₀ h₀ i₀ held h i =
+Inv-loop words own held₀ n h₀ i₀ held h i =
     (i ≤ n)
-    × (length held ≡ 64)
+    × (length held ≡ length held₀)
     × (h ≡ heldBefore (codeOf words) i)
     × (firstOf (formOf own n (codeOf words)) i (n - i) ≡ firstOf (formOf own n (codeOf words)) 0 n)
     × ((j : ℕ) → j < i → getD held j 0 ≡ heldBefore (codeOf words) j)
 
 abbrev μ-loop : tie.MeasureT-loop
-μ-loop words own n held₀ h₀ i₀ held h i = n - i
+μ-loop words own held₀ n h₀ i₀ held h i = n - i
 
 loop-holds : tie.Need-loop-holds Inv-loop μ-loop
 unfolding heldBefore
-loop-holds c = (omega arith, refl, refl, rw (left-all (length (now (c .before .args .words)))), λ j l. absurd (omega arith))
+loop-holds c = (omega arith, refl, refl, rw (left-all (length (now (c .before .before .args .words)))), λ j l. absurd (omega arith))
 
 mul-w : tie.Need-mul-w Inv-loop μ-loop
 mul-w c = search needs
@@ -40,10 +40,13 @@ shared-slice-read-w c = search needs
 well-formed-requires : tie.Need-well-formed-requires Inv-loop μ-loop
 well-formed-requires c κs = search needs
 
+same-length : tie.Need-same-length Inv-loop μ-loop
+same-length c = c .before .before .before .before .loop .inv .1
+
 returns : tie.Need-returns Inv-loop μ-loop
 returns c =
     let L = c .before .before .before .before .loop in
-    let S = c .before .before .before .before .before .before in
+    let S = c .before .before .before .before .before .before .before in
     let w = now (S .args .words) in
     let f = form-fails (S .args .own) (length w) (codeOf w) (L .i) (denied (c .before .well-formed .ensures) (c .if1 .taken)) in
     let e = first-stops (formOf (S .args .own) (length w) (codeOf w)) (length w) (L .i) (c .before .before .before .loop-test .taken) (ap passes f) in
@@ -52,8 +55,8 @@ returns c =
 mul-held : tie.Need-mul-held Inv-loop μ-loop
 mul-held c = search needs
 
-array-write-held : tie.Need-array-write-held Inv-loop μ-loop
-array-write-held c = omega arith
+slice-write-held : tie.Need-slice-write-held Inv-loop μ-loop
+slice-write-held c = omega arith
 
 op-of-requires : tie.Need-op-of-requires Inv-loop μ-loop
 op-of-requires c κs = search needs
@@ -62,7 +65,7 @@ held-after-requires : tie.Need-held-after-requires Inv-loop μ-loop
 held-after-requires c κs =
     let k = c .before .before in
     let L = k .before .before .before .loop in
-    let S = k .before .before .before .before .before in
+    let S = k .before .before .before .before .before .before in
     rw (c .op-of .ensures) (formed-lock (S .args .own) _ (L .i) _ (granted (k .well-formed .ensures) (c .before .if1 .left)))
 
 add-i : tie.Need-add-i Inv-loop μ-loop
@@ -75,7 +78,7 @@ loop-again : tie.Need-loop-again Inv-loop μ-loop
 loop-again c =
     let k = c .before .before .before in
     let L = k .before .before .before .loop in
-    let S = k .before .before .before .before .before in
+    let S = k .before .before .before .before .before .before in
     let w = now (S .args .words) in
     let t = k .before .before .loop-test .taken in
     let f = pass-form (S .args .own) (length w) (codeOf w) (L .i) (granted (k .well-formed .ensures) (c .before .before .if1 .left)) in
@@ -87,10 +90,13 @@ loop-again c =
       filled-next (L .held) (L .i) (L .h) (heldBefore (codeOf w)) b (L .inv .4) (L .inv .2),
     )
 
+same-length-2 : tie.Need-same-length-2 Inv-loop μ-loop
+same-length-2 c = c .before .loop .inv .1
+
 returns-2 : tie.Need-returns-2 Inv-loop μ-loop
 returns-2 c =
     let L = c .before .loop in
-    let e : L .i ≡ length (now (c .before .before .before .args .words)) = omega arith in
+    let e : L .i ≡ length (now (c .before .before .before .before .args .words)) = omega arith in
     record { first = sym (first-none _ (L .i) _ (c .loop-test .left)) ∙ L .inv .3; sets = λ p j l. L .inv .4 j (rw e l) }
 
 pub held-sets-spec : {M : Type 1} → statement M
@@ -103,12 +109,14 @@ held-sets-spec =
     mul-w
     shared-slice-read-w
     well-formed-requires
+    same-length
     returns
     mul-held
-    array-write-held
+    slice-write-held
     op-of-requires
     held-after-requires
     add-i
     loop-less
     loop-again
+    same-length-2
     returns-2)
