@@ -42,6 +42,13 @@ private-tests p q r s t e =
     let (ep, eq) = and-eq-true-iff p q .0 b in
     (ep, eq, er, es, et)
 
+-- the kind of a word in its ranges is one of the eight
+pub range-kind : (own w : ℕ) → inRange own w ≡ true → (1 ≤ kindOf w) × (kindOf w ≤ 8)
+unfolding inRange
+range-kind own w e =
+    let t = private-tests (leb 1 (kindOf w)) (leb (kindOf w) 8) (leb (fieldA w) (highest own (kindOf w) 0)) (leb (fieldB w) (highest own (kindOf w) 1)) (leb (fieldC w) (highest own (kindOf w) 2)) e in
+    (leb-true _ _ (t .0), leb-true _ _ (t .1))
+
 -- a word in its ranges says an instruction in its ranges
 pub in-range : (own w : ℕ) → inRange own w ≡ true → fits own (opOf w)
 unfolding inRange opOf

@@ -125,24 +125,23 @@ fn in_range(w: u64, own: u16) -> bool
     field_c(w) <= highest(r[2], own)
 }
 
-// Whether step i of n is a position that the instruction may have.
-fn in_place(x: Op, i: usize, n: usize) -> bool
-    requires { ⌜ i < n ⌝ }
-    ensures { λ r. ⌜ r ≡ inPlace n i x ⌝ }
+// Whether step i of n is a position that the instruction of a word of a known kind may have.
+fn in_place(w: u64, i: usize, n: usize) -> bool
+    requires { ⌜ (1 ≤ kindOf w) × (kindOf w ≤ 8) × (i < n) ⌝ }
+    ensures { λ r. ⌜ r ≡ inPlace n i (opOf w) ⌝ }
 {
-    match x {
-        Op::Acquire(_) => i + 1 < n,
-        Op::Release(_) => i + 1 < n,
-        Op::Assign(_, _) => i + 1 < n,
-        Op::Jump(_, b) => {
-            if b <= i as u64 {
-                return false;
-            }
-            b < n as u64
-        }
-        Op::Finish => i + 1 == n,
-        Op::Unknown => false,
+    let k = kind_of(w);
+    if k == 8 {
+        return i + 1 == n;
     }
+    if k == 7 {
+        let b = field_b(w);
+        if b <= i as u64 {
+            return false;
+        }
+        return b < n as u64;
+    }
+    i + 1 < n
 }
 
 // Whether step i of n does not fail cause 5.
@@ -153,7 +152,7 @@ pub fn well_formed(w: u64, i: usize, n: usize, own: u16) -> bool
     if !in_range(w, own) {
         return false;
     }
-    in_place(op_of(w), i, n)
+    in_place(w, i, n)
 }
 
 // The held set after an instruction whose lock, if it has one, is in its range.

@@ -1,78 +1,51 @@
--- `section::decode::in_place` meets its contract: each arm is the definition's case.
+-- `section::decode::in_place` meets its contract: the definition's case of the kind.
 use borrow.Author.Tests.{lt-ltb, le-ltb}
+use mathlib.Core.Path.{sym, _∙_}
+use Rattle.section.proofs.Decoding.{place-finish, place-jumps, place-inner}
 use borrow.Author.Needs.{needs}
 use Rattle.section.proofs.decode.in_place.Statement.{statement}
 use Rattle.section.proofs.decode.in_place.Tie as tie
 
-enum-told : tie.Need-enum-told
-enum-told c = search needs
+kind-of-requires : tie.Need-kind-of-requires
+kind-of-requires c κs = search needs
 
 add-result : tie.Need-add-result
 add-result c = search needs
 
-enum-told-2 : tie.Need-enum-told-2
-enum-told-2 c = search needs
+returns : tie.Need-returns
+returns c = sym (place-finish _ _ _ (sym (c .before .kind-of .ensures) ∙ c .if1 .taken))
+
+field-b-requires : tie.Need-field-b-requires
+field-b-requires c κs = search needs
+
+returns-2 : tie.Need-returns-2
+returns-2 c =
+    let k = c .before .before in
+    rw (place-jumps _ _ _ (sym (k .before .before .kind-of .ensures) ∙ k .if2 .taken), ← c .before .field-b .ensures) (simp (le-ltb _ _ (c .if3 .taken)))
+
+returns-3 : tie.Need-returns-3
+returns-3 c =
+    let k = c .before .before in
+    rw (place-jumps _ _ _ (sym (k .before .before .kind-of .ensures) ∙ k .if2 .taken), ← c .before .field-b .ensures) (simp (lt-ltb _ _ (c .if3 .left)))
 
 add-result-2 : tie.Need-add-result-2
 add-result-2 c = search needs
 
-enum-told-3 : tie.Need-enum-told-3
-enum-told-3 c = search needs
-
-add-result-3 : tie.Need-add-result-3
-add-result-3 c = search needs
-
-enum-known-x : tie.Need-enum-known-x
-enum-known-x c = search needs
-
-returns : tie.Need-returns
-returns c = rw (c .before .before .x .given .1) (simp (le-ltb _ _ (c .if1 .taken)))
-
-enum-told-4 : tie.Need-enum-told-4
-enum-told-4 c = search needs
-
-add-result-4 : tie.Need-add-result-4
-add-result-4 c = search needs
-
-enum-told-5 : tie.Need-enum-told-5
-enum-told-5 c = search needs
-
-returns-2 : tie.Need-returns-2
-returns-2 c = cc
-
-returns-3 : tie.Need-returns-3
-returns-3 c = cc
-
 returns-4 : tie.Need-returns-4
-returns-4 c = cc
-
-returns-5 : tie.Need-returns-5
-returns-5 c = rw (c .before .before .x .given .1) (simp (lt-ltb _ _ (c .if1 .left)))
-
-returns-6 : tie.Need-returns-6
-returns-6 c = cc
-
-returns-7 : tie.Need-returns-7
-returns-7 c = search needs
+returns-4 c =
+    let e = c .before .before .kind-of .ensures in
+    let p = c .before .before .before .pre in
+    sym (place-inner _ _ _ (p .0) (p .1) (λ q. c .if2 .left (e ∙ q)) (λ q. c .before .if1 .left (e ∙ q)))
 
 pub in-place-spec : {M : Type 1} → statement M
 in-place-spec =
     tie.close
     (tie.spec
-    enum-told
+    kind-of-requires
     add-result
-    enum-told-2
-    add-result-2
-    enum-told-3
-    add-result-3
-    enum-known-x
     returns
-    enum-told-4
-    add-result-4
-    enum-told-5
+    field-b-requires
     returns-2
     returns-3
-    returns-4
-    returns-5
-    returns-6
-    returns-7)
+    add-result-2
+    returns-4)

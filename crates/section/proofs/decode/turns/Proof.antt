@@ -1,5 +1,4 @@
 -- `section::decode::turns` meets its contract: the last entry of the row.
-use mathlib.Core.Path.{_∙_}
 use borrow.Author.Needs.{needs}
 use Rattle.section.proofs.decode.turns.Statement.{statement}
 use Rattle.section.proofs.decode.turns.Tie as tie

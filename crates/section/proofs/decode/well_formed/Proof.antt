@@ -1,7 +1,7 @@
 -- `section::decode::well_formed` meets its contract: first the range, then the position.
+use Rattle.base.proofs.Bools.{denied, granted}
 use Rattle.section.specs.Check.{wellFormed}
-use borrow.Author.Tests.{not-true, not-false}
-use mathlib.Core.Path.{sym, _∙_}
+use Rattle.section.proofs.Ranges.{range-kind}
 use borrow.Author.Needs.{needs}
 use Rattle.section.proofs.decode.well_formed.Statement.{statement}
 use Rattle.section.proofs.decode.well_formed.Tie as tie
@@ -11,18 +11,16 @@ in-range-requires c κs = search needs
 
 returns : tie.Need-returns
 unfolding wellFormed
-returns c = simp (sym (c .before .in-range .ensures) ∙ not-true (c .before .in-range .result) (c .if1 .taken))
-
-op-of-requires : tie.Need-op-of-requires
-op-of-requires c κs = search needs
+returns c = simp (denied (c .before .in-range .ensures) (c .if1 .taken))
 
 in-place-requires : tie.Need-in-place-requires
-in-place-requires c κs = search needs
+in-place-requires c κs =
+    let k = range-kind _ _ (granted (c .before .in-range .ensures) (c .if1 .left)) in
+    (k .0, k .1, c .before .before .pre)
 
 returns-2 : tie.Need-returns-2
 unfolding wellFormed
-returns-2 c = simp (sym (c .before .before .before .in-range .ensures) ∙ not-false (c .before .before .before .in-range .result) (c .before .before .if1 .left), ← c .before .op-of .ensures) (c .in-place .ensures)
+returns-2 c = simp (granted (c .before .before .in-range .ensures) (c .before .if1 .left)) (c .in-place .ensures)
 
 pub well-formed-spec : {M : Type 1} → statement M
-well-formed-spec =
-    tie.close (tie.spec in-range-requires returns op-of-requires in-place-requires returns-2)
+well-formed-spec = tie.close (tie.spec in-range-requires returns in-place-requires returns-2)
