@@ -1,8 +1,10 @@
--- What the decoding functions ask: a number that is none of the eight kinds says no instruction, a known kind is one of
--- the eight, the largest value of a field by its entry, and the position that an instruction may have by its kind.
+-- What the decoding functions ask: a number that is none of the eight kinds says no instruction and has no row, the largest
+-- value of a field by its entry, and the position that an instruction may have by its kind.
 use Prim.Native.Nat.{ℕ, zero, suc, _+_, _≤_}
 use mathlib.Core.Path.{_≡_, refl, ap}
 use mathlib.Core.Bool.{cond, _&&_}
+use mathlib.Core.List.{List, [], _∷_}
+use lib.ListN.{getD}
 use lib.Dec.{ltb, eqb}
 use native.Mathlib.Omega.{arith}
 use Rattle.section.specs.Table.{entry, highest, kindOf, fieldA, fieldB, fieldC}
@@ -22,18 +24,31 @@ no-kind (suc (suc (suc (suc (suc (suc (suc zero))))))) a b c n1 n2 n3 n4 n5 n6 n
 no-kind (suc (suc (suc (suc (suc (suc (suc (suc zero)))))))) a b c n1 n2 n3 n4 n5 n6 n7 n8 = absurd (n8 refl)
 no-kind (suc (suc (suc (suc (suc (suc (suc (suc (suc k))))))))) a b c n1 n2 n3 n4 n5 n6 n7 n8 = refl
 
--- a known kind that is none of the first seven is the eighth
-pub last-kind : (k : ℕ) → 1 ≤ k → k ≤ 8 → (k ≡ 1 → ⊥) → (k ≡ 2 → ⊥) → (k ≡ 3 → ⊥) → (k ≡ 4 → ⊥) → (k ≡ 5 → ⊥) → (k ≡ 6 → ⊥) → (k ≡ 7 → ⊥) → k ≡ 8
-last-kind zero l u n1 n2 n3 n4 n5 n6 n7 = absurd (omega arith)
-last-kind (suc zero) l u n1 n2 n3 n4 n5 n6 n7 = absurd (n1 refl)
-last-kind (suc (suc zero)) l u n1 n2 n3 n4 n5 n6 n7 = absurd (n2 refl)
-last-kind (suc (suc (suc zero))) l u n1 n2 n3 n4 n5 n6 n7 = absurd (n3 refl)
-last-kind (suc (suc (suc (suc zero)))) l u n1 n2 n3 n4 n5 n6 n7 = absurd (n4 refl)
-last-kind (suc (suc (suc (suc (suc zero))))) l u n1 n2 n3 n4 n5 n6 n7 = absurd (n5 refl)
-last-kind (suc (suc (suc (suc (suc (suc zero)))))) l u n1 n2 n3 n4 n5 n6 n7 = absurd (n6 refl)
-last-kind (suc (suc (suc (suc (suc (suc (suc zero))))))) l u n1 n2 n3 n4 n5 n6 n7 = absurd (n7 refl)
-last-kind (suc (suc (suc (suc (suc (suc (suc (suc zero)))))))) l u n1 n2 n3 n4 n5 n6 n7 = refl
-last-kind (suc (suc (suc (suc (suc (suc (suc (suc (suc k))))))))) l u n1 n2 n3 n4 n5 n6 n7 = absurd (omega arith)
+-- ---- the table
+
+abbrev pub zeros : List ℕ
+zeros = 0 ∷ 0 ∷ 0 ∷ 0 ∷ []
+
+private-zeros : (j : ℕ) → getD zeros j 0 ≡ zero
+private-zeros zero = refl
+private-zeros (suc zero) = refl
+private-zeros (suc (suc zero)) = refl
+private-zeros (suc (suc (suc zero))) = refl
+private-zeros (suc (suc (suc (suc j)))) = refl
+
+-- a number that is none of the eight kinds has no row
+pub no-row : (k j : ℕ) → (k ≡ 1 → ⊥) → (k ≡ 2 → ⊥) → (k ≡ 3 → ⊥) → (k ≡ 4 → ⊥) → (k ≡ 5 → ⊥) → (k ≡ 6 → ⊥) → (k ≡ 7 → ⊥) → (k ≡ 8 → ⊥) → getD zeros j 0 ≡ entry k j
+unfolding entry
+no-row zero j n1 n2 n3 n4 n5 n6 n7 n8 = private-zeros j
+no-row (suc zero) j n1 n2 n3 n4 n5 n6 n7 n8 = absurd (n1 refl)
+no-row (suc (suc zero)) j n1 n2 n3 n4 n5 n6 n7 n8 = absurd (n2 refl)
+no-row (suc (suc (suc zero))) j n1 n2 n3 n4 n5 n6 n7 n8 = absurd (n3 refl)
+no-row (suc (suc (suc (suc zero)))) j n1 n2 n3 n4 n5 n6 n7 n8 = absurd (n4 refl)
+no-row (suc (suc (suc (suc (suc zero))))) j n1 n2 n3 n4 n5 n6 n7 n8 = absurd (n5 refl)
+no-row (suc (suc (suc (suc (suc (suc zero)))))) j n1 n2 n3 n4 n5 n6 n7 n8 = absurd (n6 refl)
+no-row (suc (suc (suc (suc (suc (suc (suc zero))))))) j n1 n2 n3 n4 n5 n6 n7 n8 = absurd (n7 refl)
+no-row (suc (suc (suc (suc (suc (suc (suc (suc zero)))))))) j n1 n2 n3 n4 n5 n6 n7 n8 = absurd (n8 refl)
+no-row (suc (suc (suc (suc (suc (suc (suc (suc (suc k))))))))) j n1 n2 n3 n4 n5 n6 n7 n8 = private-zeros j
 
 -- the largest value of a field, by its entry
 pub highest-entry : (own k j e : ℕ) → e ≡ entry k j → highest own k j ≡ cond (eqb e 511) (511 + own) e

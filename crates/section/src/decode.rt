@@ -23,9 +23,8 @@ const TABLE: [[u64; 4]; 8] = [
     [0, 0, 0, 3],
 ];
 
-// The row of a kind. Every index is constant, so that a look-up is a load of a constant.
+// The row of a kind; zeros where there is none. Every index is constant, so that a look-up is a load of a constant.
 fn row(kind: u64) -> [u64; 4]
-    requires { ⌜ (1 ≤ kind) × (kind ≤ 8) ⌝ }
     ensures { λ r. ⌜ ((j : ℕ) → getD r j 0 ≡ entry kind j) ⌝ }
 {
     match kind {
@@ -36,7 +35,8 @@ fn row(kind: u64) -> [u64; 4]
         5 => TABLE[4],
         6 => TABLE[5],
         7 => TABLE[6],
-        _ => TABLE[7],
+        8 => TABLE[7],
+        _ => [0, 0, 0, 0],
     }
 }
 

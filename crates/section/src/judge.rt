@@ -34,9 +34,7 @@ fn covered_in(h: u64, e: Expr) -> bool
 {
     match e {
         Expr::Literal(_, _) => true,
-        Expr::Sum(b, c) => both_covered(h, b, c),
-        Expr::Difference(b, c) => both_covered(h, b, c),
-        Expr::Less(b, c) => both_covered(h, b, c),
+        Expr::Sum(b, c) | Expr::Difference(b, c) | Expr::Less(b, c) => both_covered(h, b, c),
     }
 }
 

@@ -1,7 +1,6 @@
--- `section::decode::row` meets its contract: the constant table is the definition's, row by row; a known kind that is none
--- of the first seven is the eighth.
+-- `section::decode::row` meets its contract: the constant table is the definition's, row by row.
 use Rattle.section.specs.Table.{entry}
-use Rattle.section.proofs.Decoding.{last-kind}
+use Rattle.section.proofs.Decoding.{no-row}
 use borrow.Author.Needs.{needs}
 use Rattle.section.proofs.decode.row.Statement.{statement}
 use Rattle.section.proofs.decode.row.Tie as tie
@@ -60,11 +59,12 @@ returns-7 c = λ j. rw (c .before .match .keys7)
 
 returns-8 : tie.Need-returns-8
 unfolding entry
-returns-8 c =
-    let n = c .before .match .rest in
-    let p = c .before .before .pre in
-    let e = last-kind _ (p .0) (p .1) (n .0 .0 .0 .0 .0 .0 .1) (n .0 .0 .0 .0 .0 .1) (n .0 .0 .0 .0 .1) (n .0 .0 .0 .1) (n .0 .0 .1) (n .0 .1) (n .1) in
-    λ j. rw e
+returns-8 c = λ j. rw (c .before .match .keys8)
+
+returns-9 : tie.Need-returns-9
+returns-9 c =
+    let n = c .match .rest in
+    λ j. no-row _ j (n .0 .0 .0 .0 .0 .0 .0 .1) (n .0 .0 .0 .0 .0 .0 .1) (n .0 .0 .0 .0 .0 .1) (n .0 .0 .0 .0 .1) (n .0 .0 .0 .1) (n .0 .0 .1) (n .0 .1) (n .1)
 
 pub row-spec : {M : Type 1} → statement M
 row-spec =
@@ -85,4 +85,5 @@ row-spec =
     returns-5
     returns-6
     returns-7
-    returns-8)
+    returns-8
+    returns-9)
