@@ -80,7 +80,7 @@ uint64_t zilpanud_format(uint64_t *image, size_t image_words, uint64_t workers, 
 /* The check of a section alone: 0, or 4 to 9. */
 uint64_t zilpanud_check(const uint64_t *words, size_t words_len, uint64_t *detail);
 
-/* Hands a section in for a worker: 0, or 10, 1, 2, 3, 4 to 9, tested in this order. */
+/* Submits a section for a worker: 0, or 10, 1, 2, 3, 4 to 9, tested in this order. */
 uint64_t zilpanud_submit(uint64_t *image, size_t image_words, uint8_t *step, uint8_t *turn, size_t worker, uint64_t number,
                          const uint64_t *args, const uint64_t *words, size_t words_len, uint64_t *left, uint64_t *detail);
 

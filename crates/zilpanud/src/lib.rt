@@ -47,7 +47,7 @@ pub extern "C" fn zilpanud_check(words: &[u64], detail: &mut u64) -> u64
     section::cause(v)
 }
 
-// Hands a section in for a worker: 0, or 10, 1, 2, 3 and 4 to 9, the last with the step.
+// Submits a section for a worker: 0, or 10, 1, 2, 3 and 4 to 9, the last with the step.
 #[no_mangle]
 pub extern "C" fn zilpanud_submit(
     image: &mut [u64],
