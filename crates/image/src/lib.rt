@@ -35,13 +35,14 @@ pub fn store(image: &mut [u64], at: usize, value: u64, left: &mut u64)
     ensures image { λ r. ⌜ now (image .exit) ≡ put (now (left .entry)) (now (image .entry)) at value ⌝ }
     ensures left { λ r. ⌜ now (left .exit) ≡ now (left .entry) - 1 ⌝ }
 {
-    if *left == 0 {
+    let k = *left;
+    if k == 0 {
         return;
     }
     if at < image.len() {
         image[at] = value;
     }
-    *left -= 1;
+    *left = k - 1;
 }
 
 // Whether length and words 0 to 7 are right, for an edition with this mark and this number of own words.
