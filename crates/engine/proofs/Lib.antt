@@ -4,4 +4,6 @@ pub mod Rows
 pub mod Formats
 pub mod Submission
 pub mod Turns
+pub mod Idling
 pub mod Rounds
+pub mod Laps

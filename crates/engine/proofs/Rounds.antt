@@ -94,14 +94,6 @@ module _ (n : ℕ) where
 -- ---- the workers from d on, of k
 
 module _ (k d : ℕ) (h : d < k) where
-  pub open-on : (c : Cursors) → isIdle (cursorAt c d) ≡ true → anyOpen (k - d) d c ≡ anyOpen (k - (d + 1)) (d + 1) c
-  unfolding anyOpen
-  open-on c e = rw (left-step k d h, e)
-
-  pub open-here : (c : Cursors) → isIdle (cursorAt c d) ≡ false → anyOpen (k - d) d c ≡ true
-  unfolding anyOpen
-  open-here c e = rw (left-step k d h, e)
-
   pub sweep-on : (n : ℕ) (s : Counting) → isRefused (answerOf n (outcomeAt n (s .world) d)) ≡ false → sweep n (k - d) d s ≡ sweep n (k - (d + 1)) (d + 1) (turned n s d)
   unfolding sweep
   sweep-on n s e = rw (left-step k d h) (swept-on n (outcomeAt n (s .world) d) s (sweep n (k - (d + 1)) (d + 1) (turned n s d)) e)
@@ -109,10 +101,6 @@ module _ (k d : ℕ) (h : d < k) where
   pub sweep-halts : (n : ℕ) (s : Counting) → isRefused (answerOf n (outcomeAt n (s .world) d)) ≡ true → sweep n (k - d) d s ≡ halted (refusalOf (answerOf n (outcomeAt n (s .world) d))) s
   unfolding sweep
   sweep-halts n s e = rw (left-step k d h) (swept-halts n (outcomeAt n (s .world) d) s (sweep n (k - (d + 1)) (d + 1) (turned n s d)) e)
-
-pub open-none : (k d : ℕ) (c : Cursors) → k ≤ d → anyOpen (k - d) d c ≡ false
-unfolding anyOpen
-open-none k d c h = rw (left-none k d h)
 
 pub sweep-none : (n k d : ℕ) (s : Counting) → k ≤ d → sweep n (k - d) d s ≡ through s
 unfolding sweep

@@ -1,12 +1,13 @@
 -- One worker's cursor in the working record: what it is after it was placed, at the same worker and at another.
 use Prim.Native.Nat.{ℕ, _<_, _≤_}
 use mathlib.Core.Path.{_≡_, refl, ap, _∙_, sym}
-use mathlib.Core.Bool.{Bool, true, false, cond}
+use mathlib.Core.Bool.{Bool, true, false, cond, true≢false}
 use mathlib.Core.Logic.{_≢_}
 use lib.ListN.{length, getD, set}
 use lib.Seq.{getD-set-same, getD-set-other}
 use lib.Dec.{eqb}
-use borrow.Author.Tests.{ne-eqb}
+use borrow.Author.Tests.{eq-eqb, ne-eqb}
+use Rattle.base.proofs.Filling.{getD-inside}
 use Rattle.engine.specs.declared.Cursors.{Cursors}
 use Rattle.engine.specs.Cursor.{Cursor, idle, on, isIdle, stepNo, turnNo, cursorAt, setAt, placed}
 
@@ -45,3 +46,13 @@ placed-same c d x f h s =
 pub placed-other : (c : Cursors) (d e : ℕ) (x : Cursor) → e ≢ d → cursorAt (placed c d x) e ≡ cursorAt c e
 unfolding cursorAt setAt
 placed-other c d e x h = rw (getD-set-other (c .turn) d e (turnNo x) 255 h, getD-set-other (c .step) d e (stepNo x) 0 h)
+
+-- the same by the turn itself
+pub idle-turn : (c : Cursors) (d : ℕ) → d < length (c .turn) → getD (c .turn) d 0 ≡ 255 → isIdle (cursorAt c d) ≡ true
+idle-turn c d h e = idle-by c d ∙ eq-eqb _ 255 (getD-inside (c .turn) d 255 0 h ∙ e)
+
+pub open-turn : (c : Cursors) (d : ℕ) → d < length (c .turn) → getD (c .turn) d 0 ≢ 255 → isIdle (cursorAt c d) ≡ false
+open-turn c d h e = idle-by c d ∙ ne-eqb _ 255 (λ q. e (sym (getD-inside (c .turn) d 255 0 h) ∙ q))
+
+pub open-not : (c : Cursors) (d : ℕ) → d < length (c .turn) → isIdle (cursorAt c d) ≡ false → getD (c .turn) d 0 ≢ 255
+open-not c d h e q = true≢false (sym (idle-turn c d h q) ∙ e)

@@ -1,6 +1,7 @@
 -- Where the workers stand. (Document 01: working places, kept in one working record.)
 use Prim.Native.Nat.{ℕ}
 use mathlib.Core.Bool.{Bool, true, false, cond}
+use mathlib.Core.List.{List}
 use lib.ListN.{getD, set, replicate}
 use lib.Dec.{eqb}
 use Rattle.engine.specs.declared.Cursors.{Cursors}
@@ -22,6 +23,10 @@ stepNo (on s t) = s
 abbrev pub turnNo : Cursor → ℕ
 turnNo idle = 255
 turnNo (on s t) = t
+
+-- the record with these steps and turns
+abbrev pub standing : List ℕ → List ℕ → Cursors
+standing s t = record { step = s; turn = t }
 
 -- worker d's cursor; idle where the record has no such worker
 unfoldable pub cursorAt : Cursors → ℕ → Cursor

@@ -38,6 +38,11 @@ countedAs (Waiting b) t = withWaiting t
 countedAs Idle t = t
 countedAs (Refused r) t = t
 
+-- the workers up to the last open one, of k
+unfoldable pub openTo : ℕ → Cursors → ℕ
+openTo zero c = 0
+openTo (suc k) c = cond (isIdle (cursorAt c k)) (openTo k c) (suc k)
+
 -- a world with the tally of the run so far
 pub record Counting : Type 0 where
   pub world : World

@@ -8,6 +8,8 @@ use Rattle.engine.specs.declared.Refusal.{Refusal}
 use Rattle.engine.specs.declared.Refusal.the-variants.{Worker, Image as ImageRefused}
 use Rattle.engine.specs.declared.Answer.{Answer}
 use Rattle.engine.specs.declared.Answer.the-variants.{Stored, Passed, Waiting, Idle, Refused}
+use Rattle.engine.specs.declared.Did.{Did}
+use Rattle.engine.specs.declared.Did.the-variants.{Stored as DidStore, Passed as DidPass, Waiting as DidWait}
 use Rattle.engine.specs.declared.Plan.{Plan}
 use Rattle.engine.specs.declared.Plan.the-variants.{Store, Pass, Wait, Rest, Refuse}
 use Rattle.engine.specs.Cursor.{stepNo, turnNo, cursorAt, setAt, placed}
@@ -56,12 +58,18 @@ planOf n (waiting b) = Wait b
 planOf n resting = Rest
 planOf n (refused r) = Refuse r
 
-abbrev pub planAnswer : Plan → Answer
-planAnswer (Store i v s t) = Stored i
-planAnswer (Pass s t) = Passed
-planAnswer (Wait b) = Waiting b
-planAnswer Rest = Idle
-planAnswer (Refuse r) = Refused r
+-- what the turn of a plan did; it matters where the turn is made, so not for a worker that is idle or refused
+abbrev pub planDid : Plan → Did
+planDid (Store i v s t) = DidStore i
+planDid (Pass s t) = DidPass
+planDid (Wait b) = DidWait b
+planDid Rest = DidPass
+planDid (Refuse r) = DidPass
+
+abbrev pub didAnswer : Did → Answer
+didAnswer (DidStore i) = Stored i
+didAnswer DidPass = Passed
+didAnswer (DidWait b) = Waiting b
 
 abbrev pub planLeaves : World → ℕ → Plan → World
 planLeaves w d (Store i v s t) = world (put (w .left) (w .image) i v) (setAt (w .cursors) d s t) (w .left - 1)

@@ -62,6 +62,13 @@ pub enum Answer {
     Refused(Refusal),
 }
 
+// What the turn of an open worker did, where it is not refused.
+enum Did {
+    Stored(usize),
+    Passed,
+    Waiting(u64),
+}
+
 // What a turn is to do, worked out before anything is stored: a store, or none, with the cursor after it; to wait at a
 // lock; nothing, where the worker is idle; or to refuse.
 enum Plan {
@@ -228,7 +235,25 @@ pub fn turn(image: &mut [u64], c: Cursors, d: usize, left: &mut u64) -> Turned
             cursors: c,
         };
     }
-    turning::turn_at(image, c, d, OWN, left)
+    if working::idle(c, d) {
+        return Turned {
+            answer: Answer::Idle,
+            cursors: c,
+        };
+    }
+    let mut step = c.step;
+    let mut turn = c.turn;
+    if !planning::ready(image, d, OWN, step[d], turn[d]) {
+        return Turned {
+            answer: Answer::Refused(Refusal::Cursor(d)),
+            cursors: c,
+        };
+    }
+    let did = turning::turn_on(image, &mut step, &mut turn, d, OWN, left);
+    Turned {
+        answer: turning::answer(did),
+        cursors: Cursors { step, turn },
+    }
 }
 
 // Rounds of turns until all workers are idle. The header is tested once.
@@ -244,5 +269,14 @@ pub fn run(image: &mut [u64], c: Cursors, rounds: u16, left: &mut u64) -> Ran
         };
     }
     let n = image::workers(image) as usize;
-    running::rounds_of(image, c, n, OWN, rounds, left)
+    let mut step = c.step;
+    let mut turn = c.turn;
+    let over = running::rounds_of(image, &mut step, &mut turn, n, OWN, rounds, left);
+    let end = over.end;
+    let tally = over.tally;
+    Ran {
+        end: end,
+        cursors: Cursors { step, turn },
+        tally: tally,
+    }
 }

@@ -1,113 +1,113 @@
 // Rounds of turns over the workers.
-use crate::Answer;
-use crate::Cursors;
+use crate::Did;
 use crate::End;
-use crate::Ran;
 use crate::Refusal;
+use crate::planning;
 use crate::turning;
-use crate::working;
 use tally::Tally;
 ghost use mathlib.Core.Path.{_≡_};
-ghost use Prim.Native.Nat.{_≤_};
+ghost use Prim.Native.Nat.{ℕ, _+_, _<_, _≤_};
+ghost use mathlib.Core.Bool.{cond};
+ghost use mathlib.Core.List.{List};
+ghost use lib.Dec.{eqb};
+ghost use lib.ListN.{length};
 ghost use Rattle.image.specs.Image.{workers};
 ghost use Rattle.tally.specs.Tally.{none, Room};
-ghost use Rattle.engine.specs.Refusal.{isRefused, refusalOf};
-ghost use Rattle.engine.specs.World.{world};
-ghost use Rattle.engine.specs.Run.{anyOpen, countedAs, counting, ran, roundsOf};
+ghost use Rattle.engine.specs.Cursor.{standing};
+ghost use Rattle.engine.specs.World.{world, didAnswer};
+ghost use Rattle.engine.specs.Run.{countedAs, counting, openTo, ran, roundsOf};
 
-// Whether one of n workers is open.
-fn any_open(c: Cursors, n: usize) -> bool
-    ensures { λ r. ⌜ r ≡ anyOpen n 0 c ⌝ }
+// The workers up to the last open one, of n.
+fn open_to(turn: &[u8], n: usize) -> usize
+    requires { ⌜ n ≤ length (now turn) ⌝ }
+    ensures { λ r. ⌜ ((s : List ℕ) → r ≡ openTo n (standing s (now (turn .entry)))) ⌝ }
 {
-    let mut d: usize = 0;
-    while d < n {
-        if !working::idle(c, d) {
-            return true;
+    let mut k = n;
+    while 0 < k {
+        if turn[k - 1] != 255 {
+            return k;
         }
-        d += 1;
+        k -= 1;
     }
-    false
+    0
 }
 
-fn refused(a: Answer) -> bool
-    ensures { λ r. ⌜ r ≡ isRefused a ⌝ }
+// The same for the workers up to d, by the turn at which d is now and the number for those below it.
+fn open_with(t: u8, d: usize, below: usize) -> usize
+    requires { ⌜ d < 8 ⌝ }
+    ensures { λ r. ⌜ r ≡ cond (eqb t 255) below (d + 1) ⌝ }
 {
-    match a {
-        Answer::Stored(_) => false,
-        Answer::Passed => false,
-        Answer::Waiting(_) => false,
-        Answer::Idle => false,
-        Answer::Refused(_) => true,
+    if t == 255 {
+        return below;
     }
+    d + 1
 }
 
-// Why, where it is.
-fn refusal(a: Answer) -> Refusal
-    ensures { λ r. ⌜ r ≡ refusalOf a ⌝ }
-{
-    match a {
-        Answer::Stored(_) => Refusal::Image,
-        Answer::Passed => Refusal::Image,
-        Answer::Waiting(_) => Refusal::Image,
-        Answer::Idle => Refusal::Image,
-        Answer::Refused(r) => r,
-    }
-}
-
-// The tally with a turn counted by its answer.
-fn counted(a: Answer, t: Tally) -> Tally
+// The tally with a turn counted by what it did.
+fn counted(x: Did, t: Tally) -> Tally
     requires { ⌜ Room t ⌝ }
-    ensures { λ r. ⌜ r ≡ countedAs a t ⌝ }
+    ensures { λ r. ⌜ r ≡ countedAs (didAnswer x) t ⌝ }
 {
-    match a {
-        Answer::Stored(_) => tally::stored(t),
-        Answer::Passed => tally::passed(t),
-        Answer::Waiting(_) => tally::waiting(t),
-        Answer::Idle => t,
-        Answer::Refused(_) => t,
+    match x {
+        Did::Stored(_) => tally::stored(t),
+        Did::Passed => tally::passed(t),
+        Did::Waiting(_) => tally::waiting(t),
     }
 }
 
-// Rounds over n workers until all are idle, the rounds are spent, or a turn is refused.
+// How rounds end, and what they count.
+pub struct Over {
+    pub end: End,
+    pub tally: Tally,
+}
+
+// Rounds over n workers until all are idle, the rounds are spent, or a turn is refused. Idle workers have no turn, and
+// those above the last open one are not looked at.
 pub fn rounds_of(
     image: &mut [u64],
-    cursors: Cursors,
+    step: &mut [u8],
+    turn: &mut [u8],
     n: usize,
     own: usize,
     rounds: u16,
     left: &mut u64,
-) -> Ran
-    requires { ⌜ (own ≤ 64) × (n ≡ workers (now image)) × (n ≤ 8) ⌝ }
-    ensures { λ r. ⌜ ran (r .end) (counting (world (now (image .exit)) (r .cursors) (now (left .exit))) (r .tally))
-        ≡ roundsOf own rounds n (counting (world (now (image .entry)) cursors (now (left .entry))) none) ⌝ }
+) -> Over
+    requires { ⌜ (own ≤ 64) × (n ≡ workers (now image)) × (n ≤ 8) × (length (now step) ≡ 8) × (length (now turn) ≡ 8) ⌝ }
+    ensures { λ r. ⌜ ran (r .end) (counting (world (now (image .exit)) (standing (now (step .exit)) (now (turn .exit))) (now (left .exit))) (r .tally))
+        ≡ roundsOf own rounds n (counting (world (now (image .entry)) (standing (now (step .entry)) (now (turn .entry))) (now (left .entry))) none) ⌝ }
 {
-    let mut c = cursors;
-    let mut t = tally::zero();
+    let mut tally = tally::zero();
     let mut round: u16 = 0;
+    let mut to = open_to(turn, n);
     let end = 'rounds: loop {
-        if !any_open(c, n) {
+        if to == 0 {
             break End::AllIdle;
         }
         if round == rounds {
             break End::Spent;
         }
+        let mut next: usize = 0;
         let mut d: usize = 0;
-        while d < n {
-            let turned = turning::turn_at(image, c, d, own, left);
-            let a = turned.answer;
-            let next = turned.cursors;
-            c = next;
-            if refused(a) {
-                break 'rounds End::Halted(refusal(a));
+        while d < to {
+            let s = step[d];
+            let t = turn[d];
+            if t == 255 {
+                d += 1;
+                continue;
             }
-            t = counted(a, t);
+            if !planning::ready(image, d, own, s, t) {
+                break 'rounds End::Halted(Refusal::Cursor(d));
+            }
+            let did = turning::turn_on(image, step, turn, d, own, left);
+            tally = counted(did, tally);
+            next = open_with(turn[d], d, next);
             d += 1;
         }
+        to = next;
         round += 1;
     };
-    Ran {
+    Over {
         end: end,
-        cursors: c,
-        tally: t,
+        tally: tally,
     }
 }

@@ -1,7 +1,11 @@
--- `engine::run` meets its contract: the header test, then the rounds over the workers that the header names.
+-- `engine::run` meets its contract: the header test, then the rounds over the workers that the header names, with the steps and
+-- turns lent.
 use borrow.Author.Needs.{needs}
+use Prim.Native.Nat.{_≤_, _<_}
+use mathlib.Core.Path.{_≡_, refl, sym, ap, _∙_}
 use native.Mathlib.Omega.{arith}
 use denote.Ref.{now}
+use lib.ListN.{length}
 use Rattle.base.proofs.Bools.{denied, granted}
 use Rattle.image.proofs.Header.{header-workers}
 use Rattle.engine.specs.World.{world}
@@ -28,23 +32,28 @@ returns c =
 workers-requires : tie.Need-workers-requires
 workers-requires c κs = search needs
 
+slice-aggregate-rounds-of : tie.Need-slice-aggregate-rounds-of
+slice-aggregate-rounds-of c = search needs
+
+slice-aggregate-rounds-of-2 : tie.Need-slice-aggregate-rounds-of-2
+slice-aggregate-rounds-of-2 c = search needs
+
 rounds-of-requires : tie.Need-rounds-of-requires
 rounds-of-requires c κs =
-    let u = c .before .before .before .before .before in
-    let h = header-workers mark ownWords (now (u .before .before .before .args .image)) (granted (u .header-ok .ensures) (c .before .before .before .before .if1 .left)) in
-    let e = c .before .before .workers .ensures in
-    (omega arith, e, rw e (h .1))
+    let A = c .before .before .before .before .before .before .before .before .before .before .before .before .args in
+    let e = c .before .before .before .before .before .before .workers .ensures in
+    let p : length (A .c .step) ≡ 8 = search needs in
+    let q : length (A .c .turn) ≡ 8 = search needs in
+    (omega arith, e, rw e (header-workers mark ownWords (now (A .image)) (granted (c .before .before .before .before .before .before .before .before .before .header-ok .ensures) (c .before .before .before .before .before .before .before .before .if1 .left)) .1), p, q)
 
 same-length-2 : tie.Need-same-length-2
 same-length-2 c = search needs
 
 returns-2 : tie.Need-returns-2
 returns-2 c =
-    let u = c .before .before .before .before .before .before .before .before in
-    let A = u .before .before .before .args in
+    let A = c .before .before .before .before .before .before .before .before .before .before .before .before .before .before .before .before .before .before .args in
     let w = world (now (A .image)) (A .c) (now (A .left)) in
-    rw (run-rounds mark ownWords w (A .rounds) (granted (u .header-ok .ensures) (c .before .before .before .before .before .before .before .if1 .left)), ← c .before .before .before .before .before .workers .ensures)
-    (c .before .before .rounds-of .ensures)
+    rw (run-rounds mark ownWords w (A .rounds) (granted (c .before .before .before .before .before .before .before .before .before .before .before .before .before .before .before .header-ok .ensures) (c .before .before .before .before .before .before .before .before .before .before .before .before .before .before .if1 .left)), ← c .before .before .before .before .before .before .before .before .before .before .before .before .workers .ensures) (c .before .before .before .before .before .rounds-of .ensures)
 
 pub run-spec : {M : Type 1} → statement M
 run-spec =
@@ -55,6 +64,8 @@ run-spec =
     same-length
     returns
     workers-requires
+    slice-aggregate-rounds-of
+    slice-aggregate-rounds-of-2
     rounds-of-requires
     same-length-2
     returns-2)

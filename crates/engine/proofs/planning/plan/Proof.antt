@@ -1,43 +1,31 @@
--- `engine::planning::plan` meets its contract: a worker is idle, or on a step and a turn.
-use mathlib.Core.Path.{_≡_, sym, _∙_}
-use native.Mathlib.Omega.{arith}
-use lib.ListN.{length}
+-- `engine::planning::plan` meets its contract: a cursor that is ready has the instruction's turn.
 use borrow.Author.Needs.{needs}
-use Rattle.engine.specs.Cursor.{cursorAt}
-use Rattle.engine.specs.Turn.{turnAt}
-use Rattle.engine.proofs.Planned.{idle-is, on-is}
+use denote.Ref.{now}
+use Rattle.image.specs.Image.{at}
+use Rattle.engine.specs.Turn.{ready, turnAt}
+use Rattle.engine.proofs.Planned.{ready-says}
 use Rattle.engine.proofs.planning.plan.Statement.{statement}
 use Rattle.engine.proofs.planning.plan.Tie as tie
 
-idle-requires : tie.Need-idle-requires
-idle-requires c κs = search needs
+read-step-requires : tie.Need-read-step-requires
+read-step-requires c κs =
+    let A = c .before .args in
+    let h = c .before .pre in
+    (h .0, ready-says (A .own) (at (A .own) (now (A .image))) (A .d) (A .s) (A .t) (h .1) .step)
+
+op-of-requires : tie.Need-op-of-requires
+op-of-requires c κs = search needs
+
+op-turn-requires : tie.Need-op-turn-requires
+op-turn-requires c κs =
+    let A = c .before .before .before .args in
+    let h = c .before .before .before .pre in
+    let r = ready-says (A .own) (at (A .own) (now (A .image))) (A .d) (A .s) (A .t) (h .1) in
+    (h .0, rw (c .op-of .ensures, c .before .read-step .ensures) (r .form), r .step, r .turn)
 
 returns : tie.Need-returns
 unfolding turnAt
-returns c = rw (idle-is (cursorAt (c .before .before .before .args .t2) (c .before .before .before .args .d)) (sym (c .before .idle .ensures) ∙ c .if1 .taken))
-
-element-copy-out-s : tie.Need-element-copy-out-s
-element-copy-out-s c = search needs
-
-element-copy-out-t : tie.Need-element-copy-out-t
-element-copy-out-t c = search needs
-
-plan-on-requires : tie.Need-plan-on-requires
-plan-on-requires c κs = search needs
-
-returns-2 : tie.Need-returns-2
-returns-2 c =
-    let A = c .before .before .before .before .before .before .args in
-    let p : length (A .t2 .turn) ≡ 8 = search needs in
-    rw (on-is (A .t2) (A .d) (omega arith) (sym (c .before .before .before .before .idle .ensures) ∙ c .before .before .before .if1 .left)) (c .plan-on .ensures)
+returns c = rw (c .before .before .before .before .pre .1, ← c .before .before .read-step .ensures, ← c .before .op-of .ensures) (c .op-turn .ensures)
 
 pub plan-spec : {M : Type 1} → statement M
-plan-spec =
-    tie.close
-    (tie.spec
-    idle-requires
-    returns
-    element-copy-out-s
-    element-copy-out-t
-    plan-on-requires
-    returns-2)
+plan-spec = tie.close (tie.spec read-step-requires op-of-requires op-turn-requires returns)

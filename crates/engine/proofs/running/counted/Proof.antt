@@ -1,4 +1,4 @@
--- `engine::running::counted` meets its contract: an answer an arm, counted by the tally's functions.
+-- `engine::running::counted` meets its contract: what was done an arm, counted by the tally's functions.
 use borrow.Author.Needs.{needs}
 use Rattle.engine.proofs.running.counted.Statement.{statement}
 use Rattle.engine.proofs.running.counted.Tie as tie
@@ -21,12 +21,6 @@ enum-told-3 c = search needs
 waiting-requires : tie.Need-waiting-requires
 waiting-requires c κs = search needs
 
-enum-told-4 : tie.Need-enum-told-4
-enum-told-4 c = search needs
-
-enum-told-5 : tie.Need-enum-told-5
-enum-told-5 c = search needs
-
 returns : tie.Need-returns
 returns c = rw (c .before .enum-told .given .1) (c .stored .ensures)
 
@@ -35,12 +29,6 @@ returns-2 c = rw (c .before .enum-told2 .given .1) (c .passed .ensures)
 
 returns-3 : tie.Need-returns-3
 returns-3 c = rw (c .before .enum-told3 .given .1) (c .waiting .ensures)
-
-returns-4 : tie.Need-returns-4
-returns-4 c = search needs
-
-returns-5 : tie.Need-returns-5
-returns-5 c = search needs
 
 pub counted-spec : {M : Type 1} → statement M
 counted-spec =
@@ -52,10 +40,6 @@ counted-spec =
     passed-requires
     enum-told-3
     waiting-requires
-    enum-told-4
-    enum-told-5
     returns
     returns-2
-    returns-3
-    returns-4
-    returns-5)
+    returns-3)

@@ -1,66 +1,73 @@
--- `engine::running::rounds_of` meets its contract. The invariant of a round: the turns of the workers from d on, from the
--- world and the tally reached, are those of the whole round. That of the run: the rounds that are left, from there, are
--- the whole run. Both keep the image's length and its number of workers, and that no number of the tally is above the
--- turns there were, so that there is room to count one more.
-use Prim.Native.Nat.{_+_, _*_, _-_, _≤_}
+-- `engine::running::rounds_of` meets its contract: its loops keep what Laps says of a round and of the rounds, and each way on
+-- or out of them is one of its laws.
+use Prim.Native.Nat.{_-_}
 use borrow.Author.Needs.{needs}
 use mathlib.Core.Path.{_≡_, refl, sym, _∙_}
 use native.Mathlib.Omega.{arith}
+use denote.Ref.{now}
 use lib.ListN.{length}
+use Prim.Native.Nat.{_<_}
+use Rattle.engine.proofs.Standing.{Full}
 use Rattle.base.proofs.Counting.{left-all}
 use Rattle.base.proofs.Bools.{denied, granted}
-use Rattle.image.specs.Image.{workers}
 use Rattle.tally.specs.Tally.{none}
-use Rattle.engine.specs.Run.{counting, sweep, roundsOf}
-use Rattle.engine.specs.World.{world, outcomeAt}
-use Rattle.engine.proofs.Rounds.{Most, most-none, most-more, most-counted, most-room, tested, refused-leaves, turned-is, sweep-on, sweep-halts, sweep-none, rounds-idle, rounds-spent, rounds-on, after-through, after-halted}
-use Rattle.engine.proofs.Turns.{workers-turn}
+use Rattle.engine.specs.Cursor.{standing}
+use Rattle.engine.specs.World.{world}
+use Rattle.engine.specs.Run.{counting}
+use Rattle.engine.proofs.Rounds.{most-none, most-room}
+use Rattle.engine.proofs.Standing.{idle-turn}
+use Rattle.engine.proofs.Laps.{made-at, Lap, lap-idle, lap-turn, lap-halts, Laps, laps-lap, laps-again, laps-idle, laps-spent, laps-halts}
 use Rattle.engine.proofs.running.rounds_of.Statement.{statement}
 use Rattle.engine.proofs.running.rounds_of.Tie as tie
 
 abbrev Inv-loop : tie.InvT-loop
-Inv-loop image₀ n own rounds left₀ c₀ t₀ round d₀ image left c t d =
-    (d ≤ n) × (length image ≡ length image₀) × (n ≡ workers image) × Most (8 * round + d) t
-    × (sweep own (n - d) d (counting (world image c left) t) ≡ sweep own n 0 (counting (world image₀ c₀ left₀) t₀))
+Inv-loop image₀ step₀ turn₀ n own rounds left₀ tally₀ round to next₀ d₀ image step turn left tally next d =
+    (length image ≡ length image₀)
+    × Lap own n to round (counting (world image₀ (standing step₀ turn₀) left₀) tally₀) (counting (world image (standing step turn) left) tally) next d
 
 abbrev μ-loop : tie.MeasureT-loop
-μ-loop image₀ n own rounds left₀ c₀ t₀ round d₀ image left c t d = n - d
+μ-loop image₀ step₀ turn₀ n own rounds left₀ tally₀ round to next₀ d₀ image step turn left tally next d =
+    to - d
 
 abbrev Inv-rounds : tie.InvT-rounds
-Inv-rounds image₀ n own rounds left₀ c₀ t₀ round₀ image left c t round =
-    (round ≤ rounds) × (length image ≡ length image₀) × (n ≡ workers image) × Most (8 * round) t
-    × (roundsOf own (rounds - round) n (counting (world image c left) t) ≡ roundsOf own rounds n (counting (world image₀ c₀ left₀) none))
+Inv-rounds image₀ step₀ turn₀ n own rounds left₀ tally₀ round₀ to₀ image step turn left tally round to =
+    (length image ≡ length image₀)
+    × Laps own n rounds (counting (world image₀ (standing step₀ turn₀) left₀) none) (counting (world image (standing step turn) left) tally) round to
 
 abbrev μ-rounds : tie.MeasureT-rounds
-μ-rounds image₀ n own rounds left₀ c₀ t₀ round₀ image left c t round = rounds - round
+μ-rounds image₀ step₀ turn₀ n own rounds left₀ tally₀ round₀ to₀ image step turn left tally round to =
+    rounds - round
 
 zero-requires : tie.Need-zero-requires Inv-loop μ-loop Inv-rounds μ-rounds
 zero-requires c κs = search needs
 
-rounds-holds : tie.Need-rounds-holds Inv-loop μ-loop Inv-rounds μ-rounds
-rounds-holds c = (omega arith, refl, c .before .before .pre .1, rw (c .zero .ensures) most-none, rw (left-all, c .zero .ensures))
+open-to-requires : tie.Need-open-to-requires Inv-loop μ-loop Inv-rounds μ-rounds
+open-to-requires c κs = omega (arith, c .before .before .before .before .before .pre .4)
 
-any-open-requires : tie.Need-any-open-requires Inv-loop μ-loop Inv-rounds μ-rounds
-any-open-requires c κs = search needs
+rounds-holds : tie.Need-rounds-holds Inv-loop μ-loop Inv-rounds μ-rounds
+rounds-holds c =
+    let A = c .before .before .before .before .before .before .args in
+    let p = c .before .before .before .before .before .before .pre in (
+      refl,
+      record {
+        below = omega arith;
+        few = p .2;
+        full = record { steps = p .3; turns = p .4 };
+        has = p .1;
+        most = rw (c .before .before .zero .ensures) most-none;
+        last = c .open-to .ensures (now (A .step));
+        same = rw (left-all, c .before .before .zero .ensures);
+      },
+    )
 
 loop-holds : tie.Need-loop-holds Inv-loop μ-loop Inv-rounds μ-rounds
-loop-holds c = let R = c .before .before .before .rounds in (omega arith, refl, R .inv .2, most-more (8 * R .round) (8 * R .round + 0) (R .inv .3) (omega arith), rw left-all)
+loop-holds c = (refl, laps-lap _ _ _ _ _ _ _ (c .before .before .rounds .inv .1))
 
-turn-at-requires : tie.Need-turn-at-requires Inv-loop μ-loop Inv-rounds μ-rounds
-turn-at-requires c κs =
-    let v = c .before .before .before in
-    let p = v .before .before .before .before .before .before .before .pre in
-    let e = v .loop .inv .2 in
-    record { few = p .0; below = rw (← e) (omega arith); most = rw (← e) (p .2) }
+slice-read-s : tie.Need-slice-read-s Inv-loop μ-loop Inv-rounds μ-rounds
+slice-read-s c = let l = c .before .before .loop .inv .1 in rw (l .full .steps) (omega (arith, l .top, l .few))
 
-refused-requires : tie.Need-refused-requires Inv-loop μ-loop Inv-rounds μ-rounds
-refused-requires c κs = search needs
-
-refusal-requires : tie.Need-refusal-requires Inv-loop μ-loop Inv-rounds μ-rounds
-refusal-requires c κs = search needs
-
-counted-requires : tie.Need-counted-requires Inv-loop μ-loop Inv-rounds μ-rounds
-counted-requires c κs = most-room _ (c .before .before .before .before .before .before .before .before .before .loop .inv .3) (omega arith)
+slice-read-t : tie.Need-slice-read-t Inv-loop μ-loop Inv-rounds μ-rounds
+slice-read-t c = let l = c .before .before .before .loop .inv .1 in rw (l .full .turns) (omega (arith, l .top, l .few))
 
 add-d : tie.Need-add-d Inv-loop μ-loop Inv-rounds μ-rounds
 add-d c = search needs
@@ -70,21 +77,51 @@ loop-less c = omega arith
 
 loop-again : tie.Need-loop-again Inv-loop μ-loop Inv-rounds μ-rounds
 loop-again c =
-    let u = c .before .before .before .before .before .before in
-    let v = u .before .before .before .before in
-    let A = v .before .before .before .before .before .before .before .args in
-    let L = v .loop in
-    let turn = u .turn-at in
-    let w = world (L .image) (L .c) (L .left) in
-    let o = outcomeAt (A .own) w (L .d) in
-    let goes = tested (A .own) o (turn .ensures .0) (c .before .before .refused .ensures) (c .before .if3 .left) in
-    let said = turned-is (A .own) (counting w (L .t)) (L .d) _ _ _ (turn .ensures .1) (turn .ensures .0) (c .counted .ensures) in (
-      omega arith,
-      turn .kept .0 ∙ L .inv .1,
-      L .inv .2 ∙ sym (workers-turn (A .own) w _ (L .d) o (turn .ensures .1)),
-      rw (c .counted .ensures) (most-more _ _ (most-counted _ (turn .result .answer) (L .inv .3)) (omega arith)),
-      rw (sweep-on _ _ (u .before .before .before .loop-test .taken) (A .own) (counting w (L .t)) goes, ← said) at (L .inv .4),
+    let L = c .before .before .before .before .loop in
+    let l = L .inv .1 in
+    let idle = idle-turn (standing (L .step) (L .turn)) (L .d) (rw (l .full .turns) (omega (arith, l .top, l .few))) (c .if3 .taken) in
+    (L .inv .0, lap-idle _ _ _ _ _ _ _ _ l (c .before .before .before .loop-test .taken) idle)
+
+ready-requires : tie.Need-ready-requires Inv-loop μ-loop Inv-rounds μ-rounds
+ready-requires c κs = let l = c .before .before .before .before .before .loop .inv .1 in let p = c .before .before .before .before .before .before .before .before .before .before .before .before .before .before .before .pre in record { few = p .0; below = rw (← l .has) (omega (arith, l .top)); most = rw (← l .has) (l .few) }
+
+turn-on-requires : tie.Need-turn-on-requires Inv-loop μ-loop Inv-rounds μ-rounds
+turn-on-requires c κs =
+    let l = c .before .before .before .before .before .before .before .before .before .before .before .loop .inv .1 in
+    let p = c .before .before .before .before .before .before .before .before .before .before .before .before .before .before .before .before .before .before .before .before .before .pre in (
+      record { few = p .0; below = rw (← l .has) (omega (arith, l .top)); most = rw (← l .has) (l .few) },
+      rw (l .full .steps) (omega (arith, l .top, l .few)),
+      rw (l .full .turns) (omega (arith, l .top, l .few)),
+      granted (c .before .before .before .before .before .ready .ensures) (c .before .before .before .before .if4 .left),
     )
+
+counted-requires : tie.Need-counted-requires Inv-loop μ-loop Inv-rounds μ-rounds
+counted-requires c κs = most-room _ (c .before .before .before .before .before .before .before .before .before .before .before .before .before .before .before .before .before .before .loop .inv .1 .most) (omega arith)
+
+slice-read-open-with : tie.Need-slice-read-open-with Inv-loop μ-loop Inv-rounds μ-rounds
+slice-read-open-with c =
+    let l = c .before .before .before .before .before .before .before .before .before .before .before .before .before .before .before .before .before .before .before .before .loop .inv .1 in
+    rw (c .before .before .before .before .before .before .before .before .turn-on .kept .1 .1 .0 ∙ l .full .turns) (omega (arith, l .top, l .few))
+
+open-with-requires : tie.Need-open-with-requires Inv-loop μ-loop Inv-rounds μ-rounds
+open-with-requires c κs = let l = c .before .before .before .before .before .before .before .before .before .before .before .before .before .before .before .before .before .before .before .before .loop .inv .1 in omega (arith, l .top, l .few)
+
+add-d-2 : tie.Need-add-d-2 Inv-loop μ-loop Inv-rounds μ-rounds
+add-d-2 c = search needs
+
+loop-less-2 : tie.Need-loop-less-2 Inv-loop μ-loop Inv-rounds μ-rounds
+loop-less-2 c = omega arith
+
+loop-again-2 : tie.Need-loop-again-2 Inv-loop μ-loop Inv-rounds μ-rounds
+loop-again-2 c =
+    let u = c .before .before .before .before .before .before .before .before .before .turn-on in
+    let L = c .before .before .before .before .before .before .before .before .before .before .before .before .before .before .before .before .before .before .before .before .before .loop in
+    let l = L .inv .1 in
+    let h : L .d < 8 = omega (arith, l .top, l .few) in
+    let w = world (L .image) (standing (L .step) (L .turn)) (L .left) in
+    let made = made-at _ w (L .d) (l .full) h (granted (c .before .before .before .before .before .before .before .before .before .before .before .before .before .before .before .ready .ensures) (c .before .before .before .before .before .before .before .before .before .before .before .before .before .before .if4 .left)) in
+    let full : Full (standing (u .last .1 .0) (u .last .1 .1 .0)) = record { steps = u .kept .1 .0 ∙ l .full .steps; turns = u .kept .1 .1 .0 ∙ l .full .turns } in
+    (u .kept .0 ∙ L .inv .0, lap-turn _ _ _ _ _ _ _ _ l _ _ _ _ (c .before .before .before .before .before .before .before .before .before .before .before .before .before .before .before .before .before .before .before .before .loop-test .taken) full made (u .ensures .0) (u .ensures .1) (c .before .before .counted .ensures) (c .open-with .ensures))
 
 add-round : tie.Need-add-round Inv-loop μ-loop Inv-rounds μ-rounds
 add-round c = omega arith
@@ -94,70 +131,47 @@ rounds-less c = omega arith
 
 rounds-again : tie.Need-rounds-again Inv-loop μ-loop Inv-rounds μ-rounds
 rounds-again c =
-    let x = c .before .before .before .before .before in
-    let A = x .before .before .before .args in
-    let R = x .rounds in
     let L = c .before .loop in
-    let s = counting (world (R .image) (R .c) (R .left)) (R .t) in
-    let opens = granted (c .before .before .before .before .any-open .ensures) (c .before .before .before .if1 .left) in (
-      omega arith,
-      L .inv .1 ∙ R .inv .1,
-      L .inv .2,
-      most-more _ _ (L .inv .3) (omega arith),
-      rw (rounds-on (A .own) (A .n) (A .rounds) (R .round) s (omega arith) opens, ← L .inv .4, sweep-none _ _ _ _ (c .loop-test .left), after-through) at (R .inv .4),
-    )
+    let R = c .before .before .before .before .rounds in
+    (L .inv .0 ∙ R .inv .0, laps-again _ _ _ _ _ _ _ (R .inv .1) _ _ _ (L .inv .1) (c .loop-test .left) (c .before .before .before .if1 .left) (omega arith))
 
 same-length : tie.Need-same-length Inv-loop μ-loop Inv-rounds μ-rounds
-same-length c = c .before .before .rounds .inv .1
-
-returns : tie.Need-returns Inv-loop μ-loop Inv-rounds μ-rounds
-returns c =
-    let x = c .before .before in
-    let A = x .before .before .before .args in
-    let R = x .rounds in
-    let s = counting (world (R .image) (R .c) (R .left)) (R .t) in
-    rw (rounds-idle (A .own) (A .n) _ s (denied (c .before .any-open .ensures) (c .if1 .taken))) at (R .inv .4)
+same-length c = c .before .rounds .inv .0
 
 same-length-2 : tie.Need-same-length-2 Inv-loop μ-loop Inv-rounds μ-rounds
-same-length-2 c = c .before .before .before .rounds .inv .1
-
-returns-2 : tie.Need-returns-2 Inv-loop μ-loop Inv-rounds μ-rounds
-returns-2 c =
-    let x = c .before .before .before in
-    let A = x .before .before .before .args in
-    let R = x .rounds in
-    let s = counting (world (R .image) (R .c) (R .left)) (R .t) in
-    let opens = granted (c .before .before .any-open .ensures) (c .before .if1 .left) in
-    rw (rounds-spent (A .own) (A .n) (A .rounds) (R .round) s (omega arith) opens) at (R .inv .4)
+same-length-2 c = let R = c .before .rounds in R .inv .1 .full .steps ∙ sym (c .before .before .before .before .before .before .before .before .pre .3)
 
 same-length-3 : tie.Need-same-length-3 Inv-loop μ-loop Inv-rounds μ-rounds
-same-length-3 c =
-    let t = c .before .before .before .before .before .before in
-    let v = t .before .before .before .before in
-    t .turn-at .kept .0 ∙ (v .loop .inv .1 ∙ v .before .before .before .before .rounds .inv .1)
+same-length-3 c = let R = c .before .rounds in R .inv .1 .full .turns ∙ sym (c .before .before .before .before .before .before .before .before .pre .4)
+
+returns : tie.Need-returns Inv-loop μ-loop Inv-rounds μ-rounds
+returns c = laps-idle _ _ _ _ _ _ _ (c .before .rounds .inv .1) (c .if1 .taken)
+
+same-length-4 : tie.Need-same-length-4 Inv-loop μ-loop Inv-rounds μ-rounds
+same-length-4 c = c .before .before .rounds .inv .0
+
+same-length-5 : tie.Need-same-length-5 Inv-loop μ-loop Inv-rounds μ-rounds
+same-length-5 c = let R = c .before .before .rounds in R .inv .1 .full .steps ∙ sym (c .before .before .before .before .before .before .before .before .before .pre .3)
+
+same-length-6 : tie.Need-same-length-6 Inv-loop μ-loop Inv-rounds μ-rounds
+same-length-6 c = let R = c .before .before .rounds in R .inv .1 .full .turns ∙ sym (c .before .before .before .before .before .before .before .before .before .pre .4)
+
+returns-2 : tie.Need-returns-2 Inv-loop μ-loop Inv-rounds μ-rounds
+returns-2 c = laps-spent _ _ _ _ _ _ _ (c .before .before .rounds .inv .1) (omega arith) (c .before .if1 .left)
+
+same-length-7 : tie.Need-same-length-7 Inv-loop μ-loop Inv-rounds μ-rounds
+same-length-7 c = c .before .before .before .before .before .before .before .loop .inv .0 ∙ c .before .before .before .before .before .before .before .before .before .before .rounds .inv .0
+
+same-length-8 : tie.Need-same-length-8 Inv-loop μ-loop Inv-rounds μ-rounds
+same-length-8 c = c .before .before .before .before .before .before .before .loop .inv .1 .full .steps ∙ sym (c .before .before .before .before .before .before .before .before .before .before .before .before .before .before .before .before .before .pre .3)
+
+same-length-9 : tie.Need-same-length-9 Inv-loop μ-loop Inv-rounds μ-rounds
+same-length-9 c = c .before .before .before .before .before .before .before .loop .inv .1 .full .turns ∙ sym (c .before .before .before .before .before .before .before .before .before .before .before .before .before .before .before .before .before .pre .4)
 
 returns-3 : tie.Need-returns-3 Inv-loop μ-loop Inv-rounds μ-rounds
 returns-3 c =
-    let h = c .before in
-    let u = h .before .before .before .before .before in
-    let v = u .before .before .before .before in
-    let x = v .before .before .before .before in
-    let A = x .before .before .before .args in
-    let R = x .rounds in
-    let L = v .loop in
-    let turn = u .turn-at in
-    let w = world (L .image) (L .c) (L .left) in
-    let o = outcomeAt (A .own) w (L .d) in
-    let s = counting (world (R .image) (R .c) (R .left)) (R .t) in
-    let halts = tested (A .own) o (turn .ensures .0) (h .before .refused .ensures) (h .if3 .taken) in
-    let opens = granted (v .before .before .before .any-open .ensures) (v .before .before .if1 .left) in
-    rw (c .refusal .ensures, turn .ensures .0, turn .ensures .1, refused-leaves (A .own) w (L .d) o halts)
-    (rw (
-      rounds-on (A .own) (A .n) (A .rounds) (R .round) s (omega arith) opens,
-      ← L .inv .4,
-      sweep-halts _ _ (u .before .before .before .loop-test .taken) (A .own) (counting w (L .t)) halts,
-      after-halted,
-    ) at (R .inv .4))
+    let halts = lap-halts _ _ _ _ _ _ _ _ (c .before .before .before .before .before .before .before .loop .inv .1) (c .before .before .before .before .before .before .loop-test .taken) (c .before .before .before .if3 .left) (denied (c .before .ready .ensures) (c .if4 .taken)) in
+    laps-halts _ _ _ _ _ _ _ (c .before .before .before .before .before .before .before .before .before .before .rounds .inv .1) _ _ (c .before .before .before .before .before .before .before .before .before .if1 .left) (omega arith) halts
 
 pub rounds-of-spec : {M : Type 1} → statement M
 rounds-of-spec =
@@ -168,22 +182,34 @@ rounds-of-spec =
     Inv-rounds
     μ-rounds
     zero-requires
+    open-to-requires
     rounds-holds
-    any-open-requires
     loop-holds
-    turn-at-requires
-    refused-requires
-    refusal-requires
-    counted-requires
+    slice-read-s
+    slice-read-t
     add-d
     loop-less
     loop-again
+    ready-requires
+    turn-on-requires
+    counted-requires
+    slice-read-open-with
+    open-with-requires
+    add-d-2
+    loop-less-2
+    loop-again-2
     add-round
     rounds-less
     rounds-again
     same-length
-    returns
     same-length-2
-    returns-2
     same-length-3
+    returns
+    same-length-4
+    same-length-5
+    same-length-6
+    returns-2
+    same-length-7
+    same-length-8
+    same-length-9
     returns-3)

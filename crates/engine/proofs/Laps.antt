@@ -1,0 +1,173 @@
+-- What the loops of a run keep: within a round, that the turns of the workers from d on are left of it; between rounds, that
+-- the rounds that are left are those of the whole run. One law for each way that a loop goes on or ends.
+use Prim.Native.Nat.{ℕ, suc, _+_, _*_, _-_, _<_, _≤_}
+use mathlib.Core.Path.{_≡_, refl, sym, ap, _∙_}
+use mathlib.Core.Bool.{Bool, true, false, cond}
+use mathlib.Core.Logic.{_≢_}
+use native.Mathlib.Omega.{arith}
+use lib.ListN.{length, getD}
+use lib.Dec.{eqb}
+use Rattle.base.proofs.Counting.{left-all}
+use Rattle.image.specs.Image.{at, workers}
+use Rattle.tally.specs.declared.Tally.{Tally}
+use Rattle.tally.specs.Tally.{none}
+use Rattle.engine.specs.declared.Did.{Did}
+use Rattle.engine.specs.declared.Refusal.the-variants.{Cursor as CursorRefused}
+use Rattle.engine.specs.declared.End.the-variants.{AllIdle, Spent, Halted}
+use Rattle.engine.specs.Cursor.{on, isIdle, cursorAt}
+use Rattle.engine.specs.Turn.{refused, ready, turnAt}
+use Rattle.engine.specs.World.{World, answerOf, leaves, outcomeAt, planOf, planDid, didAnswer}
+use Rattle.engine.specs.Run.{countedAs, openTo, Counting, counting, ran, through, halted, sweep, roundsOf}
+use Rattle.engine.proofs.Planned.{on-is, ready-says}
+use Rattle.engine.proofs.Standing.{Full, open-turn}
+use Rattle.engine.proofs.Turns.{Made, made-ready, made-goes, did-answers, leaves-other, workers-turn}
+use Rattle.engine.proofs.Idling.{Idle, sweep-idle, sweep-rest, to-zero, to-most, to-idle, to-none, to-some, to-cut, to-same, to-below, to-with}
+use Rattle.engine.proofs.Rounds.{Most, most-none, most-more, most-counted, turned-is, sweep-on, sweep-halts, rounds-idle, rounds-spent, rounds-on, after-through, after-halted}
+
+-- ---- the turn of an open worker
+
+abbrev pub tested : ℕ → World → ℕ → Bool
+tested own w d = ready own (at own (w .image)) d (getD (w .cursors .step) d 0) (getD (w .cursors .turn) d 0)
+
+module _ (own : ℕ) (w : World) (d : ℕ) (f : Full (w .cursors)) (h : d < 8) where
+  private-on : getD (w .cursors .turn) d 0 ≢ 255 → cursorAt (w .cursors) d ≡ on (getD (w .cursors .step) d 0) (getD (w .cursors .turn) d 0)
+  private-on o = let l : d < length (w .cursors .turn) = rw (f .turns) h in on-is (w .cursors) d l (open-turn (w .cursors) d l o)
+
+  -- ready, it is made
+  pub made-at : tested own w d ≡ true → Made (outcomeAt own w d)
+  unfolding outcomeAt
+  made-at e =
+      let z = ready-says own (at own (w .image)) d (getD (w .cursors .step) d 0) (getD (w .cursors .turn) d 0) e in
+      rw (private-on (λ q. omega (arith, z .turn, q))) (made-ready own (at own (w .image)) d (getD (w .cursors .step) d 0) (getD (w .cursors .turn) d 0) e)
+
+  -- not ready, it is refused
+  pub refused-at : getD (w .cursors .turn) d 0 ≢ 255 → tested own w d ≡ false → outcomeAt own w d ≡ refused (CursorRefused d)
+  unfolding outcomeAt turnAt
+  refused-at o e = rw (private-on o, e)
+
+-- ---- within a round: from s₀ to s, with the workers below d through, and `next` the last open one of them
+
+pub record Lap (own n to round : ℕ) (s₀ s : Counting) (next d : ℕ) : Type 0 where
+  pub below : d ≤ to
+  pub top : to ≤ n
+  pub few : n ≤ 8
+  pub full : Full (s .world .cursors)
+  pub has : n ≡ workers (s .world .image)
+  pub most : Most (8 * round + d) (s .tally)
+  pub last : next ≡ openTo d (s .world .cursors)
+  pub rest : Idle (s .world .cursors) to n
+  pub same : sweep own (n - d) d s ≡ sweep own n 0 s₀
+
+module _ (own n to round : ℕ) (s₀ s : Counting) (next d : ℕ) (l : Lap own n to round s₀ s next d) where
+  -- past an idle worker
+  pub lap-idle : d < to → isIdle (cursorAt (s .world .cursors) d) ≡ true → Lap own n to round s₀ s next (d + 1)
+  lap-idle h e =
+      record {
+        below = omega arith;
+        top = l .top;
+        few = l .few;
+        full = l .full;
+        has = l .has;
+        most = most-more (8 * round + d) (8 * round + (d + 1)) (l .most) (omega arith);
+        last = l .last ∙ sym (to-below (s .world .cursors) d e);
+        rest = l .rest;
+        same = rw (sweep-idle own n d s (omega (arith, l .top)) e) at (l .same);
+      }
+
+  -- past a turn that is made
+  pub lap-turn : (w : World) (x : Did) (t : Tally) (m : ℕ) → d < to → Full (w .cursors)
+      → Made (outcomeAt own (s .world) d)
+      → x ≡ planDid (planOf own (outcomeAt own (s .world) d))
+      → w ≡ leaves own (s .world) d (outcomeAt own (s .world) d)
+      → t ≡ countedAs (didAnswer x) (s .tally)
+      → m ≡ cond (eqb (getD (w .cursors .turn) d 0) 255) next (d + 1)
+      → Lap own n to round s₀ (counting w t) m (d + 1)
+  lap-turn w x t m h f made did left count kept =
+      let o = outcomeAt own (s .world) d in
+      let said : didAnswer x ≡ answerOf own o = ap didAnswer did ∙ did-answers own o made in
+      let turn = turned-is own s d w (didAnswer x) t left said count in
+      let others : (i : ℕ) → i ≢ d → cursorAt (w .cursors) i ≡ cursorAt (s .world .cursors) i = λ i q. rw left (leaves-other own (s .world) d i o q) in
+      let below : next ≡ openTo d (w .cursors) = l .last ∙ sym (to-same (s .world .cursors) (w .cursors) d (λ i q. others i (λ r. omega arith))) in
+      record {
+        below = omega arith;
+        top = l .top;
+        few = l .few;
+        full = f;
+        has = l .has ∙ sym (workers-turn own (s .world) w d o left);
+        most = rw count (most-more (8 * round + d + 1) (8 * round + (d + 1)) (most-counted (8 * round + d) (didAnswer x) (l .most)) (omega arith));
+        last = kept ∙ to-with (w .cursors) d next (rw (f .turns) (omega (arith, l .top, l .few))) below;
+        rest = λ i a b. rw (others i (λ r. omega arith)) (l .rest i a b);
+        same = rw (sweep-on n d (omega (arith, l .top)) own s (made-goes own o made), ← turn) at (l .same);
+      }
+
+  -- through all of them
+  pub lap-through : to ≤ d → sweep own n 0 s₀ ≡ through s
+  lap-through h =
+      let q : d ≡ to = omega (arith, l .below) in
+      sym (l .same) ∙ sweep-rest own n d s (omega (arith, l .top)) (rw q (l .rest))
+
+  pub lap-last : to ≤ d → next ≡ openTo n (s .world .cursors)
+  lap-last h =
+      let q : d ≡ to = omega (arith, l .below) in
+      l .last ∙ sym (to-cut (s .world .cursors) n d (omega (arith, l .top)) (rw q (l .rest)))
+
+  -- halted
+  pub lap-halts : d < to → getD (s .world .cursors .turn) d 0 ≢ 255 → tested own (s .world) d ≡ false → sweep own n 0 s₀ ≡ halted (CursorRefused d) s
+  lap-halts h o e =
+      let r = refused-at own (s .world) d (l .full) (omega (arith, l .top, l .few)) o e in
+      sym (l .same) ∙ (rw r at (sweep-halts n d (omega (arith, l .top)) own s (rw r refl)))
+
+-- ---- between rounds: from s₀ to s, with `to` the last open worker
+
+pub record Laps (own n rounds : ℕ) (s₀ s : Counting) (round to : ℕ) : Type 0 where
+  pub below : round ≤ rounds
+  pub few : n ≤ 8
+  pub full : Full (s .world .cursors)
+  pub has : n ≡ workers (s .world .image)
+  pub most : Most (8 * round) (s .tally)
+  pub last : to ≡ openTo n (s .world .cursors)
+  pub same : roundsOf own (rounds - round) n s ≡ roundsOf own rounds n s₀
+
+module _ (own n rounds : ℕ) (s₀ s : Counting) (round to : ℕ) (l : Laps own n rounds s₀ s round to) where
+  -- a round begins
+  pub laps-lap : Lap own n to round s s 0 0
+  laps-lap =
+      record {
+        below = omega arith;
+        top = rw (l .last) (to-most (s .world .cursors) n);
+        few = l .few;
+        full = l .full;
+        has = l .has;
+        most = most-more (8 * round) (8 * round + 0) (l .most) (omega arith);
+        last = sym (to-zero (s .world .cursors));
+        rest = rw (l .last) (to-idle (s .world .cursors) n);
+        same = rw left-all;
+      }
+
+  -- and ends
+  pub laps-again : (v : Counting) (next d : ℕ) → Lap own n to round s v next d → to ≤ d → to ≢ 0 → round < rounds → Laps own n rounds s₀ v (round + 1) next
+  laps-again v next d p h o r =
+      record {
+        below = omega arith;
+        few = l .few;
+        full = p .full;
+        has = p .has;
+        most = most-more (8 * round + d) (8 * (round + 1)) (p .most) (omega (arith, p .below, p .top, p .few));
+        last = lap-last own n to round s v next d p h;
+        same =
+            rw (
+              rounds-on own n rounds round s r (to-some (s .world .cursors) n (λ q. o (l .last ∙ q))),
+              lap-through own n to round s v next d p h,
+              after-through,
+            ) at (l .same);
+      }
+
+  -- all are idle, the rounds are spent, or a turn is refused
+  pub laps-idle : to ≡ 0 → ran AllIdle s ≡ roundsOf own rounds n s₀
+  laps-idle o = rw (rounds-idle own n (rounds - round) s (to-none (s .world .cursors) n (sym (l .last) ∙ o))) at (l .same)
+
+  pub laps-spent : rounds ≤ round → to ≢ 0 → ran Spent s ≡ roundsOf own rounds n s₀
+  laps-spent h o = rw (rounds-spent own n rounds round s h (to-some (s .world .cursors) n (λ q. o (l .last ∙ q)))) at (l .same)
+
+  pub laps-halts : (v : Counting) (d : ℕ) → to ≢ 0 → round < rounds → sweep own n 0 s ≡ halted (CursorRefused d) v → ran (Halted (CursorRefused d)) v ≡ roundsOf own rounds n s₀
+  laps-halts v d o r e = rw (rounds-on own n rounds round s r (to-some (s .world .cursors) n (λ q. o (l .last ∙ q))), e, after-halted) at (l .same)
