@@ -18,7 +18,7 @@ use Rattle.image.specs.Image.{Image, at, workers, putAll}
 use Rattle.image.proofs.Lists.{putAll-append}
 use Rattle.recovery.specs.declared.Repair.{Repair}
 use Rattle.recovery.specs.Recovery.{_≔_, owed, intended, unlocks, intents, withdraws, relocks, allRelocks, plan}
-use Rattle.recovery.specs.Repair.{eight, owedAt, unbegun, freedBy, withdrawnBy, repairOf, noRepair, lockSlot, intentSlot, withdrawSlot, relockSlot, slotAt, slots, slotOf, slotPut, slotLeft}
+use Rattle.recovery.specs.Repair.{eight, owedAt, unbegun, freedBy, withdrawnBy, repairOf, noRepair, lockSlot, intentSlot, withdrawSlot, relockSlot, lockStores, slotAt, slots, slotOf, slotPut, slotLeft}
 use Rattle.recovery.proofs.Sets.{eight-at, freed-has, withdrawn-has, withdrawn-past, owed-inside, owed-outside}
 
 -- ---- one slot
@@ -60,26 +60,31 @@ left-slot n left (s ∷ (t ∷ ss)) h = absurd h
 
 -- ---- a loop over the slots
 
-module _ (r : Repair) where
-  pub slots-step : (c : ℕ) → c < 592 → slots r c (592 - c) ≡ slotAt r c ++ slots r (c + 1) (592 - (c + 1))
-  unfolding slots
-  slots-step c h = rw (left-step 592 c h)
+module _ (r : Repair) (a k d : ℕ) where
+  -- the slots that are left of k from slot a on, after d of them
 
-  pub slots-end : (c : ℕ) → 592 ≤ c → slots r c (592 - c) ≡ []
+  slots-step : d < k → slots r (a + d) (k - d) ≡ slotAt r (a + d) ++ slots r (a + (d + 1)) (k - (d + 1))
   unfolding slots
-  slots-end c h = rw (left-none 592 c h)
+  slots-step h =
+      let e : a + (d + 1) ≡ a + d + 1 = omega arith in
+      rw (left-step k d h, e)
 
-  module _ (n c : ℕ) (h : c < 592) where
-    pub image-step : (left left′ : ℕ) (m m′ : Image) → m′ ≡ slotPut left m (slotOf n (slotAt r c)) → left′ ≡ slotLeft left (slotOf n (slotAt r c))
-        → putAll n left′ m′ (slots r (c + 1) (592 - (c + 1))) ≡ putAll n left m (slots r c (592 - c))
+  pub slots-end : k ≤ d → slots r (a + d) (k - d) ≡ []
+  unfolding slots
+  slots-end h = rw (left-none k d h)
+
+  module _ (n : ℕ) (h : d < k) where
+    pub image-step : (left left′ : ℕ) (m m′ : Image) → m′ ≡ slotPut left m (slotOf n (slotAt r (a + d))) → left′ ≡ slotLeft left (slotOf n (slotAt r (a + d)))
+        → putAll n left′ m′ (slots r (a + (d + 1)) (k - (d + 1))) ≡ putAll n left m (slots r (a + d) (k - d))
     image-step left left′ m m′ p q =
-        rw (p, q, slots-step c h, put-slot n left m (slotAt r c) (slot-single r c), left-slot n left (slotAt r c) (slot-single r c))
-        (sym (putAll-append n left m (slotAt r c) (slots r (c + 1) (592 - (c + 1)))))
+        rw (p, q, slots-step h, put-slot n left m (slotAt r (a + d)) (slot-single r (a + d)), left-slot n left (slotAt r (a + d)) (slot-single r (a + d)))
+        (sym (putAll-append n left m (slotAt r (a + d)) (slots r (a + (d + 1)) (k - (d + 1)))))
 
-    pub left-step-slot : (left left′ : ℕ) → left′ ≡ slotLeft left (slotOf n (slotAt r c))
-        → left′ - length (slots r (c + 1) (592 - (c + 1))) ≡ left - length (slots r c (592 - c))
+    pub left-step-slot : (left left′ : ℕ) → left′ ≡ slotLeft left (slotOf n (slotAt r (a + d)))
+        → left′ - length (slots r (a + (d + 1)) (k - (d + 1))) ≡ left - length (slots r (a + d) (k - d))
     left-step-slot left left′ q =
-        rw (q, slots-step c h, left-slot n left (slotAt r c) (slot-single r c), length-append (slotAt r c) (slots r (c + 1) (592 - (c + 1)))) (omega arith)
+        rw (q, slots-step h, left-slot n left (slotAt r (a + d)) (slot-single r (a + d)), length-append (slotAt r (a + d)) (slots r (a + (d + 1)) (k - (d + 1))))
+        (omega arith)
 
 -- ---- the slots of a range
 
@@ -115,13 +120,13 @@ module _ (r : Repair) where
   unfolding slotAt
   slot-unlock c h = rw (lt-ltb c 64 h)
 
-  slot-intent : (c d : ℕ) → c ≡ 64 + d → d < 8 → slotAt r c ≡ intentSlot r d
+  pub slot-intent : (c d : ℕ) → c ≡ 64 + d → d < 8 → slotAt r c ≡ intentSlot r d
   unfolding slotAt
   slot-intent c d q h =
       let e : 64 + d - 64 ≡ d = omega arith in
       rw (q, le-ltb (64 + d) 64 (omega arith), lt-ltb (64 + d) 72 (omega arith), e)
 
-  slot-withdraw : (c d : ℕ) → c ≡ 72 + d → d < 8 → slotAt r c ≡ withdrawSlot r d
+  pub slot-withdraw : (c d : ℕ) → c ≡ 72 + d → d < 8 → slotAt r c ≡ withdrawSlot r d
   unfolding slotAt
   slot-withdraw c d q h =
       let e : 72 + d - 72 ≡ d = omega arith in
@@ -133,6 +138,65 @@ module _ (r : Repair) where
       let e : (c - 80) / 64 ≡ d = omega arith in
       let f : (c - 80) % 64 ≡ b = omega arith in
       rw (le-ltb c 64 (omega arith), le-ltb c 72 (omega arith), le-ltb c 80 (omega arith), lt-ltb c 592 (omega arith), e, f)
+
+  -- ---- the stages as the code makes them
+
+  unlock-stores : (k b : ℕ) → b + k ≤ 64 → slots r b k ≡ lockStores (r .freed) 0 b k
+  unfolding slots lockStores
+  unlock-stores zero b h = refl
+  unlock-stores (suc k) b h = rw (slot-unlock b (omega arith), unlock-stores k (b + 1) (omega arith))
+
+  relock-stores : (k b d c : ℕ) → c ≡ 80 + 64 * d + b → d < 8 → b + k ≤ 64 → slots r c k ≡ lockStores (getD (r .owed) d 0) (d + 1) b k
+  unfolding slots lockStores
+  relock-stores zero b d c q h g = refl
+  relock-stores (suc k) b d c q h g = rw (slot-relock c d b q h (omega arith), relock-stores k (b + 1) d (c + 1) (omega arith) h (omega arith))
+
+  -- the relocks that are left after those of d workers
+  abbrev Relocks : ℕ → List Store
+  Relocks d = slots r (80 + 64 * d) (512 - 64 * d)
+
+  relocks-step : (d : ℕ) → d < 8 → Relocks d ≡ lockStores (getD (r .owed) d 0) (d + 1) 0 64 ++ Relocks (d + 1)
+  relocks-step d h =
+      rw (
+        slots-at (80 + 64 * d) 64 (512 - 64 * (d + 1)) (80 + 64 * (d + 1)) (512 - 64 * d) (omega arith) (omega arith),
+        relock-stores 64 0 d (80 + 64 * d) (omega arith) h (omega arith),
+      )
+
+  pub relocks-end : (d : ℕ) → 8 ≤ d → Relocks d ≡ []
+  unfolding slots
+  relocks-end d h = let e : 512 - 64 * d ≡ 0 = omega arith in rw e
+
+  module _ (n d : ℕ) (h : d < 8) (left left′ : ℕ) (q : left′ ≡ left - length (lockStores (getD (r .owed) d 0) (d + 1) 0 64)) where
+    pub image-relock : (m m′ : Image) → m′ ≡ putAll n left m (lockStores (getD (r .owed) d 0) (d + 1) 0 64) → putAll n left′ m′ (Relocks (d + 1)) ≡ putAll n left m (Relocks d)
+    image-relock m m′ p = rw (p, q, relocks-step d h) (sym (putAll-append n left m (lockStores (getD (r .owed) d 0) (d + 1) 0 64) (Relocks (d + 1))))
+
+    pub left-relock : left′ - length (Relocks (d + 1)) ≡ left - length (Relocks d)
+    left-relock = rw (q, relocks-step d h, length-append (lockStores (getD (r .owed) d 0) (d + 1) 0 64) (Relocks (d + 1))) (omega arith)
+
+  stages : slots r 0 592 ≡ lockStores (r .freed) 0 0 64 ++ (slots r 64 8 ++ (slots r 72 8 ++ slots r 80 512))
+  stages =
+      rw (
+        slots-at 0 64 528 64 592 refl refl,
+        unlock-stores 64 0 (omega arith),
+        slots-at 64 8 520 72 528 refl refl,
+        slots-at 72 8 512 80 520 refl refl,
+      )
+
+  -- what the four stages leave, one after the other
+  pub stages-leave : (n left left₁ left₂ left₃ left₄ : ℕ) (m m₁ m₂ m₃ m₄ : Image)
+      → m₁ ≡ putAll n left m (lockStores (r .freed) 0 0 64) → left₁ ≡ left - length (lockStores (r .freed) 0 0 64)
+      → m₂ ≡ putAll n left₁ m₁ (slots r 64 8) → left₂ ≡ left₁ - length (slots r 64 8)
+      → m₃ ≡ putAll n left₂ m₂ (slots r 72 8) → left₃ ≡ left₂ - length (slots r 72 8)
+      → m₄ ≡ putAll n left₃ m₃ (slots r 80 512) → left₄ ≡ left₃ - length (slots r 80 512)
+      → (m₄ ≡ putAll n left m (slots r 0 592)) × (left₄ ≡ left - length (slots r 0 592))
+  stages-leave n left left₁ left₂ left₃ left₄ m m₁ m₂ m₃ m₄ p₁ q₁ p₂ q₂ p₃ q₃ p₄ q₄ =
+      let A = lockStores (r .freed) 0 0 64 in
+      let B = slots r 64 8 in
+      let C = slots r 72 8 in
+      let D = slots r 80 512 in (
+        rw (stages, putAll-append n left m A (B ++ (C ++ D)), ← q₁, ← p₁, putAll-append n left₁ m₁ B (C ++ D), ← q₂, ← p₂, putAll-append n left₂ m₂ C D, ← q₃, ← p₃) p₄,
+        rw (stages, length-append A (B ++ (C ++ D)), length-append B (C ++ D), length-append C D) (omega arith),
+      )
 
 -- ---- the four stages
 

@@ -118,6 +118,11 @@ unfoldable pub slots : Repair → ℕ → ℕ → List Store
 slots r c zero = []
 slots r c (suc k) = slotAt r c ++ slots r (c + 1) k
 
+-- a store of v in the owner word of each lock of a set, of k locks from b on
+unfoldable pub lockStores : ℕ → ℕ → ℕ → ℕ → List Store
+lockStores set v b zero = []
+lockStores set v b (suc k) = lockSlot set b v ++ lockStores set v (b + 1) k
+
 -- how the code says a slot
 abbrev pub slotOf : ℕ → List Store → Slot
 slotOf n [] = Empty

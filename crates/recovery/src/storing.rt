@@ -6,7 +6,7 @@ ghost use mathlib.Core.Path.{_≡_};
 ghost use Prim.Native.Nat.{ℕ, _-_, _<_, _≤_};
 ghost use lib.ListN.{length};
 ghost use Rattle.image.specs.Image.{putAll};
-ghost use Rattle.recovery.specs.Repair.{lockSlot, intentSlot, withdrawSlot, relockSlot, slotAt, slots, slotOf, slotPut, slotLeft};
+ghost use Rattle.recovery.specs.Repair.{lockSlot, intentSlot, withdrawSlot, relockSlot, lockStores, slotAt, slots, slotOf, slotPut, slotLeft};
 
 // A store in lock b's owner word, where b is in the set.
 fn lock_slot(set: u64, b: u64, value: u64) -> Slot
@@ -89,15 +89,65 @@ fn store_slot(image: &mut [u64], s: Slot, left: &mut u64)
     }
 }
 
+// Stores a value in the owner word of each lock of a set, rising.
+fn store_locks(image: &mut [u64], set: u64, value: u64, left: &mut u64)
+    ensures image { λ _. ⌜ ((n : ℕ) → now (image .exit) ≡ putAll n (now (left .entry)) (now (image .entry)) (lockStores set value 0 64)) ⌝ }
+    ensures left { λ _. ⌜ now (left .exit) ≡ now (left .entry) - length (lockStores set value 0 64) ⌝ }
+{
+    let mut rest = set;
+    while rest != 0 {
+        let b = u64::trailing_zeros(rest) as u64;
+        image::store(image, image::lock_index(b), value, left);
+        rest = mask::without(rest, b);
+    }
+}
+
+// Stores the intents.
+fn store_intents(image: &mut [u64], r: Repair, own: usize, left: &mut u64)
+    requires { ⌜ own ≤ 64 ⌝ }
+    ensures image { λ _. ⌜ now (image .exit) ≡ putAll own (now (left .entry)) (now (image .entry)) (slots r 64 8) ⌝ }
+    ensures left { λ _. ⌜ now (left .exit) ≡ now (left .entry) - length (slots r 64 8) ⌝ }
+{
+    let mut d: usize = 0;
+    while d < 8 {
+        store_slot(image, intent_slot(r, d, own), left);
+        d += 1;
+    }
+}
+
+// Withdraws the sections that are not begun.
+fn store_withdrawals(image: &mut [u64], r: Repair, own: usize, left: &mut u64)
+    requires { ⌜ own ≤ 64 ⌝ }
+    ensures image { λ _. ⌜ now (image .exit) ≡ putAll own (now (left .entry)) (now (image .entry)) (slots r 72 8) ⌝ }
+    ensures left { λ _. ⌜ now (left .exit) ≡ now (left .entry) - length (slots r 72 8) ⌝ }
+{
+    let mut d: usize = 0;
+    while d < 8 {
+        store_slot(image, withdraw_slot(r, d, own), left);
+        d += 1;
+    }
+}
+
+// Gives each worker the locks that it is owed.
+fn store_relocks(image: &mut [u64], r: Repair, left: &mut u64)
+    ensures image { λ _. ⌜ ((n : ℕ) → now (image .exit) ≡ putAll n (now (left .entry)) (now (image .entry)) (slots r 80 512)) ⌝ }
+    ensures left { λ _. ⌜ now (left .exit) ≡ now (left .entry) - length (slots r 80 512) ⌝ }
+{
+    let mut d: usize = 0;
+    while d < 8 {
+        store_locks(image, r.owed[d], d as u64 + 1, left);
+        d += 1;
+    }
+}
+
 // Makes the stores of a repair.
 pub fn store_all(image: &mut [u64], r: Repair, own: usize, left: &mut u64)
     requires { ⌜ own ≤ 64 ⌝ }
     ensures image { λ _. ⌜ now (image .exit) ≡ putAll own (now (left .entry)) (now (image .entry)) (slots r 0 592) ⌝ }
     ensures left { λ _. ⌜ now (left .exit) ≡ now (left .entry) - length (slots r 0 592) ⌝ }
 {
-    let mut c: usize = 0;
-    while c < 592 {
-        store_slot(image, slot_at(r, c, own), left);
-        c += 1;
-    }
+    store_locks(image, r.freed, 0, left);
+    store_intents(image, r, own, left);
+    store_withdrawals(image, r, own, left);
+    store_relocks(image, r, left);
 }

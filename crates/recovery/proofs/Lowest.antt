@@ -1,0 +1,108 @@
+-- The lowest lock of a set that is not empty is at its trailing zeros, and its stores are the store of that lock and
+-- those of the set without it. So a loop that takes the lowest lock out, and stores, makes the stores of the whole set.
+use Prim.Native.Nat.{ℕ, zero, suc, _+_, _-_, _*_, _/_, _%_, _^_, _<_, _≤_}
+use mathlib.Core.Path.{_≡_, refl, sym, ap, _∙_}
+use mathlib.Core.Bool.{true, false, true≢false}
+use mathlib.Core.List.{[], _∷_, _++_}
+use native.Mathlib.Omega.{arith}
+use native.Mathlib.Nat.{mod-lt}
+use native.Mathlib.Decide.{decLt, ℕ-discrete}
+use lib.Count.{trailingZeros, under}
+use lib.Dec.{eqb}
+use lib.ListN.{length}
+use Rattle.mask.specs.Mask.{has, without}
+use Rattle.mask.proofs.Laws.{has-zero, has-suc, has-none, has-without, has-without-other}
+use Rattle.mask.proofs.Sets.{no-members}
+use Rattle.image.specs.Place.{lock, Store}
+use Rattle.image.specs.Image.{Image, indexOf, put, putAll}
+use Rattle.image.proofs.Lists.{putAll-nil, putAll-cons}
+use Rattle.recovery.specs.Recovery.{_≔_}
+use Rattle.recovery.specs.Repair.{lockSlot, lockStores}
+
+-- ---- the trailing zeros
+
+private-below : (m r t b : ℕ) → m % 2 ≡ r → b < under r t → ((c : ℕ) → c < t → has (m / 2) c ≡ false) → has m b ≡ false
+private-below m zero t zero e h rest = has-zero m ∙ ap (λ (n : ℕ). eqb n 1) e
+private-below m zero t (suc b) e h rest = has-suc m b ∙ rest b (omega arith)
+private-below m (suc r) t b e h rest = absurd (omega arith)
+
+-- no lock below them is in the set
+pub low-below : (k m b : ℕ) → b < trailingZeros k m → has m b ≡ false
+unfolding trailingZeros
+low-below zero m b h = absurd (omega arith)
+low-below (suc k) m b h = private-below m (m % 2) (trailingZeros k (m / 2)) b refl h (low-below k (m / 2))
+
+private-has : (k m r t : ℕ) → m % 2 ≡ r → under r t < suc k → (t < k → has (m / 2) t ≡ true) → has m (under r t) ≡ true
+private-has k m zero t e h rest = has-suc m t ∙ rest (omega arith)
+private-has k m (suc zero) t e h rest = has-zero m ∙ ap (λ (n : ℕ). eqb n 1) e
+private-has k m (suc (suc r)) t e h rest = let l : m % 2 < 2 = mod-lt m (omega arith) in absurd (omega arith)
+
+-- the lock at them is
+pub low-has : (k m : ℕ) → trailingZeros k m < k → has m (trailingZeros k m) ≡ true
+unfolding trailingZeros
+low-has zero m h = absurd (omega arith)
+low-has (suc k) m h = private-has k m (m % 2) (trailingZeros k (m / 2)) refl h (low-has k (m / 2))
+
+-- and there is one, where the set is not empty
+pub low-some : (m : ℕ) → m < 2 ^ 64 → (m ≡ 0 → ⊥) → trailingZeros 64 m < 64
+low-some m w h = by (decLt (trailingZeros 64 m) 64)
+  where
+    by : Dec (trailingZeros 64 m < 64) → trailingZeros 64 m < 64
+    by (yes l) = l
+    by (no n) = absurd (h (no-members m w (λ b l. low-below 64 m b (omega arith))))
+
+-- ---- the stores of a set
+
+stores-same : (s t v k c : ℕ) → ((i : ℕ) → c ≤ i → has s i ≡ has t i) → lockStores s v c k ≡ lockStores t v c k
+unfolding lockStores
+stores-same s t v zero c h = refl
+stores-same s t v (suc k) c h = rw (h c (omega arith), stores-same s t v k (c + 1) (λ i l. h i (omega arith)))
+
+stores-next : (s v b : ℕ) → has s b ≡ true → ((i : ℕ) → i < b → has s i ≡ false) → (k c : ℕ) → c ≤ b → b < c + k
+    → lockStores s v c k ≡ (lock b ≔ v) ∷ lockStores (without s b) v c k
+unfolding lockStores
+stores-next s v b e h zero c l g = absurd (omega arith)
+stores-next s v b e h (suc k) c l g = by (ℕ-discrete c b) (λ less. stores-next s v b e h k (c + 1) less (omega arith))
+  where
+    by : Dec (c ≡ b) → (c + 1 ≤ b → lockStores s v (c + 1) k ≡ (lock b ≔ v) ∷ lockStores (without s b) v (c + 1) k)
+        → lockSlot s c v ++ lockStores s v (c + 1) k ≡ (lock b ≔ v) ∷ (lockSlot (without s b) c v ++ lockStores (without s b) v (c + 1) k)
+    by (yes p) rest = rw (p, e, has-without s b, stores-same s (without s b) v k (b + 1) (λ i l. sym (has-without-other s b i (λ q. omega arith))))
+    by (no p) rest = rw (has-without-other s b c (λ q. p (sym q)), h c (omega arith), rest (omega arith))
+
+stores-none : (v k c : ℕ) → lockStores 0 v c k ≡ []
+unfolding lockStores
+stores-none v zero c = refl
+stores-none v (suc k) c = rw (has-none c, stores-none v k (c + 1))
+
+module _ (s v : ℕ) (z : s ≡ 0) where
+  pub image-none : (n left : ℕ) (m : Image) → putAll n left m (lockStores s v 0 64) ≡ m
+  image-none n left m = rw (z, stores-none v 64 0) (putAll-nil n left m)
+
+  pub left-none : (left : ℕ) → left - length (lockStores s v 0 64) ≡ left
+  left-none left = rw (z, stores-none v 64 0) (omega arith)
+
+module _ (s : ℕ) (w : s < 2 ^ 64) (h : s ≡ 0 → ⊥) where
+  abbrev Low : ℕ
+  Low = trailingZeros 64 s
+
+  pub locks-next : (v : ℕ) → lockStores s v 0 64 ≡ (lock Low ≔ v) ∷ lockStores (without s Low) v 0 64
+  locks-next v = stores-next s v Low (low-has 64 s (low-some s w h)) (low-below 64 s) 64 0 (omega arith) (low-some s w h)
+
+  private-fewer : without s Low ≤ s
+  unfolding without
+  private-fewer = rw (low-has 64 s (low-some s w h)) (omega arith)
+
+  -- the set that is left is smaller
+  pub less-without : without s Low < s
+  less-without =
+      let l = private-fewer in
+      let n : (without s Low ≡ s) → ⊥ = λ q. true≢false (sym (low-has 64 s (low-some s w h)) ∙ (ap (λ (m : ℕ). has m Low) (sym q) ∙ has-without s Low)) in
+      omega arith
+
+  -- ---- one store of the loop
+
+  pub image-lock : (v n left : ℕ) (m : Image) → putAll n (left - 1) (put left m (indexOf n (lock Low)) v) (lockStores (without s Low) v 0 64) ≡ putAll n left m (lockStores s v 0 64)
+  image-lock v n left m = rw (locks-next v) (sym (putAll-cons n left m (lock Low ≔ v) (lockStores (without s Low) v 0 64)))
+
+  pub left-lock : (v left : ℕ) → left - 1 - length (lockStores (without s Low) v 0 64) ≡ left - length (lockStores s v 0 64)
+  left-lock v left = rw (locks-next v) (omega arith)
