@@ -9,11 +9,12 @@ use native.Mathlib.Decide.{ℕ-discrete}
 use native.Mathlib.Numerals.{add-one}
 use native.Mathlib.Omega.{arith}
 use lib.Dec.{leb, ltb, eqb}
+use lib.ListN.{length, List·getD-eq-default}
 use Rattle.base.proofs.Bools.{and-left, and-right}
 use Rattle.base.proofs.Counting.{left-step, left-none}
 use Rattle.image.specs.declared.Field.the-variants.{Count, Pc, Intent, Owned, Number, Finished}
-use Rattle.image.specs.Place.{field, Memory}
-use Rattle.image.specs.Image.{Image, at, workers, Inside}
+use Rattle.image.specs.Place.{field, step, valid, Memory}
+use Rattle.image.specs.Image.{Image, indexOf, at, workers, Inside}
 use Rattle.section.specs.declared.Op.{Op}
 use Rattle.section.specs.declared.Op.the-variants.{Acquire, Release, Assign, Jump, Finish, Unknown}
 use Rattle.section.specs.declared.Verdict.{Verdict}
@@ -23,7 +24,7 @@ use Rattle.section.specs.Check.{Code, inRange, heldAfter, heldBefore, check, pa
 use Rattle.section.proofs.Facts.{check-parts}
 use Rattle.section.proofs.Held.{held-step}
 use Rattle.section.proofs.Passing.{passed-is}
-use Rattle.engine.proofs.Planned.{formed-range}
+use Rattle.engine.proofs.Planned.{formed-range, range-kind}
 use Rattle.engine.specs.Turn.{codeIn}
 use Rattle.recovery.specs.Recovery.{namedStep, namedOp, heldNext, owedBy, owed, sectionOk, entryOk, pcOk, covers, sound, unsound}
 use Rattle.recovery.specs.Repair.{Legible, Restorable, owedOf}
@@ -127,6 +128,35 @@ check-long n k code h = rw (lt-leb k 64 h) (by (leb 3 k) _)
     by : (b : Bool) (v : Verdict) → passes (cond (b && false) v Length) ≡ false
     by true v = refl
     by false v = refl
+
+-- ---- words past the end of the image
+
+private-zero : (b : Bool) → cond {A = ℕ} b 0 0 ≡ 0
+private-zero true = refl
+private-zero false = refl
+
+-- they are 0
+word-past : (n : ℕ) (m : Image) (d i : ℕ) → length m ≤ indexOf n (step d i) → codeIn n (at n m) d i ≡ 0
+unfolding at
+word-past n m d i h = rw (List·getD-eq-default m 0 h) (private-zero (valid (workers m) n (step d i)))
+
+-- which is no instruction
+no-word : (n w : ℕ) → w ≡ 0 → inRange n w ≡ true → ⊥
+no-word n w z e =
+    let p = range-kind n w e .0 in
+    omega arith
+
+-- so a section that reaches past the end does not pass
+pub check-past : (n : ℕ) (m : Image) (d k : ℕ) → length m < indexOf n (step d 0) + k → passes (check n k (codeIn n (at n m) d)) ≡ false
+unfolding indexOf
+check-past n m d k h = by (passes (check n k (codeIn n (at n m) d))) refl
+  where
+    by : (t : Bool) → passes (check n k (codeIn n (at n m) d)) ≡ t → t ≡ false
+    by false e = refl
+    by true e =
+        let p = check-parts n k (codeIn n (at n m) d) (passed-is (check n k (codeIn n (at n m) d)) e) in
+        let l : k - 1 < k = omega arith in
+        absurd (no-word n (codeIn n (at n m) d (k - 1)) (word-past n m d (k - 1) (omega arith)) (formed-range n k (k - 1) (codeIn n (at n m) d (k - 1)) (p .2 (k - 1) l)))
 
 -- ---- all records
 

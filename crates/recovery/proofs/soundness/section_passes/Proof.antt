@@ -1,5 +1,5 @@
 -- `recovery::soundness::section_passes` meets its contract. The loop's invariant: the first i words are the record's;
--- the check reads no others.
+-- the check reads no others. A section that reaches past the end of the image does not pass.
 use Prim.Native.Nat.{ℕ, _-_, _≤_, _<_}
 use borrow.Author.Needs.{needs}
 use mathlib.Core.Path.{_≡_, refl, sym, ap, _∙_}
@@ -8,10 +8,12 @@ use denote.Ref.{now}
 use lib.Seq.{length-take-le, getD-take}
 use lib.ListN.{length, getD, take, length-set}
 use Rattle.base.proofs.Filling.{filled-next}
-use Rattle.image.specs.Image.{at}
+use Rattle.image.proofs.Apart.{record-small}
+use Rattle.image.specs.Image.{at, indexOf}
 use Rattle.section.proofs.Facts.{check-cong}
 use Rattle.section.specs.Check.{codeOf, check, passes}
 use Rattle.engine.specs.Turn.{codeIn}
+use Rattle.recovery.proofs.Records.{check-past}
 use Rattle.recovery.proofs.soundness.section_passes.Statement.{statement}
 use Rattle.recovery.proofs.soundness.section_passes.Tie as tie
 
@@ -22,11 +24,33 @@ Inv-loop image d k own words₀ i₀ words i =
 abbrev μ-loop : tie.MeasureT-loop
 μ-loop image d k own words₀ i₀ words i = k - i
 
+step-index-requires : tie.Need-step-index-requires Inv-loop μ-loop
+step-index-requires c κs =
+    let p = c .before .pre .0 in
+    let b = p .below in
+    let m = p .most in
+    (omega arith, omega arith, p .few)
+
+add-if1 : tie.Need-add-if1 Inv-loop μ-loop
+unfolding indexOf
+add-if1 c =
+    let A = c .before .before .args in
+    let p = c .before .before .pre .0 in
+    let b = p .below in
+    let m = p .most in
+    let l = record-small (A .own) (A .d) (omega arith) (p .few) in
+    omega (arith, c .step-index .ensures)
+
+returns : tie.Need-returns Inv-loop μ-loop
+returns c =
+    let A = c .before .before .before .args in
+    sym (check-past (A .own) (now (A .image)) (A .d) (A .k) (rw (c .before .step-index .ensures) at (c .if1 .taken)))
+
 loop-holds : tie.Need-loop-holds Inv-loop μ-loop
 loop-holds c = (omega arith, refl, λ j l. absurd (omega arith))
 
 read-step-requires : tie.Need-read-step-requires Inv-loop μ-loop
-read-step-requires c κs = (c .before .before .before .pre .0, omega arith)
+read-step-requires c κs = (c .before .before .before .before .before .pre .0, omega arith)
 
 mul-words : tie.Need-mul-words Inv-loop μ-loop
 mul-words c = omega arith
@@ -42,7 +66,7 @@ loop-less c = omega arith
 
 loop-again : tie.Need-loop-again Inv-loop μ-loop
 loop-again c =
-    let A = c .before .before .before .before .args in
+    let A = c .before .before .before .before .before .before .args in
     let L = c .before .before .loop in
     let b : L .i < length (L .words) = omega arith in (
       omega arith,
@@ -55,8 +79,8 @@ array-share-prefix-words c = omega arith
 
 slice-aggregate-check : tie.Need-slice-aggregate-check Inv-loop μ-loop
 slice-aggregate-check c =
-    let h : c .before .before .before .before .args .k ≤ length (c .before .before .loop .words) = omega arith in
-    sym (length-take-le (c .before .before .before .before .args .k) (c .before .before .loop .words) h)
+    let h : c .before .before .before .before .before .before .args .k ≤ length (c .before .before .loop .words) = omega arith in
+    sym (length-take-le (c .before .before .before .before .before .before .args .k) (c .before .before .loop .words) h)
 
 cast-check : tie.Need-cast-check Inv-loop μ-loop
 cast-check c = omega arith
@@ -67,9 +91,9 @@ check-requires c κs = search needs
 passes-requires : tie.Need-passes-requires Inv-loop μ-loop
 passes-requires c κs = search needs
 
-returns : tie.Need-returns Inv-loop μ-loop
-returns c =
-    let A = c .before .before .before .before .before .before .args in
+returns-2 : tie.Need-returns-2 Inv-loop μ-loop
+returns-2 c =
+    let A = c .before .before .before .before .before .before .before .before .args in
     let L = c .before .before .before .before .loop in
     let code = codeIn (A .own) (at (A .own) (now (A .image))) (A .d) in
     let h : A .k ≤ length (L .words) = omega arith in
@@ -85,6 +109,9 @@ section-passes-spec =
     (tie.spec
     Inv-loop
     μ-loop
+    step-index-requires
+    add-if1
+    returns
     loop-holds
     read-step-requires
     mul-words
@@ -97,4 +124,4 @@ section-passes-spec =
     cast-check
     check-requires
     passes-requires
-    returns)
+    returns-2)
