@@ -1,27 +1,27 @@
 -- The sets of a repair against the definitions: eight elements of a list are the list; the union of the intents has the
 -- locks that somebody intends; the set of the withdrawn has the workers whose section is not begun; the claimants of a
--- lock are counted in the list of the owed sets. Further, where a loop finds the lowest lock that is wrong.
+-- lock are counted in the list of the owed sets, and the locks that have one or two of them are two sets. Further, where a loop finds the lowest lock that is wrong.
 use Prim.Native.Nat.{ℕ, suc, zero, _+_, _-_, _<_, _≤_}
-use borrow.Author.Tests.{lt-ltb, le-ltb}
+use borrow.Author.Tests.{lt-ltb, le-ltb, ltb-true, ltb-false, le-leb, lt-leb}
 use mathlib.Core.Path.{_≡_, refl, sym, _∙_}
-use mathlib.Core.Bool.{Bool, true, false, cond, _&&_, not}
+use mathlib.Core.Bool.{Bool, true, false, cond, _&&_, _||_, not}
 use mathlib.Core.List.{List, [], _∷_}
 use native.Mathlib.Decide.{ℕ-discrete}
 use native.Mathlib.Numerals.{add-one}
 use native.Mathlib.Omega.{arith}
 use lib.ListN.{length, getD}
 use lib.Seq.{ext-getD}
-use lib.Bits.{bitOr}
+use lib.Bits.{bitAnd, bitOr}
 use lib.Dec.{ltb}
 use Rattle.base.proofs.Counting.{left-step, left-none}
 use Rattle.mask.specs.Mask.{has, with}
 use Rattle.mask.proofs.Laws.{has-none, has-with, has-with-other}
 use Rattle.image.specs.declared.Field.the-variants.{Intent}
-use Rattle.image.specs.Place.{field, Memory}
+use Rattle.image.specs.Place.{lock, field, Memory}
 use Rattle.engine.specs.Cursor.{stepNo, turnNo}
 use Rattle.recovery.specs.Recovery.{owed, claimants, ownerOk, lockOk, badLock, intended, resumedAt, resumedAll}
 use Rattle.recovery.specs.Repair.{eight, owedAt, claimantsIn, unbegun, freedBy, withdrawnBy}
-use Rattle.recovery.proofs.Members.{has-or}
+use Rattle.recovery.proofs.Members.{has-and, has-or}
 
 -- ---- lists of eight
 
@@ -93,14 +93,35 @@ pub claimants-next : (sets : List ℕ) (b k : ℕ) → claimantsIn sets b (k + 1
 unfolding claimantsIn
 claimants-next sets b k = rw (add-one k)
 
-pub claimants-most : (sets : List ℕ) (b k : ℕ) → claimantsIn sets b k ≤ k
-unfolding claimantsIn
-claimants-most sets b zero = omega arith
-claimants-most sets b (suc k) = let l = private-bit (has (getD sets k 0) b) in let r = claimants-most sets b k in omega arith
-  where
-    private-bit : (t : Bool) → cond {A = ℕ} t 1 0 ≤ 1
-    private-bit true = omega arith
-    private-bit false = omega arith
+-- the locks that a set has once or twice more
+
+private-once : (t u : Bool) (k : ℕ) → ltb 0 k ≡ u → (u || t) ≡ ltb 0 (cond t 1 0 + k)
+private-once true true k e = sym (lt-ltb 0 (1 + k) (omega arith))
+private-once true false k e = sym (lt-ltb 0 (1 + k) (omega arith))
+private-once false true k e = let l = ltb-true 0 k e in sym (lt-ltb 0 (0 + k) (omega arith))
+private-once false false k e = let l = ltb-false 0 k e in sym (le-ltb 0 (0 + k) (omega arith))
+
+private-twice : (t u v : Bool) (k : ℕ) → ltb 0 k ≡ u → ltb 1 k ≡ v → (v || (u && t)) ≡ ltb 1 (cond t 1 0 + k)
+private-twice t u true k e f = let l = ltb-true 1 k f in sym (lt-ltb 1 (cond t 1 0 + k) (omega arith))
+private-twice true true false k e f = let l = ltb-true 0 k e in sym (lt-ltb 1 (1 + k) (omega arith))
+private-twice true false false k e f = let l = ltb-false 0 k e in sym (le-ltb 1 (1 + k) (omega arith))
+private-twice false true false k e f = let l = ltb-false 1 k f in sym (le-ltb 1 (0 + k) (omega arith))
+private-twice false false false k e f = let l = ltb-false 1 k f in sym (le-ltb 1 (0 + k) (omega arith))
+
+module _ (sets : List ℕ) (d b once : ℕ) (e : has once b ≡ ltb 0 (claimantsIn sets b d)) where
+  pub once-next : has (bitOr once (getD sets d 0)) b ≡ ltb 0 (claimantsIn sets b (d + 1))
+  once-next =
+      rw (claimants-next sets b d, has-or once (getD sets d 0) b)
+      (private-once (has (getD sets d 0) b) (has once b) (claimantsIn sets b d) (sym e))
+
+  pub twice-next : (twice : ℕ) → has twice b ≡ ltb 1 (claimantsIn sets b d) → has (bitOr twice (bitAnd once (getD sets d 0))) b ≡ ltb 1 (claimantsIn sets b (d + 1))
+  twice-next twice f =
+      rw (claimants-next sets b d, has-or twice (bitAnd once (getD sets d 0)) b, has-and once (getD sets d 0) b)
+      (private-twice (has (getD sets d 0) b) (has once b) (has twice b) (claimantsIn sets b d) (sym e) (sym f))
+
+-- no set has a lock
+pub none-has : (sets : List ℕ) (b k : ℕ) → has 0 b ≡ ltb k (claimantsIn sets b 0)
+none-has sets b k = rw (has-none b, claimants-zero sets b) (sym (le-ltb k 0 (omega arith)))
 
 module _ (n : ℕ) (rd : Memory) (D : ℕ) where
   pub owed-inside : (d : ℕ) → d < D → owedAt n rd D d ≡ owed n rd d
@@ -113,6 +134,15 @@ module _ (n : ℕ) (rd : Memory) (D : ℕ) where
   unfolding claimantsIn claimants
   claimants-are b zero h g = refl
   claimants-are b (suc k) h g = rw (eight-at (owedAt n rd D) k (omega arith), owed-inside k (omega arith), claimants-are b k (omega arith) g)
+
+  -- a lock that one worker at most is owed, and one that two are owed
+  pub lock-single : (b : ℕ) → D ≤ 8 → claimantsIn (eight (owedAt n rd D)) b D ≤ 1 → lockOk n rd D b ≡ ownerOk n rd D b (rd (lock b))
+  unfolding lockOk
+  lock-single b few h = rw (← claimants-are b D (omega arith) few, le-leb (claimantsIn (eight (owedAt n rd D)) b D) 1 h)
+
+  pub lock-shared : (b : ℕ) → D ≤ 8 → 1 < claimantsIn (eight (owedAt n rd D)) b D → lockOk n rd D b ≡ false
+  unfolding lockOk
+  lock-shared b few h = rw (← claimants-are b D (omega arith) few, lt-leb (claimantsIn (eight (owedAt n rd D)) b D) 1 h)
 
   -- an owner word that is not 0 names the worker below it
   pub owner-named : (b w : ℕ) → (w ≡ 0 → ⊥) → ownerOk n rd D b w ≡ (ltb (w - 1) D && has (rd (field Intent (w - 1))) b)

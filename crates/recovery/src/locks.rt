@@ -7,24 +7,26 @@ ghost use Prim.Native.Nat.{ℕ, _<_, _≤_};
 ghost use lib.ListN.{length};
 ghost use Rattle.image.specs.Place.{lock};
 ghost use Rattle.image.specs.Image.{at, workers};
-ghost use Rattle.recovery.specs.Recovery.{ownerOk, lockOk, badLock};
+ghost use Rattle.recovery.specs.Recovery.{ownerOk, badLock};
 ghost use Rattle.recovery.specs.Repair.{eight, owedAt, claimantsIn};
 ghost use Rattle.recovery.specs.Recover.{byLock};
 
-// How many of the first n sets have lock b.
-fn claimants(sets: &[u64], n: usize, b: u64) -> u64
-    requires { ⌜ (n ≤ length (now sets)) × (b < 64) ⌝ }
-    ensures { λ r. ⌜ r ≡ claimantsIn (now (sets .entry)) b n ⌝ }
+// The lowest lock that two of the first n sets have; 64 where there is none.
+fn shared(sets: &[u64], n: usize) -> u64
+    requires { ⌜ n ≤ length (now sets) ⌝ }
+    ensures most { λ r. ⌜ r ≤ 64 ⌝ }
+    ensures below { λ r. ⌜ ((b : ℕ) → b < r → claimantsIn (now (sets .entry)) b n ≤ 1) ⌝ }
+    ensures here { λ r. ⌜ (r < 64 → 1 < claimantsIn (now (sets .entry)) r n) ⌝ }
 {
-    let mut k: u64 = 0;
+    let mut once: u64 = 0;
+    let mut twice: u64 = 0;
     let mut d: usize = 0;
     while d < n {
-        if mask::has(sets[d], b) {
-            k += 1;
-        }
+        twice = twice | (once & sets[d]);
+        once = once | sets[d];
         d += 1;
     }
-    k
+    u64::trailing_zeros(twice) as u64
 }
 
 // Whether lock b's owner word is 0 or names a worker that intends it.
@@ -45,28 +47,21 @@ fn owner_ok(image: &[u64], b: u64, own: usize) -> bool
     )
 }
 
-// Whether no two workers are owed lock b, and its owner word is right.
-fn lock_ok(image: &[u64], sets: &[u64], b: u64, own: usize) -> bool
-    requires { ⌜ (own ≤ 64) × (workers (now image) ≤ 8) × (b < 64) × (now sets ≡ eight (owedAt own (at own (now image)) (workers (now image)))) ⌝ }
-    ensures { λ r. ⌜ r ≡ lockOk own (at own (now (image .entry))) (workers (now (image .entry))) b ⌝ }
-{
-    if 1 < claimants(sets, image::workers(image) as usize, b) {
-        return false;
-    }
-    owner_ok(image, b, own)
-}
-
-// Whether all locks are right, or the lowest that is not.
+// Whether no two workers are owed the same lock, and each owner word is right, or the lowest lock that is wrong.
 pub fn locks(image: &[u64], sets: &[u64], own: usize) -> Answer
     requires { ⌜ (own ≤ 64) × (workers (now image) ≤ 8) × (now sets ≡ eight (owedAt own (at own (now image)) (workers (now image)))) ⌝ }
     ensures { λ r. ⌜ r ≡ byLock (badLock own (at own (now (image .entry))) (workers (now (image .entry))) 0 64) ⌝ }
 {
+    let end = shared(sets, image::workers(image) as usize);
     let mut b: u64 = 0;
-    while b < 64 {
-        if !lock_ok(image, sets, b, own) {
+    while b < end {
+        if !owner_ok(image, b, own) {
             return Answer::Refused(Refusal::Lock(b));
         }
         b += 1;
+    }
+    if end < 64 {
+        return Answer::Refused(Refusal::Lock(end));
     }
     Answer::Done
 }

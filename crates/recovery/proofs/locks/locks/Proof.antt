@@ -1,53 +1,95 @@
--- `recovery::locks::locks` meets its contract. The loop's invariant: the lowest lock from b on that is wrong is the
--- lowest of all.
-use Prim.Native.Nat.{_-_, _≤_}
+-- `recovery::locks::locks` meets its contract. The loop's invariant: the lowest lock from b on that is wrong is the lowest of
+-- all. Below the first lock that two workers are owed only the owner words can be wrong.
+use Prim.Native.Nat.{_-_, _≤_, _<_}
+use borrow.Author.Needs.{needs}
 use mathlib.Core.Path.{_≡_, refl, sym, ap, _∙_}
 use native.Mathlib.Omega.{arith}
 use denote.Ref.{now}
+use lib.ListN.{length}
 use Rattle.base.proofs.Bools.{denied, granted}
 use Rattle.image.specs.Image.{at, workers}
 use Rattle.recovery.specs.Recover.{byLock}
 use Rattle.recovery.specs.Recovery.{badLock}
-use Rattle.recovery.proofs.Sets.{bad-on, bad-here, bad-none}
+use Rattle.recovery.proofs.Sets.{lock-single, lock-shared, bad-on, bad-here, bad-none}
 use Rattle.recovery.proofs.locks.locks.Statement.{statement}
 use Rattle.recovery.proofs.locks.locks.Tie as tie
 
 abbrev Inv-loop : tie.InvT-loop
-Inv-loop image sets own b₀ b =
-    (b ≤ 64) × (byLock (badLock own (at own image) (workers image) b (64 - b)) ≡ byLock (badLock own (at own image) (workers image) 0 64))
+Inv-loop image sets own end b₀ b =
+    (b ≤ end) × (byLock (badLock own (at own image) (workers image) b (64 - b)) ≡ byLock (badLock own (at own image) (workers image) 0 64))
 
 abbrev μ-loop : tie.MeasureT-loop
-μ-loop image sets own b₀ b = 64 - b
+μ-loop image sets own end b₀ b = end - b
+
+workers-requires : tie.Need-workers-requires Inv-loop μ-loop
+workers-requires c κs = search needs
+
+shared-requires : tie.Need-shared-requires Inv-loop μ-loop
+shared-requires c κs = let S = c .before .before .before in omega (arith, ap length (S .pre .2), c .workers .ensures)
 
 loop-holds : tie.Need-loop-holds Inv-loop μ-loop
 loop-holds c = (omega arith, refl)
 
-lock-ok-requires : tie.Need-lock-ok-requires Inv-loop μ-loop
-lock-ok-requires c κs = let S = c .before .before .before .before in (S .pre .0, S .pre .1, c .loop-test .taken, S .pre .2)
+owner-ok-requires : tie.Need-owner-ok-requires Inv-loop μ-loop
+owner-ok-requires c κs =
+    let S = c .before .before .before .before .before .before in
+    let h : c .before .loop .b < 64 = omega (arith, c .before .before .shared .ensures .0) in
+    (S .pre .0, S .pre .1, h)
 
 returns : tie.Need-returns Inv-loop μ-loop
 returns c =
-    let A = c .before .before .before .before .before .before .args in
+    let S = c .before .before .before .before .before .before .before .before in
+    let A = S .args in
     let L = c .before .before .before .loop in
-    sym (ap byLock (bad-here (A .own) (at (A .own) (now (A .image))) (workers (now (A .image))) (L .b) (c .before .before .loop-test .taken) (denied (c .before .lock-ok .ensures) (c .if1 .taken)))) ∙ L .inv .1
+    let f = c .before .before .before .before .shared in
+    let D = workers (now (A .image)) in
+    let rd = at (A .own) (now (A .image)) in
+    let h : L .b < 64 = omega (arith, f .ensures .0) in
+    let k = rw (S .pre .2, c .before .before .before .before .before .workers .ensures) at (f .ensures .1 .0 (L .b) (c .before .before .loop-test .taken)) in
+    let e = lock-single (A .own) rd D (L .b) (S .pre .1) k in
+    sym (ap byLock (bad-here (A .own) rd D (L .b) h (e ∙ denied (c .before .owner-ok .ensures) (c .if1 .taken)))) ∙ L .inv .1
 
 add-b : tie.Need-add-b Inv-loop μ-loop
-add-b c = omega arith
+add-b c = search needs
 
 loop-less : tie.Need-loop-less Inv-loop μ-loop
 loop-less c = omega arith
 
 loop-again : tie.Need-loop-again Inv-loop μ-loop
 loop-again c =
-    let A = c .before .before .before .before .before .before .args in
+    let S = c .before .before .before .before .before .before .before .before in
+    let A = S .args in
     let L = c .before .before .before .loop in
-    (omega arith, sym (ap byLock (bad-on (A .own) (at (A .own) (now (A .image))) (workers (now (A .image))) (L .b) (c .before .before .loop-test .taken) (granted (c .before .lock-ok .ensures) (c .if1 .left)))) ∙ L .inv .1)
+    let f = c .before .before .before .before .shared in
+    let D = workers (now (A .image)) in
+    let rd = at (A .own) (now (A .image)) in
+    let h : L .b < 64 = omega (arith, f .ensures .0) in
+    let k = rw (S .pre .2, c .before .before .before .before .before .workers .ensures) at (f .ensures .1 .0 (L .b) (c .before .before .loop-test .taken)) in
+    let e = lock-single (A .own) rd D (L .b) (S .pre .1) k in
+    (omega arith, sym (ap byLock (bad-on (A .own) rd D (L .b) h (e ∙ granted (c .before .owner-ok .ensures) (c .if1 .left)))) ∙ L .inv .1)
 
 returns-2 : tie.Need-returns-2 Inv-loop μ-loop
 returns-2 c =
-    let A = c .before .before .before .before .args in
-    let L = c .before .loop in
-    sym (ap byLock (bad-none (A .own) (at (A .own) (now (A .image))) (workers (now (A .image))) (L .b) (c .loop-test .left))) ∙ L .inv .1
+    let S = c .before .before .before .before .before .before .before in
+    let A = S .args in
+    let L = c .before .before .loop in
+    let f = c .before .before .before .shared in
+    let D = workers (now (A .image)) in
+    let rd = at (A .own) (now (A .image)) in
+    let k = rw (S .pre .2, c .before .before .before .before .workers .ensures) at (f .ensures .1 .1 (c .if2 .taken)) in
+    let z : L .b ≡ f .result = omega arith in
+    sym (ap byLock (bad-here (A .own) rd D (f .result) (c .if2 .taken) (lock-shared (A .own) rd D (f .result) (S .pre .1) k))) ∙ rw z at (L .inv .1)
+
+returns-3 : tie.Need-returns-3 Inv-loop μ-loop
+returns-3 c =
+    let S = c .before .before .before .before .before .before .before in
+    let A = S .args in
+    let L = c .before .before .loop in
+    let f = c .before .before .before .shared in
+    let D = workers (now (A .image)) in
+    let rd = at (A .own) (now (A .image)) in
+    let h : 64 ≤ L .b = omega arith in
+    sym (ap byLock (bad-none (A .own) rd D (L .b) h)) ∙ L .inv .1
 
 pub locks-spec : {M : Type 1} → statement M
 locks-spec =
@@ -55,10 +97,13 @@ locks-spec =
     (tie.spec
     Inv-loop
     μ-loop
+    workers-requires
+    shared-requires
     loop-holds
-    lock-ok-requires
+    owner-ok-requires
     returns
     add-b
     loop-less
     loop-again
-    returns-2)
+    returns-2
+    returns-3)
