@@ -1,6 +1,6 @@
 -- The lowest lock of a set that is not empty is at its trailing zeros, and its stores are the store of that lock and
 -- those of the set without it. So a loop that takes the lowest lock out, and stores, makes the stores of the whole set.
-use Prim.Native.Nat.{ℕ, zero, suc, _+_, _-_, _*_, _/_, _%_, _^_, _<_, _≤_}
+use Prim.Native.Nat.{ℕ, zero, suc, _+_, _-_, _/_, _%_, _^_, _<_, _≤_}
 use mathlib.Core.Path.{_≡_, refl, sym, ap, _∙_}
 use mathlib.Core.Bool.{true, false, true≢false}
 use mathlib.Core.List.{[], _∷_, _++_}
@@ -13,7 +13,7 @@ use lib.ListN.{length}
 use Rattle.mask.specs.Mask.{has, without}
 use Rattle.mask.proofs.Laws.{has-zero, has-suc, has-none, has-without, has-without-other}
 use Rattle.mask.proofs.Sets.{no-members}
-use Rattle.image.specs.Place.{lock, Store}
+use Rattle.image.specs.Place.{lock}
 use Rattle.image.specs.Image.{Image, indexOf, put, putAll}
 use Rattle.image.proofs.Lists.{putAll-nil, putAll-cons}
 use Rattle.recovery.specs.Recovery.{_≔_}

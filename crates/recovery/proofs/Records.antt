@@ -6,7 +6,6 @@ use mathlib.Core.Path.{_≡_, refl, sym, ap, _∙_}
 use mathlib.Core.Bool.{Bool, true, false, cond, _&&_, _||_}
 use mathlib.Core.List.{List, [], _∷_}
 use native.Mathlib.Decide.{ℕ-discrete}
-use native.Mathlib.Numerals.{add-one}
 use native.Mathlib.Omega.{arith}
 use lib.Dec.{leb, ltb, eqb}
 use lib.ListN.{length, List·getD-eq-default}
@@ -94,9 +93,10 @@ module _ (n : ℕ) (rd : Memory) (d : ℕ) where
     abbrev stepAt : ℕ
     stepAt = pc % 9223372036854775808 - 1
 
-    pub owed-begun : owed n rd d ≡ owedOf (opOf (codeIn n rd d stepAt)) (heldBefore (codeIn n rd d) (stepAt + 1)) (rd (field Owned d))
+    pub owed-begun : (w next : ℕ) (x : Op) → w ≡ codeIn n rd d stepAt → x ≡ opOf w → next ≡ heldNext n rd d → owed n rd d ≡ owedOf x next (rd (field Owned d))
     unfolding owed namedOp namedStep
-    owed-begun = rw (add-one stepAt, e, ne-eqb (rd (field Pc d)) 0 (λ z. h (e ∙ z))) (owed-of (opOf (codeIn n rd d (rd (field Pc d) % 9223372036854775808 - 1))))
+    owed-begun w next x word op held =
+        rw (held, op, word, e, ne-eqb (rd (field Pc d)) 0 (λ z. h (e ∙ z))) (owed-of (opOf (codeIn n rd d (rd (field Pc d) % 9223372036854775808 - 1))))
 
     held-begun : heldNext n rd d ≡ heldAfter (heldBefore (codeIn n rd d) stepAt) (opOf (codeIn n rd d stepAt))
     unfolding namedStep

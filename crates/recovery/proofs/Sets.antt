@@ -3,14 +3,14 @@
 -- lock are counted in the list of the owed sets, and the locks that have one or two of them are two sets. Further, where a loop finds the lowest lock that is wrong.
 use Prim.Native.Nat.{ℕ, suc, zero, _+_, _-_, _<_, _≤_}
 use borrow.Author.Tests.{lt-ltb, le-ltb, ltb-true, ltb-false, le-leb, lt-leb}
-use mathlib.Core.Path.{_≡_, refl, sym, _∙_}
+use mathlib.Core.Path.{_≡_, refl, sym, ap, _∙_}
 use mathlib.Core.Bool.{Bool, true, false, cond, _&&_, _||_, not}
 use mathlib.Core.List.{List, [], _∷_}
-use native.Mathlib.Decide.{ℕ-discrete}
+use native.Mathlib.Decide.{decLt, ℕ-discrete}
 use native.Mathlib.Numerals.{add-one}
 use native.Mathlib.Omega.{arith}
-use lib.ListN.{length, getD}
-use lib.Seq.{ext-getD}
+use lib.ListN.{length, getD, set, length-set}
+use lib.Seq.{ext-getD, getD-set-same, getD-set-other}
 use lib.Bits.{bitAnd, bitOr}
 use lib.Dec.{ltb}
 use Rattle.base.proofs.Counting.{left-step, left-none}
@@ -130,10 +130,28 @@ module _ (n : ℕ) (rd : Memory) (D : ℕ) where
   pub owed-outside : (d : ℕ) → D ≤ d → owedAt n rd D d ≡ 0
   owed-outside d h = rw (le-ltb d D h)
 
+  private-wider : (d j : ℕ) → (j ≡ d → ⊥) → owedAt n rd d j ≡ owedAt n rd (d + 1) j
+  private-wider d j h = by (decLt j d)
+    where
+      by : Dec (j < d) → owedAt n rd d j ≡ owedAt n rd (d + 1) j
+      by (yes l) = rw (lt-ltb j d l, lt-ltb j (d + 1) (omega arith))
+      by (no g) = rw (le-ltb j d (omega arith), le-ltb j (d + 1) (omega arith))
+
   pub claimants-are : (b k : ℕ) → k ≤ D → D ≤ 8 → claimantsIn (eight (owedAt n rd D)) b k ≡ claimants n rd D b k
   unfolding claimantsIn claimants
   claimants-are b zero h g = refl
   claimants-are b (suc k) h g = rw (eight-at (owedAt n rd D) k (omega arith), owed-inside k (omega arith), claimants-are b k (omega arith) g)
+
+  -- the owed sets of one worker more
+  pub owed-next : (sets : List ℕ) (d v : ℕ) → d < 8 → sets ≡ eight (owedAt n rd d) → v ≡ owed n rd d → set sets d v ≡ eight (owedAt n rd (d + 1))
+  owed-next sets d v h e f =
+      eight-is (set sets d v) (owedAt n rd (d + 1)) 8 (length-set sets d v ∙ ap length e) (omega arith) (λ j l. by j l (ℕ-discrete j d))
+    where
+      by : (j : ℕ) → j < 8 → Dec (j ≡ d) → getD (set sets d v) j 0 ≡ owedAt n rd (d + 1) j
+      by j l (yes p) =
+          let b : d < length sets = omega (arith, ap length e) in
+          rw (p, getD-set-same sets d v 0 b, lt-ltb d (d + 1) (omega arith)) f
+      by j l (no p) = getD-set-other sets d j v 0 p ∙ (ap (λ (s : List ℕ). getD s j 0) e ∙ (eight-at (owedAt n rd d) j l ∙ private-wider d j p))
 
   -- a lock that one worker at most is owed, and one that two are owed
   pub lock-single : (b : ℕ) → D ≤ 8 → claimantsIn (eight (owedAt n rd D)) b D ≤ 1 → lockOk n rd D b ≡ ownerOk n rd D b (rd (lock b))

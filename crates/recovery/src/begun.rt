@@ -11,7 +11,7 @@ ghost use Rattle.image.specs.Image.{at, Inside};
 ghost use Rattle.section.specs.Check.{heldBefore, inRange};
 ghost use Rattle.engine.specs.Cursor.{stepNo, turnNo};
 ghost use Rattle.engine.specs.Turn.{codeIn};
-ghost use Rattle.recovery.specs.Recovery.{owed, targetTurn, resumed};
+ghost use Rattle.recovery.specs.Recovery.{targetTurn, resumed};
 ghost use Rattle.recovery.specs.Repair.{Legible, owedOf};
 
 // The held set before step i.
@@ -29,7 +29,7 @@ pub fn held(image: &[u64], d: usize, i: usize, own: usize) -> u64
 }
 
 // The owed set at an instruction: of an acquire the held set after it, since its lock may be taken and not yet owned.
-fn owed_by(x: Op, next: u64, owned: u64) -> u64
+pub fn owed_by(x: Op, next: u64, owned: u64) -> u64
     ensures { λ r. ⌜ r ≡ owedOf x next owned ⌝ }
 {
     match x {
@@ -40,21 +40,6 @@ fn owed_by(x: Op, next: u64, owned: u64) -> u64
         Op::Finish => owned,
         Op::Unknown => owned,
     }
-}
-
-// The owed set of worker d.
-pub fn owed(image: &[u64], d: usize, own: usize) -> u64
-    requires { ⌜ (Inside own (now image) d) × (Legible own (at own (now image)) d) ⌝ }
-    ensures { λ r. ⌜ r ≡ owed own (at own (now (image .entry))) d ⌝ }
-{
-    let pc = image::read_field(image, Field::Pc, d, own);
-    if pc == 0 {
-        return 0;
-    }
-    let s = (pc % 9223372036854775808) as usize - 1;
-    let x = op_of(image::read_step(image, d, s, own));
-    let next = held(image, d, s + 1, own);
-    owed_by(x, next, image::read_field(image, Field::Owned, d, own))
 }
 
 // The step at which worker d goes on.

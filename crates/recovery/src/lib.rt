@@ -11,10 +11,12 @@ mod storing;
 
 pub use stock::no_repair;
 ghost use mathlib.Core.Path.{_≡_};
+ghost use mathlib.Core.Bool.{true};
 ghost use Prim.Native.Nat.{_≤_};
+ghost use Rattle.image.specs.Image.{at, workers};
 ghost use Rattle.engine.specs.Edition.{mark, ownWords};
 ghost use Rattle.recovery.specs.Recovery.{recovery};
-ghost use Rattle.recovery.specs.Repair.{slotAt, slotOf};
+ghost use Rattle.recovery.specs.Repair.{eight, owedAt, slotAt, slotOf};
 ghost use Rattle.recovery.specs.Recover.{causeOf, valueOf, isDone, answerOf, cursorsOf, repairBy, recoveryLeaves, recoveryLeft};
 
 // The edition of images that the entry points serve: word 0, and the own words of a record.
@@ -94,20 +96,34 @@ fn done(a: Answer) -> bool
     }
 }
 
+// The answer of the tests and, where it is done, the owed sets.
+struct Judged {
+    answer: Answer,
+    owed: [u64; 8],
+}
+
 // Causes 10, 12 by worker, 13 by the lowest lock.
-fn judge(image: &[u64], mark: u64, own: usize) -> Answer
+fn judge(image: &[u64], mark: u64, own: usize) -> Judged
     requires { ⌜ own ≤ 64 ⌝ }
-    ensures { λ r. ⌜ r ≡ answerOf (recovery mark own (now (image .entry))) ⌝ }
+    ensures answer { λ r. ⌜ r .answer ≡ answerOf (recovery mark own (now (image .entry))) ⌝ }
+    ensures owed { λ r. ⌜ (isDone (r .answer) ≡ true → r .owed ≡ eight (owedAt own (at own (now (image .entry))) (workers (now (image .entry))))) ⌝ }
 {
     if !image::header_ok(image, mark, own) {
-        return Answer::Refused(Refusal::Image);
+        return Judged {
+            answer: Answer::Refused(Refusal::Image),
+            owed: [0; 8],
+        };
     }
-    let a = soundness::records(image, own);
+    let r = soundness::records(image, own);
+    let a = r.answer;
     if !done(a) {
-        return a;
+        return r;
     }
-    let sets = stock::owed_sets(image, own);
-    locks::locks(image, &sets, own)
+    let sets = r.owed;
+    Judged {
+        answer: locks::locks(image, &sets, own),
+        owed: sets,
+    }
 }
 
 // What a recovery of an edition answers.
@@ -117,7 +133,8 @@ fn planned(image: &[u64], mark: u64, own: usize) -> Restored
     ensures cursors { λ r. ⌜ r .cursors ≡ cursorsOf (recovery mark own (now (image .entry))) ⌝ }
     ensures repair { λ r. ⌜ r .repair ≡ repairBy own (now (image .entry)) (recovery mark own (now (image .entry))) ⌝ }
 {
-    let a = judge(image, mark, own);
+    let j = judge(image, mark, own);
+    let a = j.answer;
     if !done(a) {
         return Restored {
             answer: a,
@@ -125,10 +142,11 @@ fn planned(image: &[u64], mark: u64, own: usize) -> Restored
             repair: stock::no_repair(),
         };
     }
+    let sets = j.owed;
     Restored {
         answer: a,
         cursors: stock::resumed_all(image, own),
-        repair: stock::repair(image, own),
+        repair: stock::repair(image, sets, own),
     }
 }
 

@@ -1,5 +1,6 @@
 // Whether a worker's record is sound: cause 12.
 use crate::Answer;
+use crate::Judged;
 use crate::Refusal;
 use crate::begun;
 use image::Field;
@@ -7,16 +8,17 @@ use section::Op;
 use section::decode::held_after;
 use section::decode::op_of;
 ghost use mathlib.Core.Path.{_≡_};
-ghost use mathlib.Core.Bool.{true};
+ghost use mathlib.Core.Bool.{true, false, _||_};
+ghost use lib.Dec.{eqb};
 ghost use Prim.Native.Nat.{_≤_};
 ghost use Rattle.image.specs.Place.{field};
 ghost use Rattle.image.specs.Image.{at, workers, Inside};
 ghost use Rattle.section.specs.Check.{check, passes};
 ghost use Rattle.section.specs.Fits.{fits};
 ghost use Rattle.engine.specs.Turn.{codeIn, activeAddr, activeVal};
-ghost use Rattle.recovery.specs.Recovery.{covers, heldNext, sectionOk, entryOk, pcOk, sound, unsound};
-ghost use Rattle.recovery.specs.Repair.{setLogged};
-ghost use Rattle.recovery.specs.Recover.{byRecord};
+ghost use Rattle.recovery.specs.Recovery.{covers, heldNext, owed, sectionOk, entryOk, pcOk, sound, unsound};
+ghost use Rattle.recovery.specs.Repair.{setLogged, eight, owedAt};
+ghost use Rattle.recovery.specs.Recover.{isDone, byRecord};
 
 // Whether the first k instruction words of worker d's record pass the check.
 fn section_passes(image: &[u64], d: usize, k: usize, own: usize) -> bool
@@ -108,34 +110,60 @@ fn entry_ok(image: &[u64], d: usize, x: Op, next: u64, own: usize) -> bool
     }
 }
 
+// What a test of a record finds: whether it holds and, where it does, the owed set.
+struct Found {
+    ok: bool,
+    owed: u64,
+}
+
+fn refused() -> Found
+    ensures { λ r. ⌜ r .ok ≡ false ⌝ }
+{
+    Found { ok: false, owed: 0 }
+}
+
+// Whether the set owned is the one held before a step, or the one after it.
+fn owned_ok(owned: u64, here: u64, next: u64) -> bool
+    ensures { λ r. ⌜ r ≡ (eqb owned here || eqb owned next) ⌝ }
+{
+    if owned == here {
+        return true;
+    }
+    owned == next
+}
+
 // Whether the pc names no step, with nothing owned, or one whose entry is right, with the set before or after it owned.
-fn pc_ok(image: &[u64], d: usize, own: usize) -> bool
+fn pc_ok(image: &[u64], d: usize, own: usize) -> Found
     requires { ⌜ (Inside own (now image) d) × (sectionOk own (at own (now image)) d ≡ true) ⌝ }
-    ensures { λ r. ⌜ r ≡ pcOk own (at own (now (image .entry))) d ⌝ }
+    ensures ok { λ r. ⌜ r .ok ≡ pcOk own (at own (now (image .entry))) d ⌝ }
+    ensures owed { λ r. ⌜ (r .ok ≡ true → r .owed ≡ owed own (at own (now (image .entry))) d) ⌝ }
 {
     let owned = image::read_field(image, Field::Owned, d, own);
     let pc = image::read_field(image, Field::Pc, d, own);
     if pc == 0 {
-        return owned == 0;
+        return Found {
+            ok: owned == 0,
+            owed: 0,
+        };
     }
     let p = pc % 9223372036854775808;
     if p < 1 {
-        return false;
+        return refused();
     }
     if image::read_field(image, Field::Count, d, own) <= p - 1 {
-        return false;
+        return refused();
     }
     let s = p as usize - 1;
     let x = op_of(image::read_step(image, d, s, own));
     let here = begun::held(image, d, s, own);
     let next = held_after(here, x);
     if !entry_ok(image, d, x, next, own) {
-        return false;
+        return refused();
     }
-    if owned == here {
-        return true;
+    Found {
+        ok: owned_ok(owned, here, next),
+        owed: begun::owed_by(x, next, owned),
     }
-    owned == next
 }
 
 // Whether every lock of `small` is in `big`.
@@ -146,32 +174,47 @@ fn covers(big: u64, small: u64) -> bool
 }
 
 // Whether worker d's record is sound.
-fn sound(image: &[u64], d: usize, own: usize) -> bool
+fn sound(image: &[u64], d: usize, own: usize) -> Found
     requires { ⌜ Inside own (now image) d ⌝ }
-    ensures { λ r. ⌜ r ≡ sound own (at own (now (image .entry))) d ⌝ }
+    ensures ok { λ r. ⌜ r .ok ≡ sound own (at own (now (image .entry))) d ⌝ }
+    ensures owed { λ r. ⌜ (r .ok ≡ true → r .owed ≡ owed own (at own (now (image .entry))) d) ⌝ }
 {
     if !section_ok(image, d, own) {
-        return false;
+        return refused();
     }
-    if !pc_ok(image, d, own) {
-        return false;
+    let f = pc_ok(image, d, own);
+    if !f.ok {
+        return f;
     }
     let intent = image::read_field(image, Field::Intent, d, own);
-    covers(intent, begun::owed(image, d, own))
+    Found {
+        ok: covers(intent, f.owed),
+        owed: f.owed,
+    }
 }
 
-// Whether all records are sound, or the first worker whose record is not.
-pub fn records(image: &[u64], own: usize) -> Answer
+// Whether all records are sound, with the owed sets, or the first worker whose record is not.
+pub fn records(image: &[u64], own: usize) -> Judged
     requires { ⌜ (own ≤ 64) × (workers (now image) ≤ 8) ⌝ }
-    ensures { λ r. ⌜ r ≡ byRecord (unsound own (at own (now (image .entry))) (workers (now (image .entry))) 0 (workers (now (image .entry)))) ⌝ }
+    ensures answer { λ r. ⌜ r .answer ≡ byRecord (unsound own (at own (now (image .entry))) (workers (now (image .entry))) 0 (workers (now (image .entry)))) ⌝ }
+    ensures owed { λ r. ⌜ (isDone (r .answer) ≡ true → r .owed ≡ eight (owedAt own (at own (now (image .entry))) (workers (now (image .entry))))) ⌝ }
 {
     let n = image::workers(image) as usize;
+    let mut sets = [0u64; 8];
     let mut d: usize = 0;
     while d < n {
-        if !sound(image, d, own) {
-            return Answer::Refused(Refusal::Record(d));
+        let f = sound(image, d, own);
+        if !f.ok {
+            return Judged {
+                answer: Answer::Refused(Refusal::Record(d)),
+                owed: sets,
+            };
         }
+        sets[d] = f.owed;
         d += 1;
     }
-    Answer::Done
+    Judged {
+        answer: Answer::Done,
+        owed: sets,
+    }
 }

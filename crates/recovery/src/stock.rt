@@ -11,31 +11,6 @@ ghost use Rattle.engine.specs.Cursor.{stepNo, turnNo, allIdle};
 ghost use Rattle.recovery.specs.Recovery.{resumedAt, resumedAll};
 ghost use Rattle.recovery.specs.Repair.{Restorable, eight, owedAt, unbegun, freedBy, withdrawnBy, repairOf, noRepair};
 
-// Worker d's owed set; empty for one that the image has not.
-fn owed_at(image: &[u64], d: usize, own: usize) -> u64
-    requires { ⌜ Restorable own (now image) ⌝ }
-    ensures { λ r. ⌜ r ≡ owedAt own (at own (now (image .entry))) (workers (now (image .entry))) d ⌝ }
-{
-    if image::workers(image) <= d as u64 {
-        return 0;
-    }
-    begun::owed(image, d, own)
-}
-
-// The owed sets of all workers.
-pub fn owed_sets(image: &[u64], own: usize) -> [u64; 8]
-    requires { ⌜ Restorable own (now image) ⌝ }
-    ensures { λ r. ⌜ r ≡ eight (owedAt own (at own (now (image .entry))) (workers (now (image .entry)))) ⌝ }
-{
-    let mut sets = [0u64; 8];
-    let mut d: usize = 0;
-    while d < 8 {
-        sets[d] = owed_at(image, d, own);
-        d += 1;
-    }
-    sets
-}
-
 // The step at which worker d goes on; 0 for one that the image has not.
 fn step_at(image: &[u64], d: usize, own: usize) -> u8
     requires { ⌜ Restorable own (now image) ⌝ }
@@ -129,16 +104,16 @@ fn withdrawn(image: &[u64], own: usize) -> u64
     set
 }
 
-// The repair.
-pub fn repair(image: &[u64], own: usize) -> Repair
-    requires { ⌜ Restorable own (now image) ⌝ }
+// The repair, with the owed sets that the test of the records found.
+pub fn repair(image: &[u64], sets: [u64; 8], own: usize) -> Repair
+    requires { ⌜ (Restorable own (now image)) × (sets ≡ eight (owedAt own (at own (now image)) (workers (now image)))) ⌝ }
     ensures { λ r. ⌜ r ≡ repairOf own (now (image .entry)) ⌝ }
 {
     Repair {
         workers: image::workers(image),
         freed: freed(image, own),
         withdrawn: withdrawn(image, own),
-        owed: owed_sets(image, own),
+        owed: sets,
     }
 }
 

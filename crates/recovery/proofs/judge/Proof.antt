@@ -1,12 +1,12 @@
 -- `recovery::judge` meets its contract: its tests are the definition's, in the same order, each past those before it.
 use borrow.Author.Needs.{needs}
+use mathlib.Core.Bool.{false≢true}
 use mathlib.Core.Path.{sym, ap, _∙_}
 use denote.Ref.{now}
 use Rattle.base.proofs.Bools.{denied, granted}
 use Rattle.image.proofs.Header.{header-workers}
 use Rattle.recovery.specs.Recover.{isDone}
 use Rattle.recovery.proofs.Answers.{record-none, by-header, by-record, by-lock}
-use Rattle.recovery.proofs.Records.{restorable}
 use Rattle.recovery.proofs.judge.Statement.{statement}
 use Rattle.recovery.proofs.judge.Tie as tie
 
@@ -14,7 +14,9 @@ header-ok-requires : tie.Need-header-ok-requires
 header-ok-requires c κs = search needs
 
 returns : tie.Need-returns
-returns c = let A = c .before .before .before .args in by-header (A .mark) (A .own) (now (A .image)) (denied (c .before .header-ok .ensures) (c .if1 .taken))
+returns c =
+    let A = c .before .before .before .args in
+    (by-header (A .mark) (A .own) (now (A .image)) (denied (c .before .header-ok .ensures) (c .if1 .taken)), λ e. absurd (false≢true e))
 
 records-requires : tie.Need-records-requires
 records-requires c κs =
@@ -29,17 +31,8 @@ returns-2 : tie.Need-returns-2
 returns-2 c =
     let A = c .before .before .before .before .before .before .args in
     let r = c .before .before .records in
-    r .ensures
-    ∙ by-record (A .mark) (A .own) (now (A .image)) (granted (c .before .before .before .before .header-ok .ensures) (c .before .before .before .if1 .left)) (ap isDone (sym (r .ensures)) ∙ denied (c .before .done .ensures) (c .if2 .taken))
-
-owed-sets-requires : tie.Need-owed-sets-requires
-owed-sets-requires c κs =
-    let S = c .before .before .before .before .before .before in
-    let A = S .args in
-    let r = c .before .before .records in
     let h = granted (c .before .before .before .before .header-ok .ensures) (c .before .before .before .if1 .left) in
-    restorable (A .own) (now (A .image)) (S .pre) (header-workers (A .mark) (A .own) (now (A .image)) h .1)
-    (record-none _ (ap isDone (sym (r .ensures)) ∙ granted (c .before .done .ensures) (c .if2 .left)))
+    (r .ensures .0 ∙ by-record (A .mark) (A .own) (now (A .image)) h (ap isDone (sym (r .ensures .0)) ∙ denied (c .before .done .ensures) (c .if2 .taken)), r .ensures .1)
 
 slice-aggregate-locks : tie.Need-slice-aggregate-locks
 slice-aggregate-locks c = search needs
@@ -48,15 +41,16 @@ locks-requires : tie.Need-locks-requires
 locks-requires c κs =
     let S = c .before .before .before .before .before .before .before .before in
     let A = S .args in
-    (S .pre, header-workers (A .mark) (A .own) (now (A .image)) (granted (c .before .before .before .before .before .before .header-ok .ensures) (c .before .before .before .before .before .if1 .left)) .1, c .before .owed-sets .ensures)
+    let h = granted (c .before .before .before .before .before .before .header-ok .ensures) (c .before .before .before .before .before .if1 .left) in
+    (S .pre, header-workers (A .mark) (A .own) (now (A .image)) h .1, c .before .before .before .before .records .ensures .1 (granted (c .before .before .before .done .ensures) (c .before .before .if2 .left)))
 
 returns-3 : tie.Need-returns-3
 returns-3 c =
     let A = c .before .before .before .before .before .before .before .before .before .args in
     let r = c .before .before .before .before .before .records in
-    c .locks .ensures
-    ∙ by-lock (A .mark) (A .own) (now (A .image)) (granted (c .before .before .before .before .before .before .before .header-ok .ensures) (c .before .before .before .before .before .before .if1 .left))
-    (record-none _ (ap isDone (sym (r .ensures)) ∙ granted (c .before .before .before .before .done .ensures) (c .before .before .before .if2 .left)))
+    let h = granted (c .before .before .before .before .before .before .before .header-ok .ensures) (c .before .before .before .before .before .before .if1 .left) in
+    let e = granted (c .before .before .before .before .done .ensures) (c .before .before .before .if2 .left) in
+    (c .locks .ensures ∙ by-lock (A .mark) (A .own) (now (A .image)) h (record-none _ (ap isDone (sym (r .ensures .0)) ∙ e)), λ done. r .ensures .1 e)
 
 pub judge-spec : {M : Type 1} → statement M
 judge-spec =
@@ -67,7 +61,6 @@ judge-spec =
     records-requires
     done-requires
     returns-2
-    owed-sets-requires
     slice-aggregate-locks
     locks-requires
     returns-3)

@@ -26,27 +26,29 @@ returns c =
     let A = c .before .before .before .before .before .before .args in
     let j = c .before .before .before .before .judge in
     let R = recovery (A .mark) (A .own) (now (A .image)) in
-    let e = ap isDone (sym (j .ensures)) ∙ denied (c .before .before .before .done .ensures) (c .before .before .if1 .taken) in
-    (j .ensures, (c .before .all-idle .ensures ∙ refused-idle R e, c .no-repair .ensures ∙ refused-repair (A .own) (now (A .image)) R e))
+    let e = ap isDone (sym (j .ensures .0)) ∙ denied (c .before .before .before .done .ensures) (c .before .before .if1 .taken) in
+    (j .ensures .0, (c .before .all-idle .ensures ∙ refused-idle R e, c .no-repair .ensures ∙ refused-repair (A .own) (now (A .image)) R e))
 
 resumed-all-requires : tie.Need-resumed-all-requires
 resumed-all-requires c κs =
-    let S = c .before .before .before .before in
+    let S = c .before .before .before .before .before in
     let A = S .args in
-    done-restorable (A .mark) (A .own) (now (A .image)) (S .pre) (ap isDone (sym (c .before .before .judge .ensures)) ∙ granted (c .before .done .ensures) (c .if1 .left))
+    done-restorable (A .mark) (A .own) (now (A .image)) (S .pre) (ap isDone (sym (c .before .before .before .judge .ensures .0)) ∙ granted (c .before .before .done .ensures) (c .before .if1 .left))
 
 repair-requires : tie.Need-repair-requires
 repair-requires c κs =
-    let S = c .before .before .before .before .before in
+    let S = c .before .before .before .before .before .before in
     let A = S .args in
-    done-restorable (A .mark) (A .own) (now (A .image)) (S .pre) (ap isDone (sym (c .before .before .before .judge .ensures)) ∙ granted (c .before .before .done .ensures) (c .before .if1 .left))
+    let j = c .before .before .before .before .judge in
+    let e = granted (c .before .before .before .done .ensures) (c .before .before .if1 .left) in
+    (done-restorable (A .mark) (A .own) (now (A .image)) (S .pre) (ap isDone (sym (j .ensures .0)) ∙ e), j .ensures .1 e)
 
 returns-2 : tie.Need-returns-2
 returns-2 c =
-    let A = c .before .before .before .before .before .before .args in
-    let j = c .before .before .before .before .judge in
-    let g = done-is (A .mark) (A .own) (now (A .image)) (ap isDone (sym (j .ensures)) ∙ granted (c .before .before .before .done .ensures) (c .before .before .if1 .left)) in
-    (j .ensures, (rw g (c .before .resumed-all .ensures), rw g (c .repair .ensures)))
+    let A = c .before .before .before .before .before .before .before .args in
+    let j = c .before .before .before .before .before .judge in
+    let g = done-is (A .mark) (A .own) (now (A .image)) (ap isDone (sym (j .ensures .0)) ∙ granted (c .before .before .before .before .done .ensures) (c .before .before .before .if1 .left)) in
+    (j .ensures .0, (rw g (c .before .resumed-all .ensures), rw g (c .repair .ensures)))
 
 pub planned-spec : {M : Type 1} → statement M
 planned-spec =

@@ -1,14 +1,17 @@
--- `recovery::soundness::pc_ok` meets its contract: the definition's tests in their order, at the step that the pc names.
-use Prim.Native.Nat.{_%_, _-_}
-use borrow.Author.Tests.{eq-eqb, ne-eqb, le-leb, lt-leb, le-ltb}
+-- `recovery::soundness::pc_ok` meets its contract: the definition's tests in their order, at the step that the pc names; past all
+-- of them the owed set is that of the instruction there.
 use borrow.Author.Needs.{needs}
+use Prim.Native.Nat.{_%_, _-_}
+use borrow.Author.Tests.{eq-eqb, le-leb, lt-leb, le-ltb}
+use mathlib.Core.Path.{sym, _∙_}
+use mathlib.Core.Bool.{false≢true}
 use native.Mathlib.Omega.{arith}
 use denote.Ref.{now}
 use Rattle.base.proofs.Bools.{denied, granted}
 use Rattle.image.specs.Image.{at}
 use Rattle.section.proofs.Ranges.{in-range, lock-ok}
-use Rattle.recovery.specs.Recovery.{pcOk}
-use Rattle.recovery.proofs.Records.{pc-rest, section-reads, pc-tests}
+use Rattle.recovery.specs.Recovery.{owed, pcOk}
+use Rattle.recovery.proofs.Records.{pc-rest, section-reads, pc-tests, owed-begun}
 use Rattle.recovery.proofs.soundness.pc_ok.Statement.{statement}
 use Rattle.recovery.proofs.soundness.pc_ok.Tie as tie
 
@@ -19,31 +22,37 @@ read-field-requires-2 : tie.Need-read-field-requires-2
 read-field-requires-2 c κs = search needs
 
 returns : tie.Need-returns
-unfolding pcOk
+unfolding pcOk owed
 returns c =
     let pc = c .before .read-field2 in
-    rw (← pc .ensures, eq-eqb (pc .result) 0 (c .if1 .taken), ← c .before .before .read-field .ensures)
+    let z = eq-eqb (pc .result) 0 (c .if1 .taken) in
+    (rw (← pc .ensures, z, ← c .before .before .read-field .ensures), λ h. rw (← pc .ensures, z))
+
+refused-requires : tie.Need-refused-requires
+refused-requires c κs = search needs
 
 returns-2 : tie.Need-returns-2
 returns-2 c =
-    let A = c .before .before .before .before .before .args in
-    let pc = c .before .before .read-field2 in
-    rw (pc-tests (A .own) (at (A .own) (now (A .image))) (A .d) (pc .result) (pc .ensures) (c .before .if1 .left), lt-leb 1 (pc .result % 9223372036854775808) (c .if2 .taken))
+    let A = c .before .before .before .before .before .before .args in
+    let pc = c .before .before .before .read-field2 in
+    let tests = pc-tests (A .own) (at (A .own) (now (A .image))) (A .d) (pc .result) (pc .ensures) (c .before .before .if1 .left) in
+    (rw (tests, lt-leb 1 (pc .result % 9223372036854775808) (c .before .if2 .taken)) (c .refused .ensures), λ h. absurd (false≢true (sym (c .refused .ensures) ∙ h)))
 
 read-field-requires-3 : tie.Need-read-field-requires-3
 read-field-requires-3 c κs = search needs
 
+refused-requires-2 : tie.Need-refused-requires-2
+refused-requires-2 c κs = search needs
+
 returns-3 : tie.Need-returns-3
 returns-3 c =
-    let A = c .before .before .before .before .before .before .before .args in
-    let pc = c .before .before .before .before .read-field2 in
-    let k = c .before .read-field3 in
-    rw (
-      pc-tests (A .own) (at (A .own) (now (A .image))) (A .d) (pc .result) (pc .ensures) (c .before .before .before .if1 .left),
-      le-leb 1 (pc .result % 9223372036854775808) (c .before .before .if2 .left),
-      ← k .ensures,
-      le-ltb (pc .result % 9223372036854775808 - 1) (k .result) (c .if3 .taken),
-    )
+    let A = c .before .before .before .before .before .before .before .before .args in
+    let pc = c .before .before .before .before .before .read-field2 in
+    let k = c .before .before .read-field3 in
+    let tests = pc-tests (A .own) (at (A .own) (now (A .image))) (A .d) (pc .result) (pc .ensures) (c .before .before .before .before .if1 .left) in
+    let low = le-leb 1 (pc .result % 9223372036854775808) (c .before .before .before .if2 .left) in
+    let past = le-ltb (pc .result % 9223372036854775808 - 1) (k .result) (c .before .if3 .taken) in
+    (rw (tests, low, ← k .ensures, past) (c .refused2 .ensures), λ h. absurd (false≢true (sym (c .refused2 .ensures) ∙ h)))
 
 sub-s : tie.Need-sub-s
 sub-s c = search needs
@@ -84,37 +93,40 @@ entry-ok-requires c κs =
     let r = section-reads (A .own) (at (A .own) (now (A .image))) (A .d) (S .pre .1) s l in
     (S .pre .0, rw (c .before .before .op-of .ensures, c .before .before .before .read-step .ensures) (in-range (A .own) _ (r .1 s l)))
 
+refused-requires-3 : tie.Need-refused-requires-3
+refused-requires-3 c κs = search needs
+
 returns-4 : tie.Need-returns-4
 returns-4 c =
-    let e = c .before in
+    let e = c .before .before in
     let A = e .before .before .before .before .before .before .before .before .before .before .before .before .args in
     let pc = e .before .before .before .before .before .before .before .before .before .read-field2 in
     let k = e .before .before .before .before .before .before .read-field3 in
-    let t = pc-rest (A .own) (at (A .own) (now (A .image))) (A .d) (pc .result) (pc .ensures) (e .before .before .before .before .before .before .before .before .if1 .left) (e .before .before .before .before .before .before .before .if2 .left) (k .result) (k .ensures) (e .before .before .before .before .before .if3 .left) in
+    let zero = e .before .before .before .before .before .before .before .before .if1 .left in
+    let t = pc-rest (A .own) (at (A .own) (now (A .image))) (A .d) (pc .result) (pc .ensures) zero (e .before .before .before .before .before .before .before .if2 .left) (k .result) (k .ensures) (e .before .before .before .before .before .if3 .left) in
     let q = t _ _ _ _ (e .before .before .before .before .read-step .ensures) (e .before .before .before .op-of .ensures) (e .before .before .held .ensures) (e .before .held-after .ensures) in
-    rw (q .1, denied (e .entry-ok .ensures (q .0)) (c .if4 .taken))
+    (rw (q .1, denied (e .entry-ok .ensures (q .0)) (c .before .if4 .taken)) (c .refused3 .ensures), λ h. absurd (false≢true (sym (c .refused3 .ensures) ∙ h)))
+
+owned-ok-requires : tie.Need-owned-ok-requires
+owned-ok-requires c κs = search needs
+
+owed-by-requires : tie.Need-owed-by-requires
+owed-by-requires c κs = search needs
 
 returns-5 : tie.Need-returns-5
 returns-5 c =
-    let e = c .before .before in
+    let e = c .before .before .before in
     let A = e .before .before .before .before .before .before .before .before .before .before .before .before .args in
     let pc = e .before .before .before .before .before .before .before .before .before .read-field2 in
     let k = e .before .before .before .before .before .before .read-field3 in
-    let t = pc-rest (A .own) (at (A .own) (now (A .image))) (A .d) (pc .result) (pc .ensures) (e .before .before .before .before .before .before .before .before .if1 .left) (e .before .before .before .before .before .before .before .if2 .left) (k .result) (k .ensures) (e .before .before .before .before .before .if3 .left) in
+    let zero = e .before .before .before .before .before .before .before .before .if1 .left in
+    let t = pc-rest (A .own) (at (A .own) (now (A .image))) (A .d) (pc .result) (pc .ensures) zero (e .before .before .before .before .before .before .before .if2 .left) (k .result) (k .ensures) (e .before .before .before .before .before .if3 .left) in
     let q = t _ _ _ _ (e .before .before .before .before .read-step .ensures) (e .before .before .before .op-of .ensures) (e .before .before .held .ensures) (e .before .held-after .ensures) in
     let owned = e .before .before .before .before .before .before .before .before .before .before .read-field in
-    rw (q .1, granted (e .entry-ok .ensures (q .0)) (c .before .if4 .left), ← owned .ensures, eq-eqb (owned .result) (e .before .before .held .result) (c .if5 .taken))
-
-returns-6 : tie.Need-returns-6
-returns-6 c =
-    let e = c .before .before in
-    let A = e .before .before .before .before .before .before .before .before .before .before .before .before .args in
-    let pc = e .before .before .before .before .before .before .before .before .before .read-field2 in
-    let k = e .before .before .before .before .before .before .read-field3 in
-    let t = pc-rest (A .own) (at (A .own) (now (A .image))) (A .d) (pc .result) (pc .ensures) (e .before .before .before .before .before .before .before .before .if1 .left) (e .before .before .before .before .before .before .before .if2 .left) (k .result) (k .ensures) (e .before .before .before .before .before .if3 .left) in
-    let q = t _ _ _ _ (e .before .before .before .before .read-step .ensures) (e .before .before .before .op-of .ensures) (e .before .before .held .ensures) (e .before .held-after .ensures) in
-    let owned = e .before .before .before .before .before .before .before .before .before .before .read-field in
-    rw (q .1, granted (e .entry-ok .ensures (q .0)) (c .before .if4 .left), ← owned .ensures, ne-eqb (owned .result) (e .before .before .held .result) (c .if5 .left))
+    let o = owed-begun (A .own) (at (A .own) (now (A .image))) (A .d) (pc .result) (pc .ensures) zero _ _ _ (e .before .before .before .before .read-step .ensures) (e .before .before .before .op-of .ensures) (q .0) in (
+      rw (q .1, granted (e .entry-ok .ensures (q .0)) (c .before .before .if4 .left), ← owned .ensures) (c .before .owned-ok .ensures),
+      λ h. rw (o, ← owned .ensures) (c .owed-by .ensures),
+    )
 
 pub pc-ok-spec : {M : Type 1} → statement M
 pc-ok-spec =
@@ -123,8 +135,10 @@ pc-ok-spec =
     read-field-requires
     read-field-requires-2
     returns
+    refused-requires
     returns-2
     read-field-requires-3
+    refused-requires-2
     returns-3
     sub-s
     read-step-requires
@@ -132,6 +146,8 @@ pc-ok-spec =
     held-requires
     held-after-requires
     entry-ok-requires
+    refused-requires-3
     returns-4
-    returns-5
-    returns-6)
+    owned-ok-requires
+    owed-by-requires
+    returns-5)

@@ -1,31 +1,35 @@
--- `recovery::soundness::records` meets its contract. The loop's invariant: the first worker from d on whose record is
--- not sound is the first of all.
+-- `recovery::soundness::records` meets its contract. The loop's invariant: the first worker from d on whose record is not sound
+-- is the first of all, and the array has the owed sets of the first d workers.
 use Prim.Native.Nat.{_-_, _≤_, _<_}
 use borrow.Author.Needs.{needs}
-use mathlib.Core.Path.{_≡_, sym, ap, _∙_}
+use borrow.Author.Tests.{not-true, not-false}
+use mathlib.Core.Bool.{false≢true}
+use mathlib.Core.Path.{_≡_, refl, sym, ap, _∙_}
 use native.Mathlib.Omega.{arith}
 use denote.Ref.{now}
 use Rattle.base.proofs.Counting.{left-all}
-use Rattle.base.proofs.Bools.{denied, granted}
 use Rattle.image.specs.Image.{at, workers}
 use Rattle.recovery.specs.Recover.{byRecord}
 use Rattle.recovery.specs.Recovery.{unsound}
+use Rattle.recovery.specs.Repair.{eight, owedAt}
 use Rattle.recovery.proofs.Records.{unsound-on, unsound-here, unsound-none}
+use Rattle.recovery.proofs.Sets.{owed-next}
 use Rattle.recovery.proofs.soundness.records.Statement.{statement}
 use Rattle.recovery.proofs.soundness.records.Tie as tie
 
 abbrev Inv-loop : tie.InvT-loop
-Inv-loop image own n d₀ d =
+Inv-loop image own n sets₀ d₀ sets d =
     (d ≤ n) × (byRecord (unsound own (at own image) (workers image) d (workers image - d)) ≡ byRecord (unsound own (at own image) (workers image) 0 (workers image)))
+    × (sets ≡ eight (owedAt own (at own image) d))
 
 abbrev μ-loop : tie.MeasureT-loop
-μ-loop image own n d₀ d = n - d
+μ-loop image own n sets₀ d₀ sets d = n - d
 
 workers-requires : tie.Need-workers-requires Inv-loop μ-loop
 workers-requires c κs = search needs
 
 loop-holds : tie.Need-loop-holds Inv-loop μ-loop
-loop-holds c = (omega arith, rw (left-all (workers (now (c .before .before .args .image)))))
+loop-holds c = (omega arith, rw (left-all (workers (now (c .before .before .args .image)))), refl)
 
 sound-requires : tie.Need-sound-requires Inv-loop μ-loop
 sound-requires c κs =
@@ -34,11 +38,23 @@ sound-requires c κs =
 
 returns : tie.Need-returns Inv-loop μ-loop
 returns c =
-    let A = c .before .before .before .before .before .before .args in
-    let L = c .before .before .before .loop in
+    let S = c .before .before .before .before .before .before .before in
+    let A = S .args in
+    let L = c .before .before .before .before .loop in
     let D = workers (now (A .image)) in
-    let h : L .d < D = omega (arith, c .before .before .before .before .workers .ensures) in
-    sym (ap byRecord (unsound-here (A .own) (at (A .own) (now (A .image))) D (L .d) h (denied (c .before .sound .ensures) (c .if1 .taken)))) ∙ L .inv .1
+    let rd = at (A .own) (now (A .image)) in
+    let s = c .before .before .sound in
+    let no = not-true (s .result .ok) (c .if1 .taken) in
+    let h : L .d < D = omega (arith, c .before .before .before .before .before .workers .ensures) in
+    (sym (ap byRecord (unsound-here (A .own) rd D (L .d) h (sym (s .ensures .0) ∙ no))) ∙ L .inv .1, λ e. absurd (false≢true e))
+
+mul-sets : tie.Need-mul-sets Inv-loop μ-loop
+mul-sets c =
+    omega (arith, c .before .before .before .before .before .workers .ensures, c .before .before .before .before .before .before .before .pre .1)
+
+array-write-sets : tie.Need-array-write-sets Inv-loop μ-loop
+array-write-sets c =
+    omega (arith, c .before .before .before .before .before .workers .ensures, c .before .before .before .before .before .before .before .pre .1)
 
 add-d : tie.Need-add-d Inv-loop μ-loop
 add-d c = omega arith
@@ -48,19 +64,28 @@ loop-less c = omega arith
 
 loop-again : tie.Need-loop-again Inv-loop μ-loop
 loop-again c =
-    let A = c .before .before .before .before .before .before .args in
-    let L = c .before .before .before .loop in
+    let S = c .before .before .before .before .before .before .before in
+    let A = S .args in
+    let L = c .before .before .before .before .loop in
     let D = workers (now (A .image)) in
-    let h : L .d < D = omega (arith, c .before .before .before .before .workers .ensures) in
-    (omega arith, sym (ap byRecord (unsound-on (A .own) (at (A .own) (now (A .image))) D (L .d) h (granted (c .before .sound .ensures) (c .if1 .left)))) ∙ L .inv .1)
+    let rd = at (A .own) (now (A .image)) in
+    let s = c .before .before .sound in
+    let yes = not-false (s .result .ok) (c .if1 .left) in
+    let few = S .pre .1 in
+    let h : L .d < D = omega (arith, c .before .before .before .before .before .workers .ensures) in
+    let g : L .d < 8 = omega arith in
+    (omega arith, sym (ap byRecord (unsound-on (A .own) rd D (L .d) h (sym (s .ensures .0) ∙ yes))) ∙ L .inv .1, owed-next (A .own) rd D (L .sets) (L .d) (s .result .owed) g (L .inv .2) (s .ensures .1 yes))
 
 returns-2 : tie.Need-returns-2 Inv-loop μ-loop
 returns-2 c =
-    let A = c .before .before .before .before .args in
+    let S = c .before .before .before .before in
+    let A = S .args in
     let L = c .before .loop in
     let D = workers (now (A .image)) in
-    let h : D ≤ L .d = omega (arith, c .before .before .workers .ensures) in
-    sym (ap byRecord (unsound-none (A .own) (at (A .own) (now (A .image))) D (L .d) h)) ∙ L .inv .1
+    let rd = at (A .own) (now (A .image)) in
+    let e : L .d ≡ D = omega (arith, c .before .before .workers .ensures) in
+    let h : D ≤ L .d = omega arith in
+    (sym (ap byRecord (unsound-none (A .own) rd D (L .d) h)) ∙ L .inv .1, λ done. rw e at (L .inv .2))
 
 pub records-spec : {M : Type 1} → statement M
 records-spec =
@@ -72,6 +97,8 @@ records-spec =
     loop-holds
     sound-requires
     returns
+    mul-sets
+    array-write-sets
     add-d
     loop-less
     loop-again

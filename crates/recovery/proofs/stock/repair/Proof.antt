@@ -8,19 +8,14 @@ workers-requires : tie.Need-workers-requires
 workers-requires c κs = search needs
 
 freed-requires : tie.Need-freed-requires
-freed-requires c κs = search needs
+freed-requires c κs = c .before .before .pre .0
 
 withdrawn-requires : tie.Need-withdrawn-requires
-withdrawn-requires c κs = search needs
-
-owed-sets-requires : tie.Need-owed-sets-requires
-owed-sets-requires c κs = search needs
+withdrawn-requires c κs = c .before .before .before .pre .0
 
 returns : tie.Need-returns
 unfolding repairOf
-returns c = rw (c .before .before .before .workers .ensures, c .before .before .freed .ensures, c .before .withdrawn .ensures, c .owed-sets .ensures)
+returns c = rw (c .before .before .workers .ensures, c .before .freed .ensures, c .withdrawn .ensures, c .before .before .before .before .pre .1)
 
 pub repair-spec : {M : Type 1} → statement M
-repair-spec =
-    tie.close
-    (tie.spec workers-requires freed-requires withdrawn-requires owed-sets-requires returns)
+repair-spec = tie.close (tie.spec workers-requires freed-requires withdrawn-requires returns)

@@ -2,11 +2,9 @@
 -- and the stores left, as they are now, is what all of the set leave of the first ones.
 use Prim.Native.Nat.{ℕ, _-_, _<_, _^_}
 use borrow.Author.Needs.{needs}
-use mathlib.Core.Path.{_≡_, refl, sym, ap, _∙_}
+use mathlib.Core.Path.{_≡_, refl, sym, _∙_}
 use native.Mathlib.Omega.{arith}
-use lib.Count.{trailingZeros}
 use lib.ListN.{length}
-use Rattle.image.proofs.Lists.{putAll-nil, putAll-cons}
 use Rattle.image.specs.Image.{putAll}
 use Rattle.recovery.specs.Repair.{lockStores}
 use Rattle.recovery.proofs.Lowest.{low-some, less-without, image-none, left-none, image-lock, left-lock}
