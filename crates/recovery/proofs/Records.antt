@@ -18,7 +18,8 @@ use Rattle.section.specs.declared.Op.{Op}
 use Rattle.section.specs.declared.Op.the-variants.{Acquire, Release, Assign, Jump, Finish, Unknown}
 use Rattle.section.specs.declared.Verdict.{Verdict}
 use Rattle.section.specs.declared.Verdict.the-variants.{Pass, Length}
-use Rattle.section.specs.Op.{opOf}
+use Rattle.section.specs.Op.{byKind, opOf}
+use Rattle.section.specs.Table.{kindOf, fieldA, fieldB, fieldC}
 use Rattle.section.specs.Check.{Code, inRange, heldAfter, heldBefore, check, passes}
 use Rattle.section.proofs.Facts.{check-parts}
 use Rattle.section.proofs.Held.{held-step}
@@ -30,6 +31,26 @@ use Rattle.recovery.specs.Repair.{Legible, Restorable, owedOf}
 
 private-not : (b x y : Bool) → cond b x y ≡ true → b ≡ false → y ≡ true
 private-not b x y e h = sym (ap (λ (t : Bool). cond t x y) h) ∙ e
+
+-- ---- the held set
+
+private-kind : (h k a b c : ℕ) → 2 < k → heldAfter h (byKind k a b c) ≡ h
+unfolding heldAfter
+private-kind h zero a b c l = absurd (omega arith)
+private-kind h (suc zero) a b c l = absurd (omega arith)
+private-kind h (suc (suc zero)) a b c l = absurd (omega arith)
+private-kind h (suc (suc (suc zero))) a b c l = refl
+private-kind h (suc (suc (suc (suc zero)))) a b c l = refl
+private-kind h (suc (suc (suc (suc (suc zero))))) a b c l = refl
+private-kind h (suc (suc (suc (suc (suc (suc zero)))))) a b c l = refl
+private-kind h (suc (suc (suc (suc (suc (suc (suc zero))))))) a b c l = refl
+private-kind h (suc (suc (suc (suc (suc (suc (suc (suc zero)))))))) a b c l = refl
+private-kind h (suc (suc (suc (suc (suc (suc (suc (suc (suc k))))))))) a b c l = refl
+
+-- kinds above 2 leave it
+pub held-stays : (h w : ℕ) → 2 < kindOf w → heldAfter h (opOf w) ≡ h
+unfolding opOf
+held-stays h w l = private-kind h (kindOf w) (fieldA w) (fieldB w) (fieldC w) l
 
 module _ (n : ℕ) (rd : Memory) (d : ℕ) where
   -- ---- the section
@@ -140,11 +161,17 @@ word-past : (n : ℕ) (m : Image) (d i : ℕ) → length m ≤ indexOf n (step d
 unfolding at
 word-past n m d i h = rw (List·getD-eq-default m 0 h) (private-zero (valid (workers m) n (step d i)))
 
--- which is no instruction
+-- which is no instruction, so before words in their ranges there is none
 no-word : (n w : ℕ) → w ≡ 0 → inRange n w ≡ true → ⊥
 no-word n w z e =
     let p = range-kind n w e .0 in
     omega arith
+
+pub held-past : (n : ℕ) (m : Image) (d i : ℕ) → length m < indexOf n (step d 0) + i → ((j : ℕ) → j < i → inRange n (codeIn n (at n m) d j) ≡ true)
+    → 0 ≡ heldBefore (codeIn n (at n m) d) i
+unfolding indexOf heldBefore
+held-past n m d zero h ranges = refl
+held-past n m d (suc i) h ranges = absurd (no-word n (codeIn n (at n m) d i) (word-past n m d i (omega arith)) (ranges i (omega arith)))
 
 -- so a section that reaches past the end does not pass
 pub check-past : (n : ℕ) (m : Image) (d k : ℕ) → length m < indexOf n (step d 0) + k → passes (check n k (codeIn n (at n m) d)) ≡ false

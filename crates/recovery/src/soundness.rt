@@ -25,8 +25,7 @@ fn section_passes(image: &[u64], d: usize, k: usize, own: usize) -> bool
     requires { ⌜ (Inside own (now image) d) × (k ≤ 64) ⌝ }
     ensures { λ r. ⌜ r ≡ passes (check own k (codeIn own (at own (now (image .entry))) d)) ⌝ }
 {
-    // A word past the image's end is 0, no instruction. After this one test the loads below need none of their own.
-    if image.len() < image::step_index(d, 0, own) + k {
+    if !begun::has_steps(image, d, k, own) {
         return false;
     }
     let mut words = [0u64; 64];

@@ -1,15 +1,16 @@
 -- `recovery::soundness::section_passes` meets its contract. The loop's invariant: the first i words are the record's;
 -- the check reads no others. A section that reaches past the end of the image does not pass.
 use Prim.Native.Nat.{ℕ, _-_, _≤_, _<_}
+use borrow.Author.Tests.{leb-false}
 use borrow.Author.Needs.{needs}
 use mathlib.Core.Path.{_≡_, refl, sym, ap, _∙_}
 use native.Mathlib.Omega.{arith}
 use denote.Ref.{now}
 use lib.Seq.{length-take-le, getD-take}
 use lib.ListN.{length, getD, take, length-set}
+use Rattle.base.proofs.Bools.{denied}
 use Rattle.base.proofs.Filling.{filled-next}
-use Rattle.image.proofs.Apart.{record-small}
-use Rattle.image.specs.Image.{at, indexOf}
+use Rattle.image.specs.Image.{at}
 use Rattle.section.proofs.Facts.{check-cong}
 use Rattle.section.specs.Check.{codeOf, check, passes}
 use Rattle.engine.specs.Turn.{codeIn}
@@ -24,27 +25,13 @@ Inv-loop image d k own words₀ i₀ words i =
 abbrev μ-loop : tie.MeasureT-loop
 μ-loop image d k own words₀ i₀ words i = k - i
 
-step-index-requires : tie.Need-step-index-requires Inv-loop μ-loop
-step-index-requires c κs =
-    let p = c .before .pre .0 in
-    let b = p .below in
-    let m = p .most in
-    (omega arith, omega arith, p .few)
-
-add-if1 : tie.Need-add-if1 Inv-loop μ-loop
-unfolding indexOf
-add-if1 c =
-    let A = c .before .before .args in
-    let p = c .before .before .pre .0 in
-    let b = p .below in
-    let m = p .most in
-    let l = record-small (A .own) (A .d) (omega arith) (p .few) in
-    omega (arith, c .step-index .ensures)
+has-steps-requires : tie.Need-has-steps-requires Inv-loop μ-loop
+has-steps-requires c κs = search needs
 
 returns : tie.Need-returns Inv-loop μ-loop
 returns c =
     let A = c .before .before .before .args in
-    sym (check-past (A .own) (now (A .image)) (A .d) (A .k) (rw (c .before .step-index .ensures) at (c .if1 .taken)))
+    sym (check-past (A .own) (now (A .image)) (A .d) (A .k) (leb-false _ (length (now (A .image))) (denied (c .before .has-steps .ensures) (c .if1 .taken))))
 
 loop-holds : tie.Need-loop-holds Inv-loop μ-loop
 loop-holds c = (omega arith, refl, λ j l. absurd (omega arith))
@@ -109,8 +96,7 @@ section-passes-spec =
     (tie.spec
     Inv-loop
     μ-loop
-    step-index-requires
-    add-if1
+    has-steps-requires
     returns
     loop-holds
     read-step-requires
