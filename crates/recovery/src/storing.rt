@@ -94,12 +94,15 @@ fn store_locks(image: &mut [u64], set: u64, value: u64, left: &mut u64)
     ensures image { λ _. ⌜ ((n : ℕ) → now (image .exit) ≡ putAll n (now (left .entry)) (now (image .entry)) (lockStores set value 0 64)) ⌝ }
     ensures left { λ _. ⌜ now (left .exit) ≡ now (left .entry) - length (lockStores set value 0 64) ⌝ }
 {
+    // Kept in a local in the loop: the compiler can't tell `left` from a word of the image.
+    let mut k = *left;
     let mut rest = set;
     while rest != 0 {
         let b = u64::trailing_zeros(rest) as u64;
-        image::store(image, image::lock_index(b), value, left);
+        image::store(image, image::lock_index(b), value, &mut k);
         rest = mask::without(rest, b);
     }
+    *left = k;
 }
 
 // Stores the intents.

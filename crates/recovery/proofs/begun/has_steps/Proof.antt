@@ -1,6 +1,5 @@
 -- `recovery::begun::has_steps` meets its contract: the index of the first word and the number of words are small, so their sum
 -- is exact.
-use borrow.Author.Needs.{needs}
 use native.Mathlib.Omega.{arith}
 use Rattle.image.proofs.Apart.{record-small}
 use Rattle.image.specs.Image.{indexOf}

@@ -2,7 +2,6 @@
 -- their ranges reaches not past the end of the image.
 use Prim.Native.Nat.{_-_, _≤_}
 use borrow.Author.Tests.{leb-false}
-use borrow.Author.Needs.{needs}
 use mathlib.Core.Path.{_≡_, refl}
 use native.Mathlib.Omega.{arith}
 use denote.Ref.{now}

@@ -1,6 +1,6 @@
 -- `recovery::begun::held_past` meets its contract, by whether the kind is above 2.
 use borrow.Author.Needs.{needs}
-use mathlib.Core.Path.{sym, _∙_}
+use mathlib.Core.Path.{sym}
 use Rattle.recovery.proofs.Records.{held-stays}
 use Rattle.recovery.proofs.begun.held_past.Statement.{statement}
 use Rattle.recovery.proofs.begun.held_past.Tie as tie

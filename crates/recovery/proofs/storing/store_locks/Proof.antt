@@ -12,12 +12,12 @@ use Rattle.recovery.proofs.storing.store_locks.Statement.{statement}
 use Rattle.recovery.proofs.storing.store_locks.Tie as tie
 
 abbrev Inv-loop : tie.InvT-loop
-Inv-loop image₀ set value left₀ rest₀ image left rest =
-    (rest < 2 ^ 64) × (length image ≡ length image₀) × ((n : ℕ) → putAll n left image (lockStores rest value 0 64) ≡ putAll n left₀ image₀ (lockStores set value 0 64))
-    × (left - length (lockStores rest value 0 64) ≡ left₀ - length (lockStores set value 0 64))
+Inv-loop image₀ set value left k₀ rest₀ image k rest =
+    (rest < 2 ^ 64) × (length image ≡ length image₀) × ((n : ℕ) → putAll n k image (lockStores rest value 0 64) ≡ putAll n k₀ image₀ (lockStores set value 0 64))
+    × (k - length (lockStores rest value 0 64) ≡ k₀ - length (lockStores set value 0 64))
 
 abbrev μ-loop : tie.MeasureT-loop
-μ-loop image₀ set value left₀ rest₀ image left rest = rest
+μ-loop image₀ set value left k₀ rest₀ image k rest = rest
 
 loop-holds : tie.Need-loop-holds Inv-loop μ-loop
 loop-holds c = (omega arith, refl, λ n. refl, refl)
@@ -43,7 +43,7 @@ loop-less c =
 
 loop-again : tie.Need-loop-again Inv-loop μ-loop
 loop-again c =
-    let A = c .before .before .before .before .before .before .before .before .before .before .args in
+    let A = c .before .before .before .before .before .before .before .before .before .before .before .args in
     let L = c .before .before .before .before .before .before .before .before .loop in
     let h = c .before .before .before .before .before .before .before .loop-test .taken in
     let s = c .before .before .before .store in
@@ -51,8 +51,8 @@ loop-again c =
     let l = less-without (L .rest) (L .inv .0) h in (
       rw (c .without .ensures) (omega arith),
       s .kept .0 ∙ L .inv .1,
-      λ n. rw (c .without .ensures, s .ensures .0, s .ensures .1, i .ensures n) (image-lock (L .rest) (L .inv .0) h (A .value) n (L .left) (L .image) ∙ L .inv .2 n),
-      rw (c .without .ensures, s .ensures .1) (left-lock (L .rest) (L .inv .0) h (A .value) (L .left) ∙ L .inv .3),
+      λ n. rw (c .without .ensures, s .ensures .0, s .ensures .1, i .ensures n) (image-lock (L .rest) (L .inv .0) h (A .value) n (L .k) (L .image) ∙ L .inv .2 n),
+      rw (c .without .ensures, s .ensures .1) (left-lock (L .rest) (L .inv .0) h (A .value) (L .k) ∙ L .inv .3),
     )
 
 same-length : tie.Need-same-length Inv-loop μ-loop
@@ -61,9 +61,9 @@ same-length c = c .before .loop .inv .1
 returns : tie.Need-returns Inv-loop μ-loop
 returns c =
     let L = c .before .loop in
-    let A = c .before .before .before .args in
+    let A = c .before .before .before .before .args in
     let z = c .loop-test .left in
-    (λ n. sym (image-none (L .rest) (A .value) z n (L .left) (L .image)) ∙ L .inv .2 n, sym (left-none (L .rest) (A .value) z (L .left)) ∙ L .inv .3)
+    (λ n. sym (image-none (L .rest) (A .value) z n (L .k) (L .image)) ∙ L .inv .2 n, sym (left-none (L .rest) (A .value) z (L .k)) ∙ L .inv .3)
 
 pub store-locks-spec : {M : Type 1} → statement M
 store-locks-spec =
