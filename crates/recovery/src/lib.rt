@@ -13,7 +13,7 @@ pub use stock::no_repair;
 ghost use mathlib.Core.Path.{_≡_};
 ghost use mathlib.Core.Bool.{true};
 ghost use Prim.Native.Nat.{_≤_};
-ghost use Rattle.image.specs.Image.{at, workers};
+ghost use Rattle.image.specs.Image.{at, workers, headerOk};
 ghost use Rattle.engine.specs.Edition.{mark, ownWords};
 ghost use Rattle.recovery.specs.Recovery.{recovery};
 ghost use Rattle.recovery.specs.Repair.{eight, owedAt, slotAt, slotOf};
@@ -102,13 +102,25 @@ struct Judged {
     owed: [u64; 8],
 }
 
+// Whether the header is right. An image that ends before its records is refused first: the compiler then sees that all owner
+// words are there, and leaves out the tests of their loads and stores.
+fn header_ok(image: &[u64], mark: u64, own: usize) -> bool
+    requires { ⌜ own ≤ 64 ⌝ }
+    ensures { λ r. ⌜ r ≡ headerOk mark own (now (image .entry)) ⌝ }
+{
+    if image.len() < image::record_at(0, own) {
+        return false;
+    }
+    image::header_ok(image, mark, own)
+}
+
 // Causes 10, 12 by worker, 13 by the lowest lock.
 fn judge(image: &[u64], mark: u64, own: usize) -> Judged
     requires { ⌜ own ≤ 64 ⌝ }
     ensures answer { λ r. ⌜ r .answer ≡ answerOf (recovery mark own (now (image .entry))) ⌝ }
     ensures owed { λ r. ⌜ (isDone (r .answer) ≡ true → r .owed ≡ eight (owedAt own (at own (now (image .entry))) (workers (now (image .entry))))) ⌝ }
 {
-    if !image::header_ok(image, mark, own) {
+    if !header_ok(image, mark, own) {
         return Judged {
             answer: Answer::Refused(Refusal::Image),
             owed: [0; 8],
