@@ -1,4 +1,4 @@
-// Rows of stores: words from an index up.
+// Rows of stores: words from an index up. The stores left are kept in a local meanwhile, so that a loop keeps them in a register.
 ghost use mathlib.Core.Path.{_≡_};
 ghost use Prim.Native.Nat.{_+_, _-_, _<_, _^_};
 ghost use lib.ListN.{length, replicate};
@@ -10,11 +10,13 @@ pub fn store_words(image: &mut [u64], at: usize, words: &[u64], left: &mut u64)
     ensures image { λ r. ⌜ now (image .exit) ≡ putFrom (now (left .entry)) (now (image .entry)) at (now (words .entry)) ⌝ }
     ensures left { λ r. ⌜ now (left .exit) ≡ now (left .entry) - length (now (words .entry)) ⌝ }
 {
+    let mut rest = *left;
     let mut i: usize = 0;
     while i < words.len() {
-        image::store(image, at + i, words[i], left);
+        image::store(image, at + i, words[i], &mut rest);
         i += 1;
     }
+    *left = rest;
 }
 
 // Stores 0 in k words from an index up.
@@ -23,9 +25,11 @@ pub fn clear(image: &mut [u64], at: usize, k: usize, left: &mut u64)
     ensures image { λ r. ⌜ now (image .exit) ≡ putFrom (now (left .entry)) (now (image .entry)) at (replicate k 0) ⌝ }
     ensures left { λ r. ⌜ now (left .exit) ≡ now (left .entry) - k ⌝ }
 {
+    let mut rest = *left;
     let mut i: usize = 0;
     while i < k {
-        image::store(image, at + i, 0, left);
+        image::store(image, at + i, 0, &mut rest);
         i += 1;
     }
+    *left = rest;
 }

@@ -12,15 +12,15 @@ use Rattle.engine.proofs.storing.store_words.Statement.{statement}
 use Rattle.engine.proofs.storing.store_words.Tie as tie
 
 abbrev Inv-loop : tie.InvT-loop
-Inv-loop image₀ at words left₀ i₀ image left i =
-    (i ≤ length words) × (length image ≡ length image₀) × (left ≡ left₀ - i) × (putFrom left image (at + i) (drop i words) ≡ putFrom left₀ image₀ at words)
+Inv-loop image₀ at words left rest₀ i₀ image rest i =
+    (i ≤ length words) × (length image ≡ length image₀) × (rest ≡ left - i) × (putFrom rest image (at + i) (drop i words) ≡ putFrom left image₀ at words)
 
 abbrev μ-loop : tie.MeasureT-loop
-μ-loop image₀ at words left₀ i₀ image left i = length words - i
+μ-loop image₀ at words left rest₀ i₀ image rest i = length words - i
 
 loop-holds : tie.Need-loop-holds Inv-loop μ-loop
 loop-holds c =
-    let A = c .before .before .args in
+    let A = c .before .before .before .args in
     let e : A .at + 0 ≡ A .at = omega arith in
     (omega arith, refl, omega arith, rw e)
 
@@ -45,12 +45,12 @@ loop-less c = omega arith
 loop-again : tie.Need-loop-again Inv-loop μ-loop
 loop-again c =
     let L = c .before .before .before .before .before .before .before in
-    let A = L .before .before .before .args in
+    let A = L .before .before .before .before .args in
     let s = c .before .before .store in (
       omega arith,
       s .kept .0 ∙ L .loop .inv .1,
       omega (arith, s .ensures .1),
-      words-step (now (A .words)) (A .at) (L .loop .i) _ (L .loop .left) _ (L .loop .image) _ (omega arith) refl (s .ensures .0) (s .ensures .1) ∙ L .loop .inv .3,
+      words-step (now (A .words)) (A .at) (L .loop .i) _ (L .loop .rest) _ (L .loop .image) _ (omega arith) refl (s .ensures .0) (s .ensures .1) ∙ L .loop .inv .3,
     )
 
 same-length : tie.Need-same-length Inv-loop μ-loop
@@ -59,8 +59,8 @@ same-length c = c .before .loop .inv .1
 returns : tie.Need-returns Inv-loop μ-loop
 returns c =
     let L = c .before .loop in
-    let A = c .before .before .before .before .args in
-    (sym (words-end (now (A .words)) (A .at + L .i) (L .i) (L .left) (L .image) (c .loop-test .left)) ∙ L .inv .3, omega arith)
+    let A = c .before .before .before .before .before .args in
+    (sym (words-end (now (A .words)) (A .at + L .i) (L .i) (L .rest) (L .image) (c .loop-test .left)) ∙ L .inv .3, omega arith)
 
 pub store-words-spec : {M : Type 1} → statement M
 store-words-spec =
