@@ -1,4 +1,5 @@
-// What worker d's record says of a section that is under way: the held sets, the owed set, and where the worker goes on.
+// What worker d's record says of a section that is under way: the held sets, what is owed at an instruction, and where the
+// worker goes on.
 use image::Field;
 use section::Op;
 use section::decode::held_after;

@@ -1,4 +1,4 @@
-// The stores of a repair, slot by slot.
+// The stores of a repair: slot by slot for a caller who looks at them; made by recovery in their four stages.
 use crate::Repair;
 use crate::Slot;
 use image::Field;
