@@ -8,6 +8,7 @@ use mathlib.Core.List.{List, [], _∷_, _++_}
 use native.Mathlib.Omega.{arith}
 use borrow.Author.Tests.{ltb-true, ltb-false}
 use lib.Dec.{ltb}
+use Rattle.base.proofs.Counting.{left-step, left-none}
 use Rattle.image.specs.Place.{Store}
 use Rattle.image.specs.Image.{Image, indexOf}
 use Rattle.engine.specs.declared.Cursors.{Cursors}
@@ -18,7 +19,7 @@ use Rattle.recovery.specs.declared.Repair.{Repair}
 use Rattle.recovery.specs.Repair.{slots, slotAt, slotOf}
 use Rattle.recovery.specs.Recovery.{recovery}
 use Rattle.recovery.specs.Recover.{repairBy, storesOf}
-use Rattle.recovery.proofs.Slots.{single, slot-single, slots-step, slots-end}
+use Rattle.recovery.proofs.Slots.{single, slot-single}
 use Rattle.recovery.proofs.Answers.{stores-are}
 use Rattle.frames.specs.declared.Printed.{Printed}
 use Rattle.frames.specs.declared.Printed.the-variants.{Nothing, Line}
@@ -89,6 +90,15 @@ private-lines : (ss us : List Store) → storesLine (ss ++ us) ≡ storesLine ss
 private-lines [] us = refl
 private-lines (s ∷ ss) us = ap (λ (l : List Printed). Line (indexOf ownWords (s .place)) (s .value) ∷ l) (private-lines ss us)
 
+module _ (r : Repair) (i : ℕ) where
+  private-step : i < 592 → slots r i (592 - i) ≡ slotAt r i ++ slots r (i + 1) (592 - (i + 1))
+  unfolding slots
+  private-step h = rw (left-step 592 i h)
+
+  private-end : 592 ≤ i → slots r i (592 - i) ≡ []
+  unfolding slots
+  private-end h = rw (left-none 592 i h)
+
 -- from slot i on
 pub stores-whole : (f i : ℕ) (m : Image) (c : Cursors) (x : Printed) (r : Repair) → 592 - i < f
     → pieces f (day m (played c x (Stores i) r)) ≡ told (storesLine (slots r i (592 - i))) m c
@@ -104,8 +114,8 @@ stores-whole (suc f) i m c x r h = by (ltb i 592) refl (λ b y. stores-whole f (
         rw e
         (ap (onto (slotPrints (slotOf ownWords (slotAt r i)))) (more b _)
         ∙ private-slot (slotAt r i) _ (slot-single r i)
-        ∙ ap (λ (l : List Printed). told l m c) (sym (private-lines (slotAt r i) _) ∙ ap storesLine (sym (slots-step r i b))))
-    by false e more = rw (e, slots-end r i (ltb-false i 592 e)) (ap (onto Nothing) (next-rests f m c Nothing r))
+        ∙ ap (λ (l : List Printed). told l m c) (sym (private-lines (slotAt r i) _) ∙ ap storesLine (sym (private-step r i b))))
+    by false e more = rw (e, private-end r i (ltb-false i 592 e)) (ap (onto Nothing) (next-rests f m c Nothing r))
 
 -- 03, where it is accepted
 pub recovery-whole : (f : ℕ) (m m′ : Image) (c : Cursors) (x : Printed) → 592 < f
