@@ -5,10 +5,13 @@ use mathlib.Core.Path.{_≡_, refl, sym, ap, _∙_}
 use mathlib.Core.Bool.{Bool, true, false, cond}
 use mathlib.Core.Logic.{_≢_}
 use native.Mathlib.Omega.{arith}
+use native.Mathlib.Decide.{ℕ-discrete}
 use lib.ListN.{length, getD}
-use lib.Dec.{eqb}
+use lib.Dec.{leb, eqb}
+use borrow.Author.Tests.{leb-true, leb-false}
 use Rattle.base.proofs.Counting.{left-all}
-use Rattle.image.specs.Image.{at, workers}
+use Rattle.image.specs.Image.{at}
+use Rattle.image.proofs.Header.{Sized}
 use Rattle.tally.specs.declared.Tally.{Tally}
 use Rattle.tally.specs.Tally.{none}
 use Rattle.engine.specs.declared.Did.{Did}
@@ -19,15 +22,13 @@ use Rattle.engine.specs.Turn.{refused, ready, turnAt}
 use Rattle.engine.specs.World.{World, answerOf, leaves, outcomeAt, planOf, planDid, didAnswer}
 use Rattle.engine.specs.Run.{countedAs, openTo, Counting, counting, ran, through, halted, sweep, roundsOf}
 use Rattle.engine.proofs.Planned.{on-is, ready-says}
-use Rattle.engine.proofs.Standing.{Full, open-turn}
-use Rattle.engine.proofs.Turns.{Made, made-ready, made-goes, did-answers, leaves-other, workers-turn}
+use Rattle.engine.proofs.Standing.{Full, open-turn, idle-says}
+use Rattle.engine.proofs.Staying.{tested, Known, known-turn, sized-leaves}
+use Rattle.engine.proofs.Turns.{Made, made-ready, made-goes, did-answers, leaves-other}
 use Rattle.engine.proofs.Idling.{Idle, sweep-idle, sweep-rest, to-zero, to-most, to-idle, to-none, to-some, to-cut, to-same, to-below, to-with}
 use Rattle.engine.proofs.Rounds.{Most, most-none, most-more, most-counted, turned-is, sweep-on, sweep-halts, rounds-idle, rounds-spent, rounds-on, after-through, after-halted}
 
 -- ---- the turn of an open worker
-
-abbrev pub tested : ℕ → World → ℕ → Bool
-tested own w d = ready own (at own (w .image)) d (getD (w .cursors .step) d 0) (getD (w .cursors .turn) d 0)
 
 module _ (own : ℕ) (w : World) (d : ℕ) (f : Full (w .cursors)) (h : d < 8) where
   private-on : getD (w .cursors .turn) d 0 ≢ 255 → cursorAt (w .cursors) d ≡ on (getD (w .cursors .step) d 0) (getD (w .cursors .turn) d 0)
@@ -45,6 +46,14 @@ module _ (own : ℕ) (w : World) (d : ℕ) (f : Full (w .cursors)) (h : d < 8) w
   unfolding outcomeAt turnAt
   refused-at o e = rw (private-on o, e)
 
+-- what holds of worker d, and of each other, holds of each
+by-worker : (P : ℕ → Type 0) (i d : ℕ) → P d → (i ≢ d → P i) → P i
+by-worker P i d p q = by (ℕ-discrete i d)
+  where
+    by : Dec (i ≡ d) → P i
+    by (yes e) = rw e p
+    by (no e) = q e
+
 -- ---- within a round: from s₀ to s, with the workers below d through, and `next` the last open one of them
 
 pub record Lap (own n to round : ℕ) (s₀ s : Counting) (next d : ℕ) : Type 0 where
@@ -52,37 +61,43 @@ pub record Lap (own n to round : ℕ) (s₀ s : Counting) (next d : ℕ) : Type 
   pub top : to ≤ n
   pub few : n ≤ 8
   pub full : Full (s .world .cursors)
-  pub has : n ≡ workers (s .world .image)
+  pub size : Sized own n (s .world .image)
   pub most : Most (8 * round + d) (s .tally)
   pub last : next ≡ openTo d (s .world .cursors)
   pub rest : Idle (s .world .cursors) to n
+  pub known : (e : ℕ) → e < n → (round ≡ 0 → e < d) → Known own (s .world) e
   pub same : sweep own (n - d) d s ≡ sweep own n 0 s₀
 
 module _ (own n to round : ℕ) (s₀ s : Counting) (next d : ℕ) (l : Lap own n to round s₀ s next d) where
   -- past an idle worker
   pub lap-idle : d < to → isIdle (cursorAt (s .world .cursors) d) ≡ true → Lap own n to round s₀ s next (d + 1)
   lap-idle h e =
+      let rests = idle-says (s .world .cursors) d (rw (l .full .turns) (omega (arith, l .top, l .few))) e in
+      let here : Known own (s .world) d = λ a b. absurd (b rests) in
       record {
         below = omega arith;
         top = l .top;
         few = l .few;
         full = l .full;
-        has = l .has;
+        size = l .size;
         most = most-more (8 * round + d) (8 * round + (d + 1)) (l .most) (omega arith);
         last = l .last ∙ sym (to-below (s .world .cursors) d e);
         rest = l .rest;
+        known = λ i a g. by-worker (Known own (s .world)) i d here (λ q. l .known i a (λ r. omega (arith, g r, q)));
         same = rw (sweep-idle own n d s (omega (arith, l .top)) e) at (l .same);
       }
 
   -- past a turn that is made
   pub lap-turn : (w : World) (x : Did) (t : Tally) (m : ℕ) → d < to → Full (w .cursors)
-      → Made (outcomeAt own (s .world) d)
+      → tested own (s .world) d ≡ true
       → x ≡ planDid (planOf own (outcomeAt own (s .world) d))
       → w ≡ leaves own (s .world) d (outcomeAt own (s .world) d)
       → t ≡ countedAs (didAnswer x) (s .tally)
       → m ≡ cond (eqb (getD (w .cursors .turn) d 0) 255) next (d + 1)
       → Lap own n to round s₀ (counting w t) m (d + 1)
-  lap-turn w x t m h f made did left count kept =
+  lap-turn w x t m h f test did left count kept =
+      let few : d < 8 = omega (arith, l .top, l .few) in
+      let made = made-at own (s .world) d (l .full) few test in
       let o = outcomeAt own (s .world) d in
       let said : didAnswer x ≡ answerOf own o = ap didAnswer did ∙ did-answers own o made in
       let turn = turned-is own s d w (didAnswer x) t left said count in
@@ -93,10 +108,11 @@ module _ (own n to round : ℕ) (s₀ s : Counting) (next d : ℕ) (l : Lap own 
         top = l .top;
         few = l .few;
         full = f;
-        has = l .has ∙ sym (workers-turn own (s .world) w d o left);
+        size = rw left (sized-leaves n own (s .world) d (l .full) (l .size) (omega (arith, l .top)) few o);
         most = rw count (most-more (8 * round + d + 1) (8 * round + (d + 1)) (most-counted (8 * round + d) (didAnswer x) (l .most)) (omega arith));
         last = kept ∙ to-with (w .cursors) d next (rw (f .turns) (omega (arith, l .top, l .few))) below;
         rest = λ i a b. rw (others i (λ r. omega arith)) (l .rest i a b);
+        known = λ i a g. rw left (known-turn n own (s .world) d (l .full) (l .size) (omega (arith, l .top)) few test i (λ q. l .known i a (λ r. omega (arith, g r, q))));
         same = rw (sweep-on n d (omega (arith, l .top)) own s (made-goes own o made), ← turn) at (l .same);
       }
 
@@ -111,6 +127,14 @@ module _ (own n to round : ℕ) (s₀ s : Counting) (next d : ℕ) (l : Lap own 
       let q : d ≡ to = omega (arith, l .below) in
       l .last ∙ sym (to-cut (s .world .cursors) n d (omega (arith, l .top)) (rw q (l .rest)))
 
+  -- each worker is then known to be ready, or idle
+  pub lap-known : to ≤ d → (i : ℕ) → i < n → Known own (s .world) i
+  lap-known h i a = by (leb to i) refl
+    where
+      by : (b : Bool) → leb to i ≡ b → Known own (s .world) i
+      by true e = λ p q. absurd (q (idle-says (s .world .cursors) i (rw (l .full .turns) (omega (arith, l .few))) (l .rest i (leb-true to i e) a)))
+      by false e = l .known i a (λ r. omega (arith, leb-false to i e))
+
   -- halted
   pub lap-halts : d < to → getD (s .world .cursors .turn) d 0 ≢ 255 → tested own (s .world) d ≡ false → sweep own n 0 s₀ ≡ halted (CursorRefused d) s
   lap-halts h o e =
@@ -123,9 +147,10 @@ pub record Laps (own n rounds : ℕ) (s₀ s : Counting) (round to : ℕ) : Type
   pub below : round ≤ rounds
   pub few : n ≤ 8
   pub full : Full (s .world .cursors)
-  pub has : n ≡ workers (s .world .image)
+  pub size : Sized own n (s .world .image)
   pub most : Most (8 * round) (s .tally)
   pub last : to ≡ openTo n (s .world .cursors)
+  pub known : (e : ℕ) → e < n → round ≢ 0 → Known own (s .world) e
   pub same : roundsOf own (rounds - round) n s ≡ roundsOf own rounds n s₀
 
 module _ (own n rounds : ℕ) (s₀ s : Counting) (round to : ℕ) (l : Laps own n rounds s₀ s round to) where
@@ -137,10 +162,11 @@ module _ (own n rounds : ℕ) (s₀ s : Counting) (round to : ℕ) (l : Laps own
         top = rw (l .last) (to-most (s .world .cursors) n);
         few = l .few;
         full = l .full;
-        has = l .has;
+        size = l .size;
         most = most-more (8 * round) (8 * round + 0) (l .most) (omega arith);
         last = sym (to-zero (s .world .cursors));
         rest = rw (l .last) (to-idle (s .world .cursors) n);
+        known = λ i a g. l .known i a (λ q. absurd (omega (arith, g q)));
         same = rw left-all;
       }
 
@@ -151,9 +177,10 @@ module _ (own n rounds : ℕ) (s₀ s : Counting) (round to : ℕ) (l : Laps own
         below = omega arith;
         few = l .few;
         full = p .full;
-        has = p .has;
+        size = p .size;
         most = most-more (8 * round + d) (8 * (round + 1)) (p .most) (omega (arith, p .below, p .top, p .few));
         last = lap-last own n to round s v next d p h;
+        known = λ i a g. lap-known own n to round s v next d p h i a;
         same =
             rw (
               rounds-on own n rounds round s r (to-some (s .world .cursors) n (λ q. o (l .last ∙ q))),

@@ -6,4 +6,5 @@ pub mod Submission
 pub mod Turns
 pub mod Idling
 pub mod Rounds
+pub mod Staying
 pub mod Laps

@@ -7,7 +7,7 @@ use mathlib.Core.Logic.{_≢_}
 use native.Mathlib.Omega.{arith}
 use lib.ListN.{length, getD}
 use lib.Dec.{leb, ltb, eqb}
-use borrow.Author.Tests.{leb-true, ltb-true}
+use borrow.Author.Tests.{leb-true, ltb-true, lt-ltb}
 use Rattle.base.proofs.Bools.{and-left}
 use Rattle.base.proofs.Filling.{getD-inside}
 use Rattle.mask.specs.Mask.{with}
@@ -95,6 +95,7 @@ range-kind own w e =
 pub record Ready (n : ℕ) (rd : Memory) (d s t : ℕ) : Type 0 where
   pub step : s < 64
   pub turn : t < 6
+  pub has : t < turnsOf (codeIn n rd d s)
   pub form : fits n (opOf (codeIn n rd d s))
 
 pub ready-says : (n : ℕ) (rd : Memory) (d s t : ℕ) → ready n rd d s t ≡ true → Ready n rd d s t
@@ -106,5 +107,15 @@ ready-says n rd d s t e =
     record {
       step = omega (arith, leb-true k 64 (h .1), ltb-true s k (h .2));
       turn = omega (arith, ltb-true t (turnsOf w) (h .4), turns-most w);
+      has = ltb-true t (turnsOf w) (h .4);
       form = in-range n w (formed-range n k s w (h .3));
     }
+
+-- it is ready at each turn that its instruction has
+pub ready-turn : (n : ℕ) (rd : Memory) (d s t u : ℕ) → ready n rd d s t ≡ true → u < turnsOf (codeIn n rd d s) → ready n rd d s u ≡ true
+unfolding ready
+ready-turn n rd d s t u e l =
+    let k = rd (field Count d) in
+    let w = codeIn n rd d s in
+    let h = private-tests (leb 3 k) (leb k 64) (ltb s k) (wellFormed n k s w) (ltb t (turnsOf w)) e in
+    rw (h .0, h .1, h .2, h .3) (lt-ltb u (turnsOf w) l)

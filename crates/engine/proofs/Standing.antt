@@ -6,7 +6,7 @@ use mathlib.Core.Logic.{_≢_}
 use lib.ListN.{length, getD, set}
 use lib.Seq.{getD-set-same, getD-set-other}
 use lib.Dec.{eqb}
-use borrow.Author.Tests.{eq-eqb, ne-eqb}
+use borrow.Author.Tests.{eq-eqb, ne-eqb, eqb-true}
 use Rattle.base.proofs.Filling.{getD-inside}
 use Rattle.engine.specs.declared.Cursors.{Cursors}
 use Rattle.engine.specs.Cursor.{Cursor, idle, on, isIdle, stepNo, turnNo, cursorAt, setAt, placed}
@@ -56,3 +56,6 @@ open-turn c d h e = idle-by c d ∙ ne-eqb _ 255 (λ q. e (sym (getD-inside (c .
 
 pub open-not : (c : Cursors) (d : ℕ) → d < length (c .turn) → isIdle (cursorAt c d) ≡ false → getD (c .turn) d 0 ≢ 255
 open-not c d h e q = true≢false (sym (idle-turn c d h q) ∙ e)
+
+pub idle-says : (c : Cursors) (d : ℕ) → d < length (c .turn) → isIdle (cursorAt c d) ≡ true → getD (c .turn) d 0 ≡ 255
+idle-says c d h e = sym (getD-inside (c .turn) d 255 0 h) ∙ eqb-true _ 255 (sym (idle-by c d) ∙ e)

@@ -4,6 +4,7 @@ use crate::steps;
 use image::Field;
 ghost use mathlib.Core.Path.{_≡_};
 ghost use mathlib.Core.Bool.{true};
+ghost use mathlib.Core.Logic.{_≢_};
 ghost use Rattle.image.specs.Image.{at, Inside};
 ghost use Rattle.engine.specs.Cursor.{on};
 ghost use Rattle.engine.specs.Turn.{ready, turnAt};
@@ -29,6 +30,19 @@ pub fn ready(image: &[u64], d: usize, own: usize, s: u8, t: u8) -> bool
         return false;
     }
     (t as u64) < section::decode::turns(w)
+}
+
+// The same in a round of a run: after the first round, a turn past the first of its step is known to be one.
+pub fn ready_in(image: &[u64], d: usize, own: usize, s: u8, t: u8, round: u16) -> bool
+    requires { ⌜ (Inside own (now image) d) × (t ≢ 0 → round ≢ 0 → ready own (at own (now image)) d s t ≡ true) ⌝ }
+    ensures { λ r. ⌜ r ≡ ready own (at own (now (image .entry))) d s t ⌝ }
+{
+    if t != 0 {
+        if round != 0 {
+            return true;
+        }
+    }
+    ready(image, d, own, s, t)
 }
 
 // What worker d's turn is to do at step s, turn t, which is ready.

@@ -11,7 +11,7 @@ ghost use mathlib.Core.Bool.{cond};
 ghost use mathlib.Core.List.{List};
 ghost use lib.Dec.{eqb};
 ghost use lib.ListN.{length};
-ghost use Rattle.image.specs.Image.{workers};
+ghost use Rattle.image.specs.Image.{workers, lengthOf};
 ghost use Rattle.tally.specs.Tally.{none, Room};
 ghost use Rattle.engine.specs.Cursor.{standing};
 ghost use Rattle.engine.specs.World.{world, didAnswer};
@@ -72,7 +72,8 @@ pub fn rounds_of(
     rounds: u16,
     left: &mut u64,
 ) -> Over
-    requires { ⌜ (own ≤ 64) × (n ≡ workers (now image)) × (n ≤ 8) × (length (now step) ≡ 8) × (length (now turn) ≡ 8) ⌝ }
+    requires { ⌜ (own ≤ 64) × (n ≡ workers (now image)) × (n ≤ 8) × (length (now step) ≡ 8) × (length (now turn) ≡ 8)
+        × (length (now image) ≡ lengthOf own n) ⌝ }
     ensures { λ r. ⌜ ran (r .end) (counting (world (now (image .exit)) (standing (now (step .exit)) (now (turn .exit))) (now (left .exit))) (r .tally))
         ≡ roundsOf own rounds n (counting (world (now (image .entry)) (standing (now (step .entry)) (now (turn .entry))) (now (left .entry))) none) ⌝ }
 {
@@ -95,7 +96,7 @@ pub fn rounds_of(
                 d += 1;
                 continue;
             }
-            if !planning::ready(image, d, own, s, t) {
+            if !planning::ready_in(image, d, own, s, t, round) {
                 break 'rounds End::Halted(Refusal::Cursor(d));
             }
             let did = turning::turn_on(image, step, turn, d, own, left);

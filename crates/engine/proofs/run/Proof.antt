@@ -6,6 +6,7 @@ use mathlib.Core.Path.{_≡_, refl, sym, ap, _∙_}
 use native.Mathlib.Omega.{arith}
 use denote.Ref.{now}
 use lib.ListN.{length}
+use Rattle.image.proofs.Header.{header-true}
 use Rattle.base.proofs.Bools.{denied, granted}
 use Rattle.image.proofs.Header.{header-workers}
 use Rattle.engine.specs.World.{world}
@@ -44,7 +45,8 @@ rounds-of-requires c κs =
     let e = c .before .before .before .before .before .before .workers .ensures in
     let p : length (A .c .step) ≡ 8 = search needs in
     let q : length (A .c .turn) ≡ 8 = search needs in
-    (omega arith, e, rw e (header-workers mark ownWords (now (A .image)) (granted (c .before .before .before .before .before .before .before .before .before .header-ok .ensures) (c .before .before .before .before .before .before .before .before .if1 .left)) .1), p, q)
+    let h = header-true mark ownWords (now (A .image)) (granted (c .before .before .before .before .before .before .before .before .before .header-ok .ensures) (c .before .before .before .before .before .before .before .before .if1 .left)) in
+    (omega arith, e, rw e (h .few), p, q, rw e (h .size))
 
 same-length-2 : tie.Need-same-length-2
 same-length-2 c = search needs

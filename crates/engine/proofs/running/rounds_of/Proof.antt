@@ -16,7 +16,7 @@ use Rattle.engine.specs.World.{world}
 use Rattle.engine.specs.Run.{counting}
 use Rattle.engine.proofs.Rounds.{most-none, most-room}
 use Rattle.engine.proofs.Standing.{idle-turn}
-use Rattle.engine.proofs.Laps.{made-at, Lap, lap-idle, lap-turn, lap-halts, Laps, laps-lap, laps-again, laps-idle, laps-spent, laps-halts}
+use Rattle.engine.proofs.Laps.{Lap, lap-idle, lap-turn, lap-halts, Laps, laps-lap, laps-again, laps-idle, laps-spent, laps-halts}
 use Rattle.engine.proofs.running.rounds_of.Statement.{statement}
 use Rattle.engine.proofs.running.rounds_of.Tie as tie
 
@@ -53,9 +53,10 @@ rounds-holds c =
         below = omega arith;
         few = p .2;
         full = record { steps = p .3; turns = p .4 };
-        has = p .1;
+        size = record { size = p .5; has = sym (p .1) };
         most = rw (c .before .before .zero .ensures) most-none;
         last = c .open-to .ensures (now (A .step));
+        known = λ e a q. absurd (q refl);
         same = rw (left-all, c .before .before .zero .ensures);
       },
     )
@@ -82,21 +83,29 @@ loop-again c =
     let idle = idle-turn (standing (L .step) (L .turn)) (L .d) (rw (l .full .turns) (omega (arith, l .top, l .few))) (c .if3 .taken) in
     (L .inv .0, lap-idle _ _ _ _ _ _ _ _ l (c .before .before .before .loop-test .taken) idle)
 
-ready-requires : tie.Need-ready-requires Inv-loop μ-loop Inv-rounds μ-rounds
-ready-requires c κs = let l = c .before .before .before .before .before .loop .inv .1 in let p = c .before .before .before .before .before .before .before .before .before .before .before .before .before .before .before .pre in record { few = p .0; below = rw (← l .has) (omega (arith, l .top)); most = rw (← l .has) (l .few) }
+ready-in-requires : tie.Need-ready-in-requires Inv-loop μ-loop Inv-rounds μ-rounds
+ready-in-requires c κs =
+    let L = c .before .before .before .before .before .loop in
+    let l = L .inv .1 in
+    let p = c .before .before .before .before .before .before .before .before .before .before .before .before .before .before .before .pre in
+    (record { few = p .0; below = rw (l .size .has) (omega (arith, l .top)); most = rw (l .size .has) (l .few) }, λ a o. l .known (L .d) (omega (arith, l .top)) (λ q. absurd (o q)) a (c .before .if3 .left))
 
 turn-on-requires : tie.Need-turn-on-requires Inv-loop μ-loop Inv-rounds μ-rounds
 turn-on-requires c κs =
     let l = c .before .before .before .before .before .before .before .before .before .before .before .loop .inv .1 in
     let p = c .before .before .before .before .before .before .before .before .before .before .before .before .before .before .before .before .before .before .before .before .before .pre in (
-      record { few = p .0; below = rw (← l .has) (omega (arith, l .top)); most = rw (← l .has) (l .few) },
+      record { few = p .0; below = rw (l .size .has) (omega (arith, l .top)); most = rw (l .size .has) (l .few) },
       rw (l .full .steps) (omega (arith, l .top, l .few)),
       rw (l .full .turns) (omega (arith, l .top, l .few)),
-      granted (c .before .before .before .before .before .ready .ensures) (c .before .before .before .before .if4 .left),
+      granted (c .before .before .before .before .before .ready-in .ensures) (c .before .before .before .before .if4 .left),
     )
 
 counted-requires : tie.Need-counted-requires Inv-loop μ-loop Inv-rounds μ-rounds
-counted-requires c κs = most-room _ (c .before .before .before .before .before .before .before .before .before .before .before .before .before .before .before .before .before .before .loop .inv .1 .most) (omega arith)
+counted-requires c κs =
+    let F = c .before .before .before .before .before .before .before .before .before .before .before .before .before .before .before .before .before .before .before .before .before .before .before .before .before .before .before .before .fits in
+    let l = c .before .before .before .before .before .before .before .before .before .before .before .before .before .before .before .before .before .before .loop .inv .1 in
+    let r = c .before .before .before .before .before .before .before .before .before .before .before .before .before .before .before .before .before .before .before .before .before .rounds .inv .1 in
+    most-room _ (l .most) (omega (arith, F, r .below, l .below, l .top, l .few))
 
 slice-read-open-with : tie.Need-slice-read-open-with Inv-loop μ-loop Inv-rounds μ-rounds
 slice-read-open-with c =
@@ -117,11 +126,9 @@ loop-again-2 c =
     let u = c .before .before .before .before .before .before .before .before .before .turn-on in
     let L = c .before .before .before .before .before .before .before .before .before .before .before .before .before .before .before .before .before .before .before .before .before .loop in
     let l = L .inv .1 in
-    let h : L .d < 8 = omega (arith, l .top, l .few) in
-    let w = world (L .image) (standing (L .step) (L .turn)) (L .left) in
-    let made = made-at _ w (L .d) (l .full) h (granted (c .before .before .before .before .before .before .before .before .before .before .before .before .before .before .before .ready .ensures) (c .before .before .before .before .before .before .before .before .before .before .before .before .before .before .if4 .left)) in
+    let test = granted (c .before .before .before .before .before .before .before .before .before .before .before .before .before .before .before .ready-in .ensures) (c .before .before .before .before .before .before .before .before .before .before .before .before .before .before .if4 .left) in
     let full : Full (standing (u .last .1 .0) (u .last .1 .1 .0)) = record { steps = u .kept .1 .0 ∙ l .full .steps; turns = u .kept .1 .1 .0 ∙ l .full .turns } in
-    (u .kept .0 ∙ L .inv .0, lap-turn _ _ _ _ _ _ _ _ l _ _ _ _ (c .before .before .before .before .before .before .before .before .before .before .before .before .before .before .before .before .before .before .before .before .loop-test .taken) full made (u .ensures .0) (u .ensures .1) (c .before .before .counted .ensures) (c .open-with .ensures))
+    (u .kept .0 ∙ L .inv .0, lap-turn _ _ _ _ _ _ _ _ l _ _ _ _ (c .before .before .before .before .before .before .before .before .before .before .before .before .before .before .before .before .before .before .before .before .loop-test .taken) full test (u .ensures .0) (u .ensures .1) (c .before .before .counted .ensures) (c .open-with .ensures))
 
 add-round : tie.Need-add-round Inv-loop μ-loop Inv-rounds μ-rounds
 add-round c = omega arith
@@ -170,7 +177,7 @@ same-length-9 c = c .before .before .before .before .before .before .before .loo
 
 returns-3 : tie.Need-returns-3 Inv-loop μ-loop Inv-rounds μ-rounds
 returns-3 c =
-    let halts = lap-halts _ _ _ _ _ _ _ _ (c .before .before .before .before .before .before .before .loop .inv .1) (c .before .before .before .before .before .before .loop-test .taken) (c .before .before .before .if3 .left) (denied (c .before .ready .ensures) (c .if4 .taken)) in
+    let halts = lap-halts _ _ _ _ _ _ _ _ (c .before .before .before .before .before .before .before .loop .inv .1) (c .before .before .before .before .before .before .loop-test .taken) (c .before .before .before .if3 .left) (denied (c .before .ready-in .ensures) (c .if4 .taken)) in
     laps-halts _ _ _ _ _ _ _ (c .before .before .before .before .before .before .before .before .before .before .rounds .inv .1) _ _ (c .before .before .before .before .before .before .before .before .before .if1 .left) (omega arith) halts
 
 pub rounds-of-spec : {M : Type 1} → statement M
@@ -190,7 +197,7 @@ rounds-of-spec =
     add-d
     loop-less
     loop-again
-    ready-requires
+    ready-in-requires
     turn-on-requires
     counted-requires
     slice-read-open-with
