@@ -23,6 +23,7 @@ use Rattle.section.proofs.Held.{after-assign}
 use Rattle.section.proofs.Ranges.{assign-range, expr-range}
 use Rattle.engine.specs.Cursor.{Cursor, on, cursorAt}
 use Rattle.engine.specs.Turn.{operand, codeIn, wordIn, spareAddr}
+use Rattle.engine.proofs.Operands.{operand-valid}
 use Rattle.claims.specs.Reference.{job, State, state, Given, start, readIn, onto, assigned}
 use Rattle.claims.specs.Calls.{Traced, play}
 use Rattle.claims.proofs.Invariant.{heldAt}
@@ -42,14 +43,6 @@ filled-alike l size i v f e h j g = by (ℕ-discrete j i)
     by : Dec (j ≡ i) → getD (set l i v) j 0 ≡ cond (eqb j i) v (f j)
     by (yes p) = rw (eq-eqb j i p, p) (getD-set-same l i v 0 (rw (← p, e) g))
     by (no p) = rw (ne-eqb j i p) (getD-set-other l i j v 0 p ∙ h j g)
-
-operand-valid : (D n d a : ℕ) → d < D → a < 512 + n → valid D n (operand d a) ≡ true
-unfolding operand
-operand-valid D n d a dl l = by (ltb a 512) refl
-  where
-    by : (b : Bool) → ltb a 512 ≡ b → valid D n (cond b (cell a) (own d (a - 512))) ≡ true
-    by true e = e
-    by false e = let g = ltb-false a 512 e in and-both (ltb d D) (ltb (a - 512) n) (lt-ltb d D dl) (lt-ltb (a - 512) n (omega arith))
 
 module _
     (mark n D : ℕ) (w : Traced) (s : State) (gs : ℕ → List Given) (E : Even mark n D w s gs) (d : ℕ) (dl : d < D)
@@ -76,7 +69,7 @@ module _
   assign-wrote : Wrote mark n D w rd d (operand d a) result (on (k + 1) 0) cur (w .trace .taken)
   assign-wrote =
       log-turns mark n D w rd d cur (w .trace .taken) k 0 (Assign a x) (operand d a) (λ (m : Memory). eval (wordIn n m d) x) (on (k + 1) 0) (start-view mark n D w s gs E d dl W) dl
-      (here mark n D w s gs E d dl W (Assign a x) o) assign-logs (operand-valid D n d a dl reach) (λ q. omega arith)
+      (here mark n D w s gs E d dl W (Assign a x) o) assign-logs (operand-valid n d a D dl reach) (λ q. omega arith)
       (λ z. ap (λ (f : ℕ → ℕ). eval f x) (reads-kept n rd (upd rd (field (spareAddr n rd d) d) z) d (quiet-spare-addr n rd d z)))
 
   abbrev before : Memory

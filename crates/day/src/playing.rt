@@ -7,6 +7,7 @@ use frames::Opening;
 ghost use mathlib.Core.Path.{_≡_};
 ghost use Prim.Native.Nat.{_≤_};
 ghost use lib.ListN.{length};
+ghost use Rattle.day.specs.Jobs.{isGoing, isStop};
 
 // The start of a day: nothing is read yet.
 pub fn dawn() -> Day
@@ -89,7 +90,9 @@ fn first(fd: i32, image: &mut [u64], out: &mut [u8], s: Day, text: &[u8]) -> Day
 }
 
 // Whether a line is to be gone on with.
-fn going(job: Job) -> bool {
+fn going(job: Job) -> bool
+    ensures { λ r. ⌜ r ≡ isGoing job ⌝ }
+{
     match job {
         Job::Turns {
             worker: _,
@@ -101,7 +104,10 @@ fn going(job: Job) -> bool {
     }
 }
 
-fn stops(job: Job) -> bool {
+// Whether it ends the day.
+fn stops(job: Job) -> bool
+    ensures { λ r. ⌜ r ≡ isStop job ⌝ }
+{
     match job {
         Job::Turns {
             worker: _,

@@ -1,5 +1,6 @@
 pub mod Standing
 pub mod Planned
+pub mod Operands
 pub mod Rows
 pub mod Formats
 pub mod Submission

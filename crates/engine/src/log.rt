@@ -3,10 +3,10 @@
 use crate::Plan;
 use image::Field;
 ghost use mathlib.Core.Path.{_≡_};
-ghost use Prim.Native.Nat.{_+_, _<_};
+ghost use Prim.Native.Nat.{ℕ, _+_, _<_};
 ghost use Rattle.image.specs.Place.{Place};
 ghost use Rattle.image.specs.Image.{at, indexOf, Inside};
-ghost use Rattle.engine.specs.Cursor.{on};
+ghost use Rattle.engine.specs.Cursor.{Cursor, on};
 ghost use Rattle.engine.specs.Turn.{second, spareAddr, spareVal, activeVal, switched, logged};
 ghost use Rattle.engine.specs.World.{planOf};
 
@@ -62,6 +62,34 @@ fn switched(image: &[u64], d: usize, own: usize, s: u8) -> u64
     s as u64 + 1 + 9223372036854775808
 }
 
+// A word to store, and its index.
+struct Word {
+    at: usize,
+    value: u64,
+}
+
+// What turn j of a logged store of v at an index stores in the record, at step s: the address, the value, or the pc.
+fn record_word(image: &[u64], d: usize, own: usize, s: u8, target: usize, v: u64, j: u8) -> Word
+    requires { ⌜ (Inside own (now image) d) × (j < 3) ⌝ }
+    ensures { λ r. ⌜ ((p : Place) (t : ℕ) (next : Cursor) → target ≡ indexOf own p
+        → Plan.Store (r .at) (r .value) s (t + 1) ≡ planOf own (logged own (at own (now (image .entry))) d s t p v next j)) ⌝ }
+{
+    match j {
+        0 => Word {
+            at: image::field_index(spare_addr(image, d, own), d, own),
+            value: target as u64,
+        },
+        1 => Word {
+            at: image::field_index(spare_val(image, d, own), d, own),
+            value: v,
+        },
+        _ => Word {
+            at: image::field_index(Field::Pc, d, own),
+            value: switched(image, d, own, s),
+        },
+    }
+}
+
 // Turn j of a logged store of v at an index, at step s, turn t; the cursor after its last turn is step ns, turn nt.
 pub fn logged(
     image: &[u64],
@@ -78,30 +106,19 @@ pub fn logged(
     requires { ⌜ (Inside own (now image) d) × (t < 6) ⌝ }
     ensures { λ r. ⌜ ((p : Place) → target ≡ indexOf own p → r ≡ planOf own (logged own (at own (now (image .entry))) d s t p v (on ns nt) j)) ⌝ }
 {
-    match j {
-        0 => Plan::Store {
-            at: image::field_index(spare_addr(image, d, own), d, own),
-            value: target as u64,
-            step: s,
-            turn: t + 1,
-        },
-        1 => Plan::Store {
-            at: image::field_index(spare_val(image, d, own), d, own),
-            value: v,
-            step: s,
-            turn: t + 1,
-        },
-        2 => Plan::Store {
-            at: image::field_index(Field::Pc, d, own),
-            value: switched(image, d, own, s),
-            step: s,
-            turn: t + 1,
-        },
-        _ => Plan::Store {
+    if 2 < j {
+        return Plan::Store {
             at: target,
             value: image::read_field(image, active_val(image, d, own), d, own),
             step: ns,
             turn: nt,
-        },
+        };
+    }
+    let w = record_word(image, d, own, s, target, v, j);
+    Plan::Store {
+        at: w.at,
+        value: w.value,
+        step: s,
+        turn: t + 1,
     }
 }

@@ -1,6 +1,7 @@
 // Rounds of turns over the workers.
 use crate::Did;
 use crate::End;
+use crate::Over;
 use crate::Refusal;
 use crate::planning;
 use crate::turning;
@@ -53,12 +54,6 @@ fn counted(x: Did, t: Tally) -> Tally
         Did::Passed => tally::passed(t),
         Did::Waiting(_) => tally::waiting(t),
     }
-}
-
-// How rounds end, and what they count.
-pub struct Over {
-    pub end: End,
-    pub tally: Tally,
 }
 
 // Rounds over n workers until all are idle, the rounds are spent, or a turn is refused. Idle workers have no turn, and

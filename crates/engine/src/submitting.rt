@@ -24,7 +24,7 @@ pub fn store_section(
     n: usize,
     left: &mut u64,
 )
-    requires { ⌜ (d < 8) × (8 ≤ n) × (n ≤ 64) × (length (now words) ≤ 64) ⌝ }
+    requires { ⌜ (Inside n (now image) d) × (8 ≤ n) × (length (now words) ≤ 64) ⌝ }
     ensures image { λ r. ⌜ now (image .exit) ≡ putAll n (now (left .entry)) (now (image .entry)) (submission n d number (now (args .entry)) (now (words .entry))) ⌝ }
     ensures left { λ r. ⌜ now (left .exit) ≡ now (left .entry) - length (submission n d number (now (args .entry)) (now (words .entry))) ⌝ }
 {

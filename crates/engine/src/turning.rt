@@ -14,7 +14,7 @@ ghost use Rattle.engine.specs.Turn.{ready};
 ghost use Rattle.engine.specs.World.{world, leaves, outcomeAt, planOf, planDid, didAnswer, planLeaves};
 
 // A plan done.
-fn done(
+pub fn done(
     image: &mut [u64],
     step: &mut [u8],
     turn: &mut [u8],
@@ -50,7 +50,7 @@ fn done(
     }
 }
 
-// The turn of worker d, which is ready.
+// The turn of worker d, which is ready, in a run; once.rt has that of a turn call.
 pub fn turn_on(
     image: &mut [u64],
     step: &mut [u8],

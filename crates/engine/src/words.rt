@@ -1,21 +1,23 @@
 // The words that a section names: cells and the worker's own words by their numbers, and what an expression gives.
 use section::Expr;
 ghost use mathlib.Core.Path.{_≡_};
-ghost use Prim.Native.Nat.{_+_, _<_, _≤_};
+ghost use Prim.Native.Nat.{ℕ, _+_, _<_, _≤_};
 ghost use Rattle.image.specs.Image.{at, indexOf, Inside};
 ghost use Rattle.section.specs.Fits.{ranged};
-ghost use Rattle.section.specs.Op.{eval};
+ghost use Rattle.section.specs.Op.{Reads, eval};
 ghost use Rattle.engine.specs.Turn.{operand, wordIn};
 
-// The index of word number x as worker d names it.
+// The index of word number x as worker d names it: the numbers from 0 are the cells', those from 512 the own words'.
 pub fn operand_index(d: usize, x: u64, own: usize) -> usize
     requires { ⌜ (d < 8) × (x < 512 + own) × (own ≤ 64) ⌝ }
     ensures { λ r. ⌜ r ≡ indexOf own (operand d x) ⌝ }
 {
-    if x < 512 {
-        return image::cell_index(x);
-    }
-    image::own_index(d, x as usize - 512, own)
+    let from = if x < 512 {
+        image::cell_index(0)
+    } else {
+        image::own_index(d, 0, own) - 512
+    };
+    from + x as usize
 }
 
 // What it holds.
@@ -23,10 +25,24 @@ pub fn word(image: &[u64], d: usize, x: u64, own: usize) -> u64
     requires { ⌜ (Inside own (now image) d) × (x < 512 + own) ⌝ }
     ensures { λ r. ⌜ r ≡ wordIn own (at own (now (image .entry))) d x ⌝ }
 {
-    if x < 512 {
-        return image::read_cell(image, x);
+    image::load_inside(image, operand_index(d, x, own))
+}
+
+// What an expression of two words gives of what they hold.
+fn combined(e: Expr, x: u64, y: u64) -> u64
+    ensures { λ r. ⌜ ((f : ℕ → ℕ) → Reads f e x y → r ≡ eval f e) ⌝ }
+{
+    match e {
+        Expr::Literal(_, _) => 0,
+        Expr::Sum(_, _) => std::num::wrapping_add_u64(x, y),
+        Expr::Difference(_, _) => std::num::wrapping_sub_u64(x, y),
+        Expr::Less(_, _) => {
+            if x < y {
+                return 1;
+            }
+            0
+        }
     }
-    image::read_own(image, d, x as usize - 512, own)
 }
 
 // What an expression gives.
@@ -36,19 +52,10 @@ pub fn eval(image: &[u64], d: usize, e: Expr, own: usize) -> u64
 {
     match e {
         Expr::Literal(b, c) => 65536 * b + c,
-        Expr::Sum(b, c) => std::num::wrapping_add_u64(
+        Expr::Sum(b, c) | Expr::Difference(b, c) | Expr::Less(b, c) => combined(
+            e,
             word(image, d, b, own),
             word(image, d, c, own),
         ),
-        Expr::Difference(b, c) => std::num::wrapping_sub_u64(
-            word(image, d, b, own),
-            word(image, d, c, own),
-        ),
-        Expr::Less(b, c) => {
-            if word(image, d, b, own) < word(image, d, c, own) {
-                return 1;
-            }
-            0
-        }
     }
 }

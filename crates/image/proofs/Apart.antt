@@ -19,7 +19,7 @@ module _ (n : ℕ) where
   record-small d hd hn = let a : 74 + n ≤ 138 = omega arith in let p : (74 + n) * d ≤ 138 * 8 = mul-le-mul a hd in omega arith
 
   -- a record ends before the next begins
-  record-lt : (d D : ℕ) → ltb d D ≡ true → recordAt n d + (74 + n) ≤ lengthOf n D
+  pub record-lt : (d D : ℕ) → ltb d D ≡ true → recordAt n d + (74 + n) ≤ lengthOf n D
   unfolding recordAt lengthOf
   record-lt d D h = let p : (74 + n) * suc d ≤ (74 + n) * D = mul-le-mul-left (74 + n) (ltb-true d D h) in omega (arith, mul-suc (74 + n) d)
 

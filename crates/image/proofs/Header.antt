@@ -1,7 +1,7 @@
 -- The header test: what it says of an image (`Header`), that the image then has the length of its number of workers
 -- (`Sized`), and that words 2 to 7 joined by `|`, as the code joins them, are 0 where each of them is: a word more at a
 -- time, since a `|` is at least its left word.
-use Prim.Native.Nat.{ℕ, suc, zero, _+_, _≤_}
+use Prim.Native.Nat.{ℕ, suc, zero, _+_, _<_, _≤_}
 use mathlib.Core.Path.{_≡_, refl, ap, _∙_, sym}
 use mathlib.Core.Bool.{Bool, true, false, _&&_, and-true, and-assoc, and-eq-true-iff}
 use mathlib.Core.List.{List, [], _∷_}
@@ -11,12 +11,15 @@ use lib.Seq.{getD-drop}
 use lib.Dec.{leb, eqb}
 use lib.Bits.{bitOr, or-zero-l, or-add-and, and-le-r}
 use borrow.Author.Tests.{leb-true, le-leb, eqb-true, eq-eqb, ne-eqb}
-use Rattle.image.specs.Image.{Image, workers, lengthOf, zeros, headerOk}
+use Rattle.image.specs.Image.{Image, workers, lengthOf, zeros, headerOk, Inside}
 
 -- an image of D workers, each with n own words
 pub record Sized (n D : ℕ) (m : Image) : Type 0 where
   pub size : length m ≡ lengthOf n D
   pub has : workers m ≡ D
+
+pub sized-inside : (n D : ℕ) (m : Image) (d : ℕ) → n ≤ 64 → Sized n D m → D ≤ 8 → d < D → Inside n m d
+sized-inside n D m d small z few below = record { few = small; below = rw (z .has) below; most = rw (z .has) few; whole = rw (z .has) (z .size) }
 
 -- what the test says
 pub record Header (mark n : ℕ) (m : Image) : Type 0 where
@@ -47,6 +50,10 @@ module _ (mark n : ℕ) (m : Image) where
 
   pub header-sized : headerOk mark n m ≡ true → Sized n (workers m) m
   header-sized h = record { size = header-true h .size; has = refl }
+
+  -- the records of an image that passes can be read
+  pub header-inside : (d : ℕ) → n ≤ 64 → headerOk mark n m ≡ true → d < workers m → Inside n m d
+  header-inside d small h below = let e = header-true h in record { few = small; below = below; most = e .few; whole = e .size }
 
   -- the code's last test decides, once the others have passed
   pub header-last : 1 ≤ workers m → workers m ≤ 8 → length m ≡ lengthOf n (workers m) → getD m 0 0 ≡ mark → headerOk mark n m ≡ zeros (take 6 (drop 2 m))

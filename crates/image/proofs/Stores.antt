@@ -5,13 +5,19 @@ use Prim.Native.Nat.{ℕ, suc, zero, _+_, _-_, _<_, _≤_}
 use mathlib.Core.Path.{_≡_, refl, ap, _∙_, sym}
 use mathlib.Core.Bool.{Bool, true, false, cond, true≢false}
 use native.Mathlib.Omega.{arith}
+use borrow.Author.Tests.{lt-ltb}
 use lib.ListN.{length, getD, take, drop, set, length-set}
 use lib.Seq.{getD-set-same, getD-set-other, drop-set-add, take-set-le}
-use Rattle.image.specs.Place.{Place, same, valid, upd}
-use Rattle.image.specs.Image.{Image, indexOf, workers, at, headerOk, put}
+use Rattle.image.specs.Place.{Place, lock, own, step, same, valid, upd}
+use Rattle.image.specs.Image.{Image, front, indexOf, workers, at, headerOk, put, Inside}
 use Rattle.image.proofs.Places.{same-refl, same-place}
-use Rattle.image.proofs.Apart.{index-ge, index-lt, index-apart}
+use Rattle.image.proofs.Apart.{record-lt, length-ge, index-ge, index-lt, index-apart}
 use Rattle.image.proofs.Header.{Sized}
+
+-- an image that has the words before the records has the locks
+pub lock-lt : (m : Image) (b : ℕ) {i : ℕ} → b < 64 → front ≤ length m → i ≡ indexOf 0 (lock b) → i < length m
+unfolding indexOf
+lock-lt m b h f e = omega (arith, h, f, e)
 
 -- ---- with stores left or without
 
@@ -63,6 +69,23 @@ module _ (n : ℕ) where
 
   pub sized-set : (D : ℕ) (m : Image) (p : Place) (v : ℕ) → Sized n D m → Sized n D (set m (indexOf n p) v)
   sized-set D m p v z = rw (put-some 0 m (indexOf n p) v) at (sized-store D 1 m p v z)
+
+  -- ---- what an image of the right length has
+
+  pub inside-front : (m : Image) (d : ℕ) → Inside n m d → front ≤ length m
+  inside-front m d w = rw (w .whole) (length-ge n (workers m))
+
+  pub inside-lt : (m : Image) (d : ℕ) (p : Place) {i : ℕ} → Inside n m d → valid (workers m) n p ≡ true → i ≡ indexOf n p → i < length m
+  inside-lt m d p w v e = rw (e, w .whole) (index-lt n (workers m) p v)
+
+  -- a record's own words, and its instructions
+  pub inside-own : (m : Image) (d : ℕ) → Inside n m d → indexOf n (own d 0) + n ≤ length m
+  unfolding indexOf
+  inside-own m d w = rw (w .whole) (omega (arith, record-lt n d (workers m) (lt-ltb d (workers m) (w .below))))
+
+  pub inside-steps : (m : Image) (d : ℕ) → Inside n m d → indexOf n (step d 0) + 64 ≤ length m
+  unfolding indexOf
+  inside-steps m d w = rw (w .whole) (omega (arith, record-lt n d (workers m) (lt-ltb d (workers m) (w .below))))
 
   -- ---- the memory
 

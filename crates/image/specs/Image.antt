@@ -1,6 +1,7 @@
 -- An image: a list of words, the memory of places that it is, its header, and what a store leaves of it. The layout's
 -- numbers stand here and nowhere else. n is the number of own words in a record (8 in document 01).
 use Prim.Native.Nat.{ℕ, suc, zero, _+_, _*_, _-_, _<_, _≤_}
+use mathlib.Core.Path.{_≡_}
 use mathlib.Core.Bool.{Bool, true, cond, _&&_}
 use mathlib.Core.List.{List, [], _∷_}
 use lib.ListN.{length, getD, take, drop, set}
@@ -12,9 +13,13 @@ Image = List ℕ
 
 -- ---- where the words stand
 
+-- the words before the records: header, cells and locks
+abbrev pub front : ℕ
+front = 584
+
 -- the start of worker d's record: ten single words, n own words, 64 instructions for each worker before it
 unfoldable pub recordAt : ℕ → ℕ → ℕ
-recordAt n d = 584 + (74 + n) * d
+recordAt n d = front + (74 + n) * d
 
 -- the length of an image of D workers
 unfoldable pub lengthOf : ℕ → ℕ → ℕ
@@ -63,9 +68,10 @@ unfoldable pub putAll : ℕ → ℕ → Image → List Store → Image
 putAll n left m [] = m
 putAll n left m (s ∷ ss) = putAll n (left - 1) (put left m (indexOf n (s .place)) (s .value)) ss
 
--- ---- what the functions that work out an index ask: worker d's record is one of the image's
+-- ---- what the functions that read a record ask: it is one of an image of the right length
 
 pub record Inside (n : ℕ) (m : Image) (d : ℕ) : Type 0 where
   pub few : n ≤ 64
   pub below : d < workers m
   pub most : workers m ≤ 8
+  pub whole : length m ≡ lengthOf n (workers m)

@@ -2,9 +2,9 @@
 // touches an image in another way.
 ghost use mathlib.Core.Path.{_≡_};
 ghost use Prim.Native.Nat.{ℕ, _-_, _<_, _≤_};
-ghost use lib.ListN.{getD};
+ghost use lib.ListN.{length, getD};
 ghost use Rattle.image.specs.Place.{cell, lock, field, own, step, offset};
-ghost use Rattle.image.specs.Image.{put, headerOk, recordAt, indexOf, workers, at, Inside};
+ghost use Rattle.image.specs.Image.{front, put, headerOk, recordAt, indexOf, workers, at, Inside};
 
 // The words of the largest image, of eight workers with eight own words each.
 pub const LARGEST: usize = 1240;
@@ -30,6 +30,14 @@ pub fn load(image: &[u64], at: usize) -> u64
     if at < image.len() { image[at] } else { 0 }
 }
 
+// The word at an index that the image has, with no test.
+pub fn load_inside(image: &[u64], at: usize) -> u64
+    requires { ⌜ at < length (now image) ⌝ }
+    ensures { λ r. ⌜ r ≡ getD (now (image .entry)) at 0 ⌝ }
+{
+    image[at]
+}
+
 // Stores one word while stores are left. A store past the end changes nothing and is taken off all the same.
 pub fn store(image: &mut [u64], at: usize, value: u64, left: &mut u64)
     ensures image { λ r. ⌜ now (image .exit) ≡ put (now (left .entry)) (now (image .entry)) at value ⌝ }
@@ -43,6 +51,20 @@ pub fn store(image: &mut [u64], at: usize, value: u64, left: &mut u64)
         image[at] = value;
     }
     *left = k - 1;
+}
+
+// The same at an index that the image has, with no test of it.
+pub fn store_inside(image: &mut [u64], at: usize, value: u64, left: &mut u64)
+    requires { ⌜ at < length (now image) ⌝ }
+    ensures image { λ r. ⌜ now (image .exit) ≡ put (now (left .entry)) (now (image .entry)) at value ⌝ }
+    ensures left { λ r. ⌜ now (left .exit) ≡ now (left .entry) - 1 ⌝ }
+{
+    let rest = *left;
+    if rest == 0 {
+        return;
+    }
+    image[at] = value;
+    *left = rest - 1;
 }
 
 // Whether length and words 0 to 7 are right, for an edition with this mark and this number of own words.
@@ -138,15 +160,7 @@ pub fn read_field(image: &[u64], f: Field, d: usize, own: usize) -> u64
     requires { ⌜ Inside own (now image) d ⌝ }
     ensures { λ r. ⌜ r ≡ at own (now (image .entry)) (field f d) ⌝ }
 {
-    load(image, field_index(f, d, own))
-}
-
-// Own word i of worker d.
-pub fn read_own(image: &[u64], d: usize, i: usize, n: usize) -> u64
-    requires { ⌜ (Inside n (now image) d) × (i < n) ⌝ }
-    ensures { λ r. ⌜ r ≡ at n (now (image .entry)) (own d i) ⌝ }
-{
-    load(image, own_index(d, i, n))
+    load_inside(image, field_index(f, d, own))
 }
 
 // Instruction i of worker d's section.
@@ -154,23 +168,15 @@ pub fn read_step(image: &[u64], d: usize, i: usize, own: usize) -> u64
     requires { ⌜ (Inside own (now image) d) × (i < 64) ⌝ }
     ensures { λ r. ⌜ r ≡ at own (now (image .entry)) (step d i) ⌝ }
 {
-    load(image, step_index(d, i, own))
-}
-
-// A cell.
-pub fn read_cell(image: &[u64], x: u64) -> u64
-    requires { ⌜ x < 512 ⌝ }
-    ensures { λ r. ⌜ ((n : ℕ) → r ≡ at n (now (image .entry)) (cell x)) ⌝ }
-{
-    load(image, cell_index(x))
+    load_inside(image, step_index(d, i, own))
 }
 
 // A lock's owner word.
 pub fn read_lock(image: &[u64], b: u64) -> u64
-    requires { ⌜ b < 64 ⌝ }
+    requires { ⌜ (b < 64) × (front ≤ length (now image)) ⌝ }
     ensures { λ r. ⌜ ((n : ℕ) → r ≡ at n (now (image .entry)) (lock b)) ⌝ }
 {
-    load(image, lock_index(b))
+    load_inside(image, lock_index(b))
 }
 
 // The number of workers that the header names.

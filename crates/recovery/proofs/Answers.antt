@@ -9,7 +9,7 @@ use native.Mathlib.Omega.{arith}
 use lib.ListN.{length}
 use Rattle.image.specs.Place.{Store}
 use Rattle.image.specs.Image.{Image, at, workers, headerOk, putAll}
-use Rattle.image.proofs.Header.{header-workers}
+use Rattle.image.proofs.Header.{header-true}
 use Rattle.image.proofs.Lists.{putAll-nil}
 use Rattle.engine.specs.declared.Cursors.{Cursors}
 use Rattle.engine.specs.Cursor.{allIdle}
@@ -75,7 +75,8 @@ module _ (mark n : ℕ) (m : Image) where
   unfolding recovery
   done-restorable few e =
       let p = private-done (headerOk mark n m) Good Unsound Bad e in
-      restorable n m few (header-workers mark n m (p .0) .1) (p .1)
+      let h = header-true mark n m (p .0) in
+      restorable n m few (h .few) (h .size) (p .1)
 
 -- the answer has the definition's number and value
 pub same-cause : (r : Recovered) → answerCause (answerOf r) ≡ causeOf r
@@ -118,7 +119,7 @@ stores-are mark n m = by (headerOk mark n m) refl
     by : (b : Bool) → headerOk mark n m ≡ b
         → slots (repairBy n m (cond b (byRecords (byLocks (Good mark n m) (Bad mark n m)) (Unsound mark n m)) misshapen)) 0 592
         ≡ storesOf (cond b (byRecords (byLocks (Good mark n m) (Bad mark n m)) (Unsound mark n m)) misshapen)
-    by true h = private-stores n m (Good mark n m) (Unsound mark n m) (Bad mark n m) (repair-slots n m (header-workers mark n m h .1))
+    by true h = private-stores n m (Good mark n m) (Unsound mark n m) (Bad mark n m) (repair-slots n m (header-true mark n m h .few))
     by false h = empty-slots
 
 leaves-stores : (n left : ℕ) (m : Image) (r : Recovered) → putAll n left m (storesOf r) ≡ recoveryLeaves n left m r

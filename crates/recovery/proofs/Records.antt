@@ -13,7 +13,7 @@ use Rattle.base.proofs.Bools.{and-left, and-right}
 use Rattle.base.proofs.Counting.{left-step, left-none}
 use Rattle.image.specs.declared.Field.the-variants.{Count, Pc, Intent, Owned, Number, Finished}
 use Rattle.image.specs.Place.{field, step, valid, Memory}
-use Rattle.image.specs.Image.{Image, indexOf, at, workers, Inside}
+use Rattle.image.specs.Image.{Image, indexOf, at, workers, Inside, lengthOf}
 use Rattle.section.specs.declared.Op.{Op}
 use Rattle.section.specs.declared.Op.the-variants.{Acquire, Release, Assign, Jump, Finish, Unknown}
 use Rattle.section.specs.declared.Verdict.{Verdict}
@@ -33,24 +33,6 @@ private-not : (b x y : Bool) → cond b x y ≡ true → b ≡ false → y ≡ t
 private-not b x y e h = sym (ap (λ (t : Bool). cond t x y) h) ∙ e
 
 -- ---- the held set
-
-private-kind : (h k a b c : ℕ) → 2 < k → heldAfter h (byKind k a b c) ≡ h
-unfolding heldAfter
-private-kind h zero a b c l = absurd (omega arith)
-private-kind h (suc zero) a b c l = absurd (omega arith)
-private-kind h (suc (suc zero)) a b c l = absurd (omega arith)
-private-kind h (suc (suc (suc zero))) a b c l = refl
-private-kind h (suc (suc (suc (suc zero)))) a b c l = refl
-private-kind h (suc (suc (suc (suc (suc zero))))) a b c l = refl
-private-kind h (suc (suc (suc (suc (suc (suc zero)))))) a b c l = refl
-private-kind h (suc (suc (suc (suc (suc (suc (suc zero))))))) a b c l = refl
-private-kind h (suc (suc (suc (suc (suc (suc (suc (suc zero)))))))) a b c l = refl
-private-kind h (suc (suc (suc (suc (suc (suc (suc (suc (suc k))))))))) a b c l = refl
-
--- kinds above 2 leave it
-pub held-stays : (h w : ℕ) → 2 < kindOf w → heldAfter h (opOf w) ≡ h
-unfolding opOf
-held-stays h w l = private-kind h (kindOf w) (fieldA w) (fieldB w) (fieldC w) l
 
 module _ (n : ℕ) (rd : Memory) (d : ℕ) where
   -- ---- the section
@@ -150,41 +132,6 @@ check-long n k code h = rw (lt-leb k 64 h) (by (leb 3 k) _)
     by true v = refl
     by false v = refl
 
--- ---- words past the end of the image
-
-private-zero : (b : Bool) → cond {A = ℕ} b 0 0 ≡ 0
-private-zero true = refl
-private-zero false = refl
-
--- they are 0
-word-past : (n : ℕ) (m : Image) (d i : ℕ) → length m ≤ indexOf n (step d i) → codeIn n (at n m) d i ≡ 0
-unfolding at
-word-past n m d i h = rw (List·getD-eq-default m 0 h) (private-zero (valid (workers m) n (step d i)))
-
--- which is no instruction, so before words in their ranges there is none
-no-word : (n w : ℕ) → w ≡ 0 → inRange n w ≡ true → ⊥
-no-word n w z e =
-    let p = range-kind n w e .0 in
-    omega arith
-
-pub held-past : (n : ℕ) (m : Image) (d i : ℕ) → length m < indexOf n (step d 0) + i → ((j : ℕ) → j < i → inRange n (codeIn n (at n m) d j) ≡ true)
-    → 0 ≡ heldBefore (codeIn n (at n m) d) i
-unfolding indexOf heldBefore
-held-past n m d zero h ranges = refl
-held-past n m d (suc i) h ranges = absurd (no-word n (codeIn n (at n m) d i) (word-past n m d i (omega arith)) (ranges i (omega arith)))
-
--- so a section that reaches past the end does not pass
-pub check-past : (n : ℕ) (m : Image) (d k : ℕ) → length m < indexOf n (step d 0) + k → passes (check n k (codeIn n (at n m) d)) ≡ false
-unfolding indexOf
-check-past n m d k h = by (passes (check n k (codeIn n (at n m) d))) refl
-  where
-    by : (t : Bool) → passes (check n k (codeIn n (at n m) d)) ≡ t → t ≡ false
-    by false e = refl
-    by true e =
-        let p = check-parts n k (codeIn n (at n m) d) (passed-is (check n k (codeIn n (at n m) d)) e) in
-        let l : k - 1 < k = omega arith in
-        absurd (no-word n (codeIn n (at n m) d (k - 1)) (word-past n m d (k - 1) (omega arith)) (formed-range n k (k - 1) (codeIn n (at n m) d (k - 1)) (p .2 (k - 1) l)))
-
 -- ---- all records
 
 module _ (n : ℕ) (rd : Memory) (D : ℕ) where
@@ -219,9 +166,9 @@ module _ (n : ℕ) (rd : Memory) (D : ℕ) where
       let f = private-found (sound n rd d) d (unsound n rd D (d + 1) k) e in
       private-rest d j (f .0) a (λ l. all-sound k (d + 1) (f .1) j l (omega arith))
 
-pub restorable : (n : ℕ) (m : Image) → n ≤ 64 → workers m ≤ 8 → unsound n (at n m) (workers m) 0 (workers m) ≡ [] → Restorable n m
-restorable n m few most e =
-    record { few = few; most = most; legible = λ d h. sound-legible n (at n m) d (all-sound n (at n m) (workers m) (workers m) 0 e d (omega arith) (omega arith)) }
+pub restorable : (n : ℕ) (m : Image) → n ≤ 64 → workers m ≤ 8 → length m ≡ lengthOf n (workers m) → unsound n (at n m) (workers m) 0 (workers m) ≡ [] → Restorable n m
+restorable n m few most whole e =
+    record { few = few; most = most; whole = whole; legible = λ d h. sound-legible n (at n m) d (all-sound n (at n m) (workers m) (workers m) 0 e d (omega arith) (omega arith)) }
 
 pub inside : (n : ℕ) (m : Image) (d : ℕ) → Restorable n m → d < workers m → Inside n m d
-inside n m d r h = record { few = r .few; below = h; most = r .most }
+inside n m d r h = record { few = r .few; below = h; most = r .most; whole = r .whole }

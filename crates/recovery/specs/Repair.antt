@@ -10,7 +10,7 @@ use lib.Dec.{ltb, eqb}
 use Rattle.mask.specs.Mask.{has, with}
 use Rattle.image.specs.declared.Field.the-variants.{Count, Pc, Intent, Owned}
 use Rattle.image.specs.Place.{lock, field, Memory, Store}
-use Rattle.image.specs.Image.{Image, indexOf, at, workers, put}
+use Rattle.image.specs.Image.{Image, lengthOf, indexOf, at, workers, put}
 use Rattle.section.specs.declared.Op.{Op}
 use Rattle.section.specs.declared.Op.the-variants.{Acquire, Release, Assign, Jump, Finish, Unknown}
 use Rattle.section.specs.Check.{inRange}
@@ -37,6 +37,7 @@ Legible n rd d = (rd (field Pc d) ≡ 0 → ⊥) → Begun n rd d
 pub record Restorable (n : ℕ) (m : Image) : Type 0 where
   pub few : n ≤ 64
   pub most : workers m ≤ 8
+  pub whole : length m ≡ lengthOf n (workers m)
   pub legible : (d : ℕ) → d < workers m → Legible n (at n m) d
 
 -- ---- the sets

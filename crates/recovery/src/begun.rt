@@ -2,51 +2,24 @@
 // worker goes on.
 use image::Field;
 use section::Op;
-use section::decode::held_after;
-use section::decode::kind_of;
+use section::decode::held_past;
 use section::decode::op_of;
 ghost use mathlib.Core.Path.{_≡_};
 ghost use mathlib.Core.Bool.{true};
-ghost use Prim.Native.Nat.{ℕ, _+_, _<_, _≤_};
-ghost use lib.Dec.{leb};
-ghost use lib.ListN.{length};
-ghost use Rattle.image.specs.Place.{step, Memory};
-ghost use Rattle.image.specs.Image.{at, indexOf, Inside};
-ghost use Rattle.section.specs.Check.{heldAfter, heldBefore, inRange, lockOk};
-ghost use Rattle.section.specs.Op.{opOf};
+ghost use Prim.Native.Nat.{ℕ, _<_, _≤_};
+ghost use Rattle.image.specs.Place.{Memory};
+ghost use Rattle.image.specs.Image.{at, Inside};
+ghost use Rattle.section.specs.Check.{heldBefore, inRange};
 ghost use Rattle.engine.specs.Cursor.{stepNo, turnNo};
 ghost use Rattle.engine.specs.Turn.{codeIn};
 ghost use Rattle.recovery.specs.Recovery.{targetTurn, resumed};
 ghost use Rattle.recovery.specs.Repair.{Legible, owedOf};
-
-// Whether the image has the first k instruction words of worker d's record; words past its end are 0, no instruction. Where
-// this was tested once, the loads of a loop over these words need no test of their own.
-pub fn has_steps(image: &[u64], d: usize, k: usize, own: usize) -> bool
-    requires { ⌜ (Inside own (now image) d) × (k ≤ 64) ⌝ }
-    ensures { λ r. ⌜ r ≡ leb (indexOf own (step d 0) + k) (length (now (image .entry))) ⌝ }
-{
-    image::step_index(d, 0, own) + k <= image.len()
-}
-
-// The held set after the instruction of a word. Kinds above 2 leave it.
-fn held_past(h: u64, w: u64) -> u64
-    requires { ⌜ lockOk (opOf w) ≡ true ⌝ }
-    ensures { λ r. ⌜ r ≡ heldAfter h (opOf w) ⌝ }
-{
-    if 2 < kind_of(w) {
-        return h;
-    }
-    held_after(h, op_of(w))
-}
 
 // The held set before step i.
 pub fn held(image: &[u64], d: usize, i: usize, own: usize) -> u64
     requires { ⌜ (Inside own (now image) d) × (i ≤ 64) × ((j : ℕ) → j < i → inRange own (codeIn own (at own (now image)) d j) ≡ true) ⌝ }
     ensures { λ r. ⌜ r ≡ heldBefore (codeIn own (at own (now (image .entry))) d) i ⌝ }
 {
-    if !has_steps(image, d, i, own) {
-        return 0;
-    }
     let mut h: u64 = 0;
     let mut j: usize = 0;
     while j < i {

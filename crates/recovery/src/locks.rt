@@ -6,7 +6,7 @@ ghost use mathlib.Core.Path.{_≡_};
 ghost use Prim.Native.Nat.{ℕ, _<_, _≤_};
 ghost use lib.ListN.{length};
 ghost use Rattle.image.specs.Place.{lock};
-ghost use Rattle.image.specs.Image.{at, workers};
+ghost use Rattle.image.specs.Image.{at, workers, lengthOf};
 ghost use Rattle.recovery.specs.Recovery.{ownerOk, badLock};
 ghost use Rattle.recovery.specs.Repair.{eight, owedAt, claimantsIn};
 ghost use Rattle.recovery.specs.Recover.{byLock};
@@ -31,7 +31,7 @@ fn shared(sets: &[u64], n: usize) -> u64
 
 // Whether lock b's owner word is 0 or names a worker that intends it.
 fn owner_ok(image: &[u64], b: u64, own: usize) -> bool
-    requires { ⌜ (own ≤ 64) × (workers (now image) ≤ 8) × (b < 64) ⌝ }
+    requires { ⌜ (own ≤ 64) × (workers (now image) ≤ 8) × (b < 64) × (length (now image) ≡ lengthOf own (workers (now image))) ⌝ }
     ensures { λ r. ⌜ r ≡ ownerOk own (at own (now (image .entry))) (workers (now (image .entry))) b (at own (now (image .entry)) (lock b)) ⌝ }
 {
     let w = image::read_lock(image, b);
@@ -49,7 +49,8 @@ fn owner_ok(image: &[u64], b: u64, own: usize) -> bool
 
 // Whether no two workers are owed the same lock, and each owner word is right, or the lowest lock that is wrong.
 pub fn locks(image: &[u64], sets: &[u64], own: usize) -> Answer
-    requires { ⌜ (own ≤ 64) × (workers (now image) ≤ 8) × (now sets ≡ eight (owedAt own (at own (now image)) (workers (now image)))) ⌝ }
+    requires { ⌜ (own ≤ 64) × (workers (now image) ≤ 8) × (now sets ≡ eight (owedAt own (at own (now image)) (workers (now image))))
+        × (length (now image) ≡ lengthOf own (workers (now image))) ⌝ }
     ensures { λ r. ⌜ r ≡ byLock (badLock own (at own (now (image .entry))) (workers (now (image .entry))) 0 64) ⌝ }
 {
     let end = shared(sets, image::workers(image) as usize);

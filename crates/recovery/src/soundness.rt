@@ -9,10 +9,11 @@ use section::decode::held_after;
 use section::decode::op_of;
 ghost use mathlib.Core.Path.{_≡_};
 ghost use mathlib.Core.Bool.{true, false, _||_};
+ghost use lib.ListN.{length};
 ghost use lib.Dec.{eqb};
 ghost use Prim.Native.Nat.{_≤_};
 ghost use Rattle.image.specs.Place.{field};
-ghost use Rattle.image.specs.Image.{at, workers, Inside};
+ghost use Rattle.image.specs.Image.{at, workers, lengthOf, Inside};
 ghost use Rattle.section.specs.Check.{check, passes};
 ghost use Rattle.section.specs.Fits.{fits};
 ghost use Rattle.engine.specs.Turn.{codeIn, activeAddr, activeVal};
@@ -25,16 +26,8 @@ fn section_passes(image: &[u64], d: usize, k: usize, own: usize) -> bool
     requires { ⌜ (Inside own (now image) d) × (k ≤ 64) ⌝ }
     ensures { λ r. ⌜ r ≡ passes (check own k (codeIn own (at own (now (image .entry))) d)) ⌝ }
 {
-    if !begun::has_steps(image, d, k, own) {
-        return false;
-    }
-    let mut words = [0u64; 64];
-    let mut i: usize = 0;
-    while i < k {
-        words[i] = image::read_step(image, d, i, own);
-        i += 1;
-    }
-    section::passes(section::check(&words[..k], own as u16))
+    let from = image::step_index(d, 0, own);
+    section::passes(section::check(&image[from..from + k], own as u16))
 }
 
 // Whether worker d has no section, or one that passes the check, with a number that may be under way.
@@ -194,7 +187,7 @@ fn sound(image: &[u64], d: usize, own: usize) -> Found
 
 // Whether all records are sound, with the owed sets, or the first worker whose record is not.
 pub fn records(image: &[u64], own: usize) -> Judged
-    requires { ⌜ (own ≤ 64) × (workers (now image) ≤ 8) ⌝ }
+    requires { ⌜ (own ≤ 64) × (workers (now image) ≤ 8) × (length (now image) ≡ lengthOf own (workers (now image))) ⌝ }
     ensures answer { λ r. ⌜ r .answer ≡ byRecord (unsound own (at own (now (image .entry))) (workers (now (image .entry))) 0 (workers (now (image .entry)))) ⌝ }
     ensures owed { λ r. ⌜ (isDone (r .answer) ≡ true → r .owed ≡ eight (owedAt own (at own (now (image .entry))) (workers (now (image .entry))))) ⌝ }
 {

@@ -1,5 +1,5 @@
 -- Held sets: the set before a step from the set before the last one, by the instruction between them; that it depends only
--- on the words before the step; and that it is a word where these are in their ranges.
+-- on the words before the step; that it is a word where these are in their ranges; and that kinds above 2 leave it.
 use Prim.Native.Nat.{ℕ, zero, suc, _^_, _<_}
 use mathlib.Core.Path.{_≡_, refl, ap, _∙_}
 use mathlib.Core.Bool.{true}
@@ -9,7 +9,8 @@ use Rattle.mask.proofs.Laws.{with-word, without-word}
 use Rattle.section.specs.declared.Expr.{Expr}
 use Rattle.section.specs.declared.Op.{Op}
 use Rattle.section.specs.declared.Op.the-variants.{Acquire, Release, Assign, Jump, Finish, Unknown}
-use Rattle.section.specs.Op.{opOf}
+use Rattle.section.specs.Table.{kindOf, fieldA, fieldB, fieldC}
+use Rattle.section.specs.Op.{byKind, opOf}
 use Rattle.section.specs.Check.{Code, inRange, heldAfter, heldBefore}
 use Rattle.section.specs.Fits.{fits}
 use Rattle.section.proofs.Ranges.{in-range}
@@ -68,3 +69,23 @@ unfolding heldBefore
 held-word own code zero h = omega arith
 held-word own code (suc i) h =
     private-word own (heldBefore code i) (opOf (code i)) (in-range own (code i) (h i (omega arith))) (held-word own code i (λ j l. h j (omega arith)))
+
+-- ---- by the kind
+
+private-kind : (h k a b c : ℕ) → 2 < k → heldAfter h (byKind k a b c) ≡ h
+unfolding heldAfter
+private-kind h zero a b c l = absurd (omega arith)
+private-kind h (suc zero) a b c l = absurd (omega arith)
+private-kind h (suc (suc zero)) a b c l = absurd (omega arith)
+private-kind h (suc (suc (suc zero))) a b c l = refl
+private-kind h (suc (suc (suc (suc zero)))) a b c l = refl
+private-kind h (suc (suc (suc (suc (suc zero))))) a b c l = refl
+private-kind h (suc (suc (suc (suc (suc (suc zero)))))) a b c l = refl
+private-kind h (suc (suc (suc (suc (suc (suc (suc zero))))))) a b c l = refl
+private-kind h (suc (suc (suc (suc (suc (suc (suc (suc zero)))))))) a b c l = refl
+private-kind h (suc (suc (suc (suc (suc (suc (suc (suc (suc k))))))))) a b c l = refl
+
+-- kinds above 2 leave it
+pub held-stays : (h w : ℕ) → 2 < kindOf w → heldAfter h (opOf w) ≡ h
+unfolding opOf
+held-stays h w l = private-kind h (kindOf w) (fieldA w) (fieldB w) (fieldC w) l

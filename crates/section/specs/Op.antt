@@ -1,5 +1,6 @@
 -- The instructions, how a word says one, and what an expression gives.
 use Prim.Native.Nat.{ℕ, suc, zero, _+_, _*_, _-_, _%_, _^_}
+use mathlib.Core.Path.{_≡_}
 use mathlib.Core.Bool.{cond}
 use lib.Dec.{ltb}
 use Rattle.section.specs.declared.Expr.{Expr}
@@ -24,6 +25,13 @@ byKind (suc (suc (suc (suc (suc (suc (suc (suc (suc k))))))))) a b c = Unknown
 -- the instruction that a word says
 unfoldable pub opOf : ℕ → Op
 opOf w = byKind (kindOf w) (fieldA w) (fieldB w) (fieldC w)
+
+-- x and y are what f reads at the two operands of an expression; a literal has none
+abbrev pub Reads : (ℕ → ℕ) → Expr → ℕ → ℕ → Type 0
+Reads f (Literal b c) x y = ⊥
+Reads f (Sum b c) x y = (x ≡ f b) × (y ≡ f c)
+Reads f (Difference b c) x y = (x ≡ f b) × (y ≡ f c)
+Reads f (Less b c) x y = (x ≡ f b) × (y ≡ f c)
 
 -- what an expression gives, its operands read by f
 unfoldable pub eval : (ℕ → ℕ) → Expr → ℕ

@@ -131,17 +131,17 @@ fn in_place(w: u64, i: usize, n: usize) -> bool
     ensures { λ r. ⌜ r ≡ inPlace n i (opOf w) ⌝ }
 {
     let k = kind_of(w);
+    if k < 7 {
+        return i + 1 < n;
+    }
     if k == 8 {
         return i + 1 == n;
     }
-    if k == 7 {
-        let b = field_b(w);
-        if b <= i as u64 {
-            return false;
-        }
-        return b < n as u64;
+    let b = field_b(w);
+    if b <= i as u64 {
+        return false;
     }
-    i + 1 < n
+    b < n as u64
 }
 
 // Whether step i of n does not fail cause 5.
@@ -168,4 +168,15 @@ pub fn held_after(h: u64, x: Op) -> u64
         Op::Finish => h,
         Op::Unknown => h,
     }
+}
+
+// The same after the instruction of a word. Kinds above 2 leave it.
+pub fn held_past(h: u64, w: u64) -> u64
+    requires { ⌜ lockOk (opOf w) ≡ true ⌝ }
+    ensures { λ r. ⌜ r ≡ heldAfter h (opOf w) ⌝ }
+{
+    if 2 < kind_of(w) {
+        return h;
+    }
+    held_after(h, op_of(w))
 }

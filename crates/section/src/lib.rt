@@ -8,8 +8,7 @@ ghost use Prim.Native.Nat.{ℕ, _<_, _≤_};
 ghost use lib.ListN.{length};
 ghost use Rattle.section.specs.Check.{codeOf, firstOf, useOf, check, passes, causeOf, stepOf};
 ghost use Rattle.section.specs.Pass.{Judgeable, Passed};
-use decode::held_after;
-use decode::op_of;
+use decode::held_past;
 use decode::well_formed;
 use judge::use_at;
 
@@ -92,7 +91,7 @@ fn held_sets(words: &[u64], own: u16, held: &mut [u64]) -> Verdict
             return Verdict::Malformed(i);
         }
         held[i] = h;
-        h = held_after(h, op_of(w));
+        h = held_past(h, w);
         i += 1;
     }
     Verdict::Pass

@@ -6,7 +6,7 @@ use native.Mathlib.Omega.{arith}
 use lib.Dec.{ltb}
 use borrow.Author.Tests.{ltb-true, eq-eqb, ne-eqb}
 use Rattle.image.specs.Image.{Image, workers, headerOk, Inside}
-use Rattle.image.proofs.Header.{header-workers}
+use Rattle.image.proofs.Header.{header-inside}
 use Rattle.engine.specs.Edition.{mark, ownWords}
 use Rattle.zilpanud.specs.Ask.{askCode, told}
 
@@ -19,7 +19,7 @@ pub asked : (m : Image) (d : ℕ) → askCode m d ≡ 0 → Inside ownWords m d
 unfolding askCode
 asked m d h =
     let p = private-both (headerOk mark ownWords m) (ltb d (workers m)) h in
-    record { few = omega arith; below = ltb-true d (workers m) (p .1); most = header-workers mark ownWords m (p .0) .1 }
+    header-inside mark ownWords m d (omega arith) (p .0) (ltb-true d (workers m) (p .1))
 
 -- what is told, by the number returned
 pub told-yes : (m : Image) (d v : ℕ) → askCode m d ≡ 0 → v ≡ told m d v

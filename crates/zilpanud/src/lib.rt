@@ -92,11 +92,7 @@ pub extern "C" fn zilpanud_turn(
     ensures after { λ r. ⌜ lent (now (image .exit)) (now (step .exit)) (now (turn .exit)) (now (left .exit))
         ≡ turnsTo (lent (now (image .entry)) (now (step .entry)) (now (turn .entry)) (now (left .entry))) worker ⌝ }
 {
-    let c = cursors::lent(step, turn);
-    let r = engine::turn(image, c, worker, left);
-    let next = r.cursors;
-    cursors::leave(next, step, turn);
-    let a = r.answer;
+    let a = engine::turn_lent(image, step, turn, worker, left);
     *detail = codes::turn_detail(a);
     codes::turn_code(a)
 }
@@ -120,10 +116,7 @@ pub extern "C" fn zilpanud_run(
     ensures tally { λ r. ⌜ now (tally .exit)
         ≡ counts (running (lent (now (image .entry)) (now (step .entry)) (now (turn .entry)) (now (left .entry))) rounds .after .tally) ⌝ }
 {
-    let c = cursors::lent(step, turn);
-    let r = engine::run(image, c, rounds, left);
-    let next = r.cursors;
-    cursors::leave(next, step, turn);
+    let r = engine::run_lent(image, step, turn, rounds, left);
     let n = r.tally;
     *tally = [n.turns, n.waits, n.stores];
     let e = r.end;

@@ -5,7 +5,7 @@ use mathlib.Core.Path.{sym}
 use native.Mathlib.Omega.{arith}
 use denote.Ref.{now}
 use Rattle.base.proofs.Bools.{denied, granted}
-use Rattle.image.proofs.Header.{header-workers}
+use Rattle.image.proofs.Header.{header-inside}
 use Rattle.section.proofs.Facts.{check-parts}
 use Rattle.engine.specs.World.{world}
 use Rattle.engine.specs.Edition.{mark, ownWords}
@@ -40,8 +40,7 @@ store-section-requires c κs =
     let w = world (now (A .image)) (A .c) (now (A .left)) in
     let r = granted (t .taken .ensures) (c .before .before .if1 .left) in
     let a = accepted mark ownWords w (A .d) (A .number) (now (A .words)) (rw (← j .judge .ensures (now (A .left))) r) in
-    let h = header-workers mark ownWords (now (A .image)) (a .header) in
-    (omega (arith, a .below), omega arith, omega arith, check-parts ownWords _ _ (a .checked) .1)
+    (header-inside mark ownWords (now (A .image)) (A .d) (omega arith) (a .header) (a .below), omega arith, check-parts ownWords _ _ (a .checked) .1)
 
 place-requires : tie.Need-place-requires
 place-requires c κs = search needs

@@ -1,4 +1,4 @@
-use Rattle.image.proofs.Stores.{read-at}
+use Rattle.image.proofs.Stores.{inside-lt, read-at}
 use Rattle.image.specs.Place.{field}
 use denote.Ref.{now}
 use borrow.Author.Tests.{lt-ltb}
@@ -10,13 +10,15 @@ use Rattle.image.proofs.read_field.Tie as tie
 field-index-requires : tie.Need-field-index-requires
 field-index-requires c κs = search needs
 
-load-requires : tie.Need-load-requires
-load-requires c κs = search needs
+load-inside-requires : tie.Need-load-inside-requires
+load-inside-requires c κs =
+    let S = c .before .before in
+    inside-lt (S .args .own) (now (S .args .image)) (S .args .d) (field (S .args .f) (S .args .d)) (S .pre) (lt-ltb _ _ (S .pre .below)) (c .field-index .ensures)
 
 returns : tie.Need-returns
 returns c =
     let S = c .before .before .before in
-    read-at (S .args .own) (now (S .args .image)) (field (S .args .f) (S .args .d)) (c .before .field-index .ensures) (c .load .ensures) (lt-ltb _ _ (S .pre .below))
+    read-at (S .args .own) (now (S .args .image)) (field (S .args .f) (S .args .d)) (c .before .field-index .ensures) (c .load-inside .ensures) (lt-ltb _ _ (S .pre .below))
 
 pub read-field-spec : {M : Type 1} → statement M
-read-field-spec = tie.close (tie.spec field-index-requires load-requires returns)
+read-field-spec = tie.close (tie.spec field-index-requires load-inside-requires returns)

@@ -4,7 +4,7 @@ use mathlib.Core.Bool.{false≢true}
 use mathlib.Core.Path.{sym, ap, _∙_}
 use denote.Ref.{now}
 use Rattle.base.proofs.Bools.{denied, granted}
-use Rattle.image.proofs.Header.{header-workers}
+use Rattle.image.proofs.Header.{header-true}
 use Rattle.recovery.specs.Recover.{isDone}
 use Rattle.recovery.proofs.Answers.{record-none, by-header, by-record, by-lock}
 use Rattle.recovery.proofs.judge.Statement.{statement}
@@ -22,7 +22,8 @@ records-requires : tie.Need-records-requires
 records-requires c κs =
     let S = c .before .before .before in
     let A = S .args in
-    (S .pre, header-workers (A .mark) (A .own) (now (A .image)) (granted (c .before .header-ok .ensures) (c .if1 .left)) .1)
+    let t = header-true (A .mark) (A .own) (now (A .image)) (granted (c .before .header-ok .ensures) (c .if1 .left)) in
+    (S .pre, t .few, t .size)
 
 done-requires : tie.Need-done-requires
 done-requires c κs = search needs
@@ -42,7 +43,8 @@ locks-requires c κs =
     let S = c .before .before .before .before .before .before .before .before in
     let A = S .args in
     let h = granted (c .before .before .before .before .before .before .header-ok .ensures) (c .before .before .before .before .before .if1 .left) in
-    (S .pre, header-workers (A .mark) (A .own) (now (A .image)) h .1, c .before .before .before .before .records .ensures .1 (granted (c .before .before .before .done .ensures) (c .before .before .if2 .left)))
+    let t = header-true (A .mark) (A .own) (now (A .image)) h in
+    (S .pre, t .few, c .before .before .before .before .records .ensures .1 (granted (c .before .before .before .done .ensures) (c .before .before .if2 .left)), t .size)
 
 returns-3 : tie.Need-returns-3
 returns-3 c =

@@ -58,15 +58,12 @@ mul-held c = search needs
 slice-write-held : tie.Need-slice-write-held Inv-loop μ-loop
 slice-write-held c = omega arith
 
-op-of-requires : tie.Need-op-of-requires Inv-loop μ-loop
-op-of-requires c κs = search needs
-
-held-after-requires : tie.Need-held-after-requires Inv-loop μ-loop
-held-after-requires c κs =
-    let k = c .before .before in
+held-past-requires : tie.Need-held-past-requires Inv-loop μ-loop
+held-past-requires c κs =
+    let k = c .before in
     let L = k .before .before .before .loop in
     let S = k .before .before .before .before .before .before in
-    rw (c .op-of .ensures) (formed-lock (S .args .own) _ (L .i) _ (granted (k .well-formed .ensures) (c .before .if1 .left)))
+    formed-lock (S .args .own) _ (L .i) _ (granted (k .well-formed .ensures) (c .if1 .left))
 
 add-i : tie.Need-add-i Inv-loop μ-loop
 add-i c = omega arith
@@ -76,16 +73,16 @@ loop-less c = omega arith
 
 loop-again : tie.Need-loop-again Inv-loop μ-loop
 loop-again c =
-    let k = c .before .before .before in
+    let k = c .before .before in
     let L = k .before .before .before .loop in
     let S = k .before .before .before .before .before .before in
     let w = now (S .args .words) in
     let t = k .before .before .loop-test .taken in
-    let f = pass-form (S .args .own) (length w) (codeOf w) (L .i) (granted (k .well-formed .ensures) (c .before .before .if1 .left)) in
+    let f = pass-form (S .args .own) (length w) (codeOf w) (L .i) (granted (k .well-formed .ensures) (c .before .if1 .left)) in
     let b : L .i < length (L .held) = omega arith in (
       omega arith,
       length-set (L .held) (L .i) (L .h) ∙ L .inv .1,
-      rw (held-next (codeOf w) (L .i), ← L .inv .2, ← c .before .op-of .ensures) (c .held-after .ensures),
+      rw (held-next (codeOf w) (L .i), ← L .inv .2) (c .held-past .ensures),
       sym (first-on (formOf (S .args .own) (length w) (codeOf w)) (length w) (L .i) t f) ∙ L .inv .3,
       filled-next (L .held) (L .i) (L .h) (heldBefore (codeOf w)) b (L .inv .4) (L .inv .2),
     )
@@ -113,8 +110,7 @@ held-sets-spec =
     returns
     mul-held
     slice-write-held
-    op-of-requires
-    held-after-requires
+    held-past-requires
     add-i
     loop-less
     loop-again

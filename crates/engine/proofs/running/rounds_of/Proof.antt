@@ -19,6 +19,7 @@ use Rattle.engine.proofs.Standing.{idle-turn}
 use Rattle.engine.proofs.Laps.{Lap, lap-idle, lap-turn, lap-halts, Laps, laps-lap, laps-again, laps-idle, laps-spent, laps-halts}
 use Rattle.engine.proofs.running.rounds_of.Statement.{statement}
 use Rattle.engine.proofs.running.rounds_of.Tie as tie
+use Rattle.image.proofs.Header.{sized-inside}
 
 abbrev Inv-loop : tie.InvT-loop
 Inv-loop image₀ step₀ turn₀ n own rounds left₀ tally₀ round to next₀ d₀ image step turn left tally next d =
@@ -88,13 +89,13 @@ ready-in-requires c κs =
     let L = c .before .before .before .before .before .loop in
     let l = L .inv .1 in
     let p = c .before .before .before .before .before .before .before .before .before .before .before .before .before .before .before .pre in
-    (record { few = p .0; below = rw (l .size .has) (omega (arith, l .top)); most = rw (l .size .has) (l .few) }, λ a o. l .known (L .d) (omega (arith, l .top)) (λ q. absurd (o q)) a (c .before .if3 .left))
+    (sized-inside _ _ _ _ (p .0) (l .size) (l .few) (omega (arith, l .top)), λ a o. l .known (L .d) (omega (arith, l .top)) (λ q. absurd (o q)) a (c .before .if3 .left))
 
 turn-on-requires : tie.Need-turn-on-requires Inv-loop μ-loop Inv-rounds μ-rounds
 turn-on-requires c κs =
     let l = c .before .before .before .before .before .before .before .before .before .before .before .loop .inv .1 in
     let p = c .before .before .before .before .before .before .before .before .before .before .before .before .before .before .before .before .before .before .before .before .before .pre in (
-      record { few = p .0; below = rw (l .size .has) (omega (arith, l .top)); most = rw (l .size .has) (l .few) },
+      sized-inside _ _ _ _ (p .0) (l .size) (l .few) (omega (arith, l .top)),
       rw (l .full .steps) (omega (arith, l .top, l .few)),
       rw (l .full .turns) (omega (arith, l .top, l .few)),
       granted (c .before .before .before .before .before .ready-in .ensures) (c .before .before .before .before .if4 .left),

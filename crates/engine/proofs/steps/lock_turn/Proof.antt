@@ -2,11 +2,16 @@
 use native.Mathlib.Omega.{arith}
 use borrow.Author.Tests.{eq-eqb, ne-eqb}
 use borrow.Author.Needs.{needs}
+use denote.Ref.{now}
+use Rattle.image.proofs.Stores.{inside-front}
 use Rattle.engine.proofs.steps.lock_turn.Statement.{statement}
 use Rattle.engine.proofs.steps.lock_turn.Tie as tie
 
 read-lock-requires : tie.Need-read-lock-requires
-read-lock-requires c κs = search needs
+read-lock-requires c κs =
+    let S = c .before in
+    let A = S .args in
+    (S .pre .1, inside-front (A .own) (now (A .image)) (A .d) (S .pre .0))
 
 returns : tie.Need-returns
 returns c =

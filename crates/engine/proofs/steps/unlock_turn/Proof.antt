@@ -3,11 +3,16 @@ use Prim.Native.Nat.{_+_}
 use native.Mathlib.Omega.{arith}
 use borrow.Author.Tests.{eq-eqb, ne-eqb}
 use borrow.Author.Needs.{needs}
+use denote.Ref.{now}
+use Rattle.image.proofs.Stores.{inside-front}
 use Rattle.engine.proofs.steps.unlock_turn.Statement.{statement}
 use Rattle.engine.proofs.steps.unlock_turn.Tie as tie
 
 read-lock-requires : tie.Need-read-lock-requires
-read-lock-requires c κs = search needs
+read-lock-requires c κs =
+    let S = c .before in
+    let A = S .args in
+    (S .pre .1, inside-front (A .own) (now (A .image)) (A .d) (S .pre .0))
 
 add-if1 : tie.Need-add-if1
 add-if1 c = search needs

@@ -24,17 +24,17 @@ loop-holds c =
     let e : A .at + 0 ≡ A .at = omega arith in
     (omega arith, refl, omega arith, rw e)
 
-add-store : tie.Need-add-store Inv-loop μ-loop
-add-store c = search needs
+add-store-inside : tie.Need-add-store-inside Inv-loop μ-loop
+add-store-inside c = search needs
 
-mul-store : tie.Need-mul-store Inv-loop μ-loop
-mul-store c = search needs
+mul-store-inside : tie.Need-mul-store-inside Inv-loop μ-loop
+mul-store-inside c = search needs
 
-shared-slice-read-store : tie.Need-shared-slice-read-store Inv-loop μ-loop
-shared-slice-read-store c = search needs
+shared-slice-read-store-inside : tie.Need-shared-slice-read-store-inside Inv-loop μ-loop
+shared-slice-read-store-inside c = search needs
 
-store-requires : tie.Need-store-requires Inv-loop μ-loop
-store-requires c κs = search needs
+store-inside-requires : tie.Need-store-inside-requires Inv-loop μ-loop
+store-inside-requires c κs = search needs
 
 add-i : tie.Need-add-i Inv-loop μ-loop
 add-i c = search needs
@@ -46,7 +46,7 @@ loop-again : tie.Need-loop-again Inv-loop μ-loop
 loop-again c =
     let L = c .before .before .before .before .before .before .before in
     let A = L .before .before .before .before .args in
-    let s = c .before .before .store in (
+    let s = c .before .before .store-inside in (
       omega arith,
       s .kept .0 ∙ L .loop .inv .1,
       omega (arith, s .ensures .1),
@@ -69,10 +69,10 @@ store-words-spec =
     Inv-loop
     μ-loop
     loop-holds
-    add-store
-    mul-store
-    shared-slice-read-store
-    store-requires
+    add-store-inside
+    mul-store-inside
+    shared-slice-read-store-inside
+    store-inside-requires
     add-i
     loop-less
     loop-again

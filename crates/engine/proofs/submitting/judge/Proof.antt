@@ -6,15 +6,10 @@ use mathlib.Core.Path.{_≡_}
 use mathlib.Core.Bool.{true}
 use denote.Ref.{now}
 use Rattle.base.proofs.Bools.{denied, granted}
-use Rattle.image.specs.Image.{Image, workers, headerOk, Inside}
-use Rattle.image.proofs.Header.{header-workers}
+use Rattle.image.proofs.Header.{header-inside}
 use Rattle.engine.specs.Submit.{submitAnswer}
 use Rattle.engine.proofs.submitting.judge.Statement.{statement}
 use Rattle.engine.proofs.submitting.judge.Tie as tie
-
--- what the reads of worker d's record ask
-inside : (mark n : ℕ) (m : Image) (d : ℕ) → n ≤ 64 → headerOk mark n m ≡ true → d < workers m → Inside n m d
-inside mark n m d few ok below = record { few = few; below = below; most = header-workers mark n m ok .1 }
 
 header-ok-requires : tie.Need-header-ok-requires
 header-ok-requires c κs = search needs
@@ -40,7 +35,7 @@ free-requires c κs =
     let h = w .before .before in
     let S = h .before .before .before in
     let A = S .args in
-    inside (A .mark) (A .own) (now (A .image)) (A .d) (S .pre) (granted (h .header-ok .ensures) (w .before .if1 .left)) (rw (← w .workers .ensures) (c .if2 .left))
+    header-inside (A .mark) (A .own) (now (A .image)) (A .d) (S .pre) (granted (h .header-ok .ensures) (w .before .if1 .left)) (rw (← w .workers .ensures) (c .if2 .left))
 
 returns-3 : tie.Need-returns-3
 unfolding submitAnswer
@@ -63,7 +58,7 @@ read-field-requires c κs =
     let h = w .before .before in
     let S = h .before .before .before in
     let A = S .args in
-    inside (A .mark) (A .own) (now (A .image)) (A .d) (S .pre) (granted (h .header-ok .ensures) (w .before .if1 .left)) (rw (← w .workers .ensures) (r .before .if2 .left))
+    header-inside (A .mark) (A .own) (now (A .image)) (A .d) (S .pre) (granted (h .header-ok .ensures) (w .before .if1 .left)) (rw (← w .workers .ensures) (r .before .if2 .left))
 
 returns-4 : tie.Need-returns-4
 unfolding submitAnswer

@@ -9,6 +9,7 @@ use lib.ListN.{length, replicate, length-replicate}
 use Rattle.image.specs.Place.{own, step}
 use Rattle.image.specs.Image.{Image, indexOf, putAll}
 use Rattle.image.proofs.Apart.{record-small}
+use Rattle.image.proofs.Stores.{inside-own, inside-steps}
 use Rattle.engine.specs.Format.{putFrom}
 use Rattle.engine.specs.Submit.{assigns}
 use Rattle.engine.proofs.Rows.{row-words}
@@ -28,14 +29,9 @@ own-eighth : (n d : ℕ) → indexOf n (own d 8) ≡ indexOf n (own d 0) + 8
 unfolding indexOf
 own-eighth n d = omega arith
 
--- the index of a record's word is small
 own-small : (n d : ℕ) → d < 8 → n ≤ 64 → indexOf n (own d 0) ≤ 1698
 unfolding indexOf
 own-small n d h g = omega (arith, record-small n d (omega arith) g)
-
-step-small : (n d : ℕ) → d < 8 → n ≤ 64 → indexOf n (step d 0) ≤ 1762
-unfolding indexOf
-step-small n d h g = omega (arith, record-small n d (omega arith) g)
 
 field-index-requires : tie.Need-field-index-requires
 field-index-requires c κs = search needs
@@ -48,28 +44,37 @@ own-index-requires c κs = search needs
 
 store-words-requires : tie.Need-store-words-requires
 store-words-requires c κs =
-    let p : length (now (c .before .before .before .before .before .before .before .before .before .before .before .before .args .args)) ≡ 8 = search needs in
-    omega (arith, c .before .before .before .own-index .ensures, own-small (c .before .before .before .before .before .before .before .before .before .before .before .before .args .n) (c .before .before .before .before .before .before .before .before .before .before .before .before .args .d) (omega arith) (omega arith), p)
+    let S = c .before .before .before .before .before .before .before .before .before .before .before .before in
+    let A = S .args in
+    let p : length (now (A .args)) ≡ 8 = search needs in
+    omega (arith, c .before .before .before .own-index .ensures, inside-own (A .n) (now (A .image)) (A .d) (S .pre .0), S .pre .1, p, c .before .before .before .before .before .before .store .kept .0)
 
 add-clear : tie.Need-add-clear
-add-clear c = omega (arith, c .before .before .before .before .before .before .before .own-index .ensures, own-small (c .before .before .before .before .before .before .before .before .before .before .before .before .before .before .before .before .args .n) (c .before .before .before .before .before .before .before .before .before .before .before .before .before .before .before .before .args .d) (omega arith) (omega arith))
+add-clear c =
+    let S = c .before .before .before .before .before .before .before .before .before .before .before .before .before .before .before .before in
+    let A = S .args in
+    omega (arith, c .before .before .before .before .before .before .before .own-index .ensures, own-small (A .n) (A .d) (omega (arith, S .pre .0 .below, S .pre .0 .most)) (S .pre .0 .few))
 
 sub-clear : tie.Need-sub-clear
 sub-clear c = search needs
 
 clear-requires : tie.Need-clear-requires
-clear-requires c κs = omega (arith, c .before .before .before .before .before .before .before .before .own-index .ensures, own-small (c .before .before .before .before .before .before .before .before .before .before .before .before .before .before .before .before .before .args .n) (c .before .before .before .before .before .before .before .before .before .before .before .before .before .before .before .before .before .args .d) (omega arith) (omega arith))
+clear-requires c κs =
+    let S = c .before .before .before .before .before .before .before .before .before .before .before .before .before .before .before .before .before in
+    let A = S .args in
+    omega (arith, c .before .before .before .before .before .before .before .before .own-index .ensures, inside-own (A .n) (now (A .image)) (A .d) (S .pre .0), S .pre .1, c .before .before .before .before .store-words .kept .0, c .before .before .before .before .before .before .before .before .before .before .before .store .kept .0)
 
 step-index-requires : tie.Need-step-index-requires
 step-index-requires c κs = search needs
 
 store-words-requires-2 : tie.Need-store-words-requires-2
 store-words-requires-2 c κs =
-    let A = c .before .before .before .before .before .before .before .before .before .before .before .before .before .before .before .before .before .before .before .before .before .before .before .args in
-    omega (arith, c .before .step-index .ensures, step-small (A .n) (A .d) (omega arith) (omega arith))
+    let S = c .before .before .before .before .before .before .before .before .before .before .before .before .before .before .before .before .before .before .before .before .before .before .before in
+    let A = S .args in
+    omega (arith, c .before .step-index .ensures, inside-steps (A .n) (now (A .image)) (A .d) (S .pre .0), S .pre .2, c .before .before .before .before .before .clear .kept .0, c .before .before .before .before .before .before .before .before .before .before .store-words .kept .0, c .before .before .before .before .before .before .before .before .before .before .before .before .before .before .before .before .before .store .kept .0)
 
 field-index-requires-2 : tie.Need-field-index-requires-2
-field-index-requires-2 c κs = search needs
+field-index-requires-2 c κs = let S = c .before .before .before .before .before .before .before .before .before .before .before .before .before .before .before .before .before .before .before .before .before .before .before .before .before .before .before in (omega (arith, S .pre .0 .below, S .pre .0 .most), S .pre .0 .few)
 
 store-requires-2 : tie.Need-store-requires-2
 store-requires-2 c κs = search needs

@@ -1,8 +1,12 @@
--- `engine::words::eval` meets its contract: each arm is the definition's case.
+-- `engine::words::eval` meets its contract: a literal says its value, and the three others' words are read alike.
 use native.Mathlib.Omega.{arith}
-use borrow.Author.Tests.{lt-ltb, le-ltb}
+use mathlib.Core.Path.{_≡_, ap, _∙_, sym}
+use mathlib.Core.Logic.{⊎-elim}
+use denote.Ref.{now}
 use borrow.Author.Needs.{needs}
-use Rattle.section.specs.Op.{eval}
+use Rattle.image.specs.Image.{at}
+use Rattle.section.specs.Op.{Reads, eval}
+use Rattle.engine.specs.Turn.{wordIn}
 use Rattle.engine.proofs.words.eval.Statement.{statement}
 use Rattle.engine.proofs.words.eval.Tie as tie
 
@@ -18,56 +22,40 @@ add-result c = omega (arith, rw (c .before .e .given .1) at (c .before .before .
 enum-known-e-2 : tie.Need-enum-known-e-2
 enum-known-e-2 c = search needs
 
-word-requires : tie.Need-word-requires
-word-requires c κs = (c .before .before .before .before .pre .0, (rw (c .before .e2 .given .1) at (c .before .before .before .before .pre .1)) .0)
-
-word-requires-2 : tie.Need-word-requires-2
-word-requires-2 c κs = (c .before .before .before .before .before .pre .0, (rw (c .before .before .e2 .given .1) at (c .before .before .before .before .before .pre .1)) .1)
-
-wrapping-add-u64-requires : tie.Need-wrapping-add-u64-requires
-wrapping-add-u64-requires c κs = search needs
-
 enum-known-e-3 : tie.Need-enum-known-e-3
 enum-known-e-3 c = search needs
-
-word-requires-3 : tie.Need-word-requires-3
-word-requires-3 c κs = (c .before .before .before .before .pre .0, (rw (c .before .e3 .given .1) at (c .before .before .before .before .pre .1)) .0)
-
-word-requires-4 : tie.Need-word-requires-4
-word-requires-4 c κs = (c .before .before .before .before .before .pre .0, (rw (c .before .before .e3 .given .1) at (c .before .before .before .before .before .pre .1)) .1)
-
-wrapping-sub-u64-requires : tie.Need-wrapping-sub-u64-requires
-wrapping-sub-u64-requires c κs = search needs
 
 enum-known-e-4 : tie.Need-enum-known-e-4
 enum-known-e-4 c = search needs
 
-word-requires-5 : tie.Need-word-requires-5
-word-requires-5 c κs = (c .before .before .before .before .pre .0, (rw (c .before .e4 .given .1) at (c .before .before .before .before .pre .1)) .0)
+word-requires : tie.Need-word-requires
+word-requires c κs =
+    let S = c .before .before in
+    (S .pre .0, ⊎-elim (λ w. rw (w .4) ((rw (w .1 .given .1) at (S .pre .1)) .0)) (λ w. ⊎-elim (λ v. rw (v .4) ((rw (v .1 .given .1) at (S .pre .1)) .0)) (λ v. rw (v .4) ((rw (v .1 .given .1) at (S .pre .1)) .0)) w) (c .match .came))
 
-word-requires-6 : tie.Need-word-requires-6
-word-requires-6 c κs = (c .before .before .before .before .before .pre .0, (rw (c .before .before .e4 .given .1) at (c .before .before .before .before .before .pre .1)) .1)
+word-requires-2 : tie.Need-word-requires-2
+word-requires-2 c κs =
+    let S = c .before .before .before in
+    (S .pre .0, ⊎-elim (λ w. rw (w .5) ((rw (w .1 .given .1) at (S .pre .1)) .1)) (λ w. ⊎-elim (λ v. rw (v .5) ((rw (v .1 .given .1) at (S .pre .1)) .1)) (λ v. rw (v .5) ((rw (v .1 .given .1) at (S .pre .1)) .1)) w) (c .before .match .came))
+
+combined-requires : tie.Need-combined-requires
+combined-requires c κs = search needs
 
 returns : tie.Need-returns
 unfolding eval
-returns c = rw (c .before .before .before .before .e4 .given .1, ← c .before .before .word5 .ensures, ← c .before .word6 .ensures) (simp (lt-ltb _ _ (c .if1 .taken)))
+returns c = rw (c .before .e .given .1)
 
 returns-2 : tie.Need-returns-2
-unfolding eval
-returns-2 c = rw (c .before .e .given .1)
-
-returns-3 : tie.Need-returns-3
-unfolding eval
-returns-3 c = rw (c .before .before .before .before .e2 .given .1, ← c .before .before .word .ensures, ← c .before .word2 .ensures) (c .wrapping-add-u64 .ensures)
-
-returns-4 : tie.Need-returns-4
-unfolding eval
-returns-4 c =
-    rw (c .before .before .before .before .e3 .given .1, ← c .before .before .word3 .ensures, ← c .before .word4 .ensures) (omega (arith, c .wrapping-sub-u64 .ok))
-
-returns-5 : tie.Need-returns-5
-unfolding eval
-returns-5 c = rw (c .before .before .before .before .e4 .given .1, ← c .before .before .word5 .ensures, ← c .before .word6 .ensures) (simp (le-ltb _ _ (c .if1 .left)))
+returns-2 c =
+    let A = c .before .before .before .before .before .args in
+    let f = wordIn (A .own) (at (A .own) (now (A .image))) (A .d) in
+    let m = c .before .before .before .match in
+    let x = c .before .before .word .ensures in
+    let y = c .before .word2 .ensures in
+    let same : m .e ≡ A .e = ⊎-elim (λ w. w .3 ∙ sym (w .1 .given .1)) (λ w. ⊎-elim (λ v. v .3 ∙ sym (v .1 .given .1)) (λ v. v .3 ∙ sym (v .1 .given .1)) w) (m .came) in
+    let read : Reads f (A .e) (c .before .before .word .result) (c .before .word2 .result) =
+    ⊎-elim (λ w. rw (w .1 .given .1) (x ∙ ap f (w .4), y ∙ ap f (w .5))) (λ w. ⊎-elim (λ v. rw (v .1 .given .1) (x ∙ ap f (v .4), y ∙ ap f (v .5))) (λ v. rw (v .1 .given .1) (x ∙ ap f (v .4), y ∙ ap f (v .5))) w) (m .came) in
+    c .combined .ensures f (rw same read) ∙ ap (eval f) same
 
 pub eval-spec : {M : Type 1} → statement M
 eval-spec =
@@ -77,18 +65,10 @@ eval-spec =
     mul-result
     add-result
     enum-known-e-2
+    enum-known-e-3
+    enum-known-e-4
     word-requires
     word-requires-2
-    wrapping-add-u64-requires
-    enum-known-e-3
-    word-requires-3
-    word-requires-4
-    wrapping-sub-u64-requires
-    enum-known-e-4
-    word-requires-5
-    word-requires-6
+    combined-requires
     returns
-    returns-2
-    returns-3
-    returns-4
-    returns-5)
+    returns-2)

@@ -1,27 +1,43 @@
 -- `engine::words::operand_index` meets its contract: below 512 a cell, from there on an own word.
-use borrow.Author.Tests.{lt-ltb, le-ltb}
 use borrow.Author.Needs.{needs}
+use Prim.Native.Nat.{_+_}
+use mathlib.Core.Path.{_≡_}
+use mathlib.Core.Logic.{⊎-elim}
+use native.Mathlib.Omega.{arith}
+use Rattle.image.specs.Image.{indexOf}
 use Rattle.engine.specs.Turn.{operand}
+use Rattle.engine.proofs.Operands.{operand-cell, operand-own, own-past, operand-small}
 use Rattle.engine.proofs.words.operand_index.Statement.{statement}
 use Rattle.engine.proofs.words.operand_index.Tie as tie
 
 cell-index-requires : tie.Need-cell-index-requires
 cell-index-requires c κs = search needs
 
-returns : tie.Need-returns
-unfolding operand
-returns c = simp (lt-ltb _ _ (c .before .if1 .taken)) (c .cell-index .ensures _)
-
-sub-own-index : tie.Need-sub-own-index
-sub-own-index c = search needs
-
 own-index-requires : tie.Need-own-index-requires
 own-index-requires c κs = search needs
 
-returns-2 : tie.Need-returns-2
-unfolding operand
-returns-2 c = simp (le-ltb _ _ (c .before .if1 .left)) (c .own-index .ensures)
+sub-from : tie.Need-sub-from
+sub-from c = let A = c .before .before .args in rw (c .own-index .ensures) (own-past (A .own) (A .d) (A .x))
+
+add-result : tie.Need-add-result
+add-result c =
+    let S = c .before .before in
+    let A = S .args in
+    let small = operand-small (A .own) (A .d) (A .x) (S .pre .0) (S .pre .2) (S .pre .1) in
+    let at : c .before .if1 .from + A .x ≡ indexOf (A .own) (operand (A .d) (A .x)) = ⊎-elim
+    (λ w. rw (w .2, w .1 .ensures (A .own)) (operand-cell (A .own) (A .d) (A .x) (w .0 .taken)))
+    (λ w. rw (w .2, w .1 .ensures) (operand-own (A .own) (A .d) (A .x) (w .0 .left)))
+    (c .before .if1 .came) in
+    omega (arith, small, at)
+
+returns : tie.Need-returns
+returns c =
+    let A = c .before .before .args in
+    ⊎-elim
+    (λ w. rw (w .2, w .1 .ensures (A .own)) (operand-cell (A .own) (A .d) (A .x) (w .0 .taken)))
+    (λ w. rw (w .2, w .1 .ensures) (operand-own (A .own) (A .d) (A .x) (w .0 .left)))
+    (c .before .if1 .came)
 
 pub operand-index-spec : {M : Type 1} → statement M
 operand-index-spec =
-    tie.close (tie.spec cell-index-requires returns sub-own-index own-index-requires returns-2)
+    tie.close (tie.spec cell-index-requires own-index-requires sub-from add-result returns)

@@ -1,27 +1,29 @@
--- `engine::words::word` meets its contract: below 512 a cell, from there on an own word.
-use borrow.Author.Tests.{lt-ltb, le-ltb}
+-- `engine::words::word` meets its contract: the word at the number's index.
 use borrow.Author.Needs.{needs}
+use denote.Ref.{now}
+use Rattle.image.specs.Image.{workers}
+use Rattle.image.proofs.Stores.{inside-lt, read-at}
 use Rattle.engine.specs.Turn.{operand}
+use Rattle.engine.proofs.Operands.{operand-valid}
 use Rattle.engine.proofs.words.word.Statement.{statement}
 use Rattle.engine.proofs.words.word.Tie as tie
 
-read-cell-requires : tie.Need-read-cell-requires
-read-cell-requires c κs = search needs
+operand-index-requires : tie.Need-operand-index-requires
+operand-index-requires c κs = search needs
+
+load-inside-requires : tie.Need-load-inside-requires
+load-inside-requires c κs =
+    let S = c .before .before in
+    let A = S .args in
+    inside-lt (A .own) (now (A .image)) (A .d) (operand (A .d) (A .x)) (S .pre .0)
+    (operand-valid (A .own) (A .d) (A .x) (workers (now (A .image))) (S .pre .0 .below) (S .pre .1)) (c .operand-index .ensures)
 
 returns : tie.Need-returns
-unfolding operand
-returns c = simp (lt-ltb _ _ (c .before .if1 .taken)) (c .read-cell .ensures _)
-
-sub-read-own : tie.Need-sub-read-own
-sub-read-own c = search needs
-
-read-own-requires : tie.Need-read-own-requires
-read-own-requires c κs = search needs
-
-returns-2 : tie.Need-returns-2
-unfolding operand
-returns-2 c = simp (le-ltb _ _ (c .before .if1 .left)) (c .read-own .ensures)
+returns c =
+    let S = c .before .before .before in
+    let A = S .args in
+    read-at (A .own) (now (A .image)) (operand (A .d) (A .x)) (c .before .operand-index .ensures) (c .load-inside .ensures)
+    (operand-valid (A .own) (A .d) (A .x) (workers (now (A .image))) (S .pre .0 .below) (S .pre .1))
 
 pub word-spec : {M : Type 1} → statement M
-word-spec =
-    tie.close (tie.spec read-cell-requires returns sub-read-own read-own-requires returns-2)
+word-spec = tie.close (tie.spec operand-index-requires load-inside-requires returns)

@@ -34,7 +34,7 @@ owner-ok-requires : tie.Need-owner-ok-requires Inv-loop μ-loop
 owner-ok-requires c κs =
     let S = c .before .before .before .before .before .before in
     let h : c .before .loop .b < 64 = omega (arith, c .before .before .shared .ensures .0) in
-    (S .pre .0, S .pre .1, h)
+    (S .pre .0, S .pre .1, h, S .pre .3)
 
 returns : tie.Need-returns Inv-loop μ-loop
 returns c =

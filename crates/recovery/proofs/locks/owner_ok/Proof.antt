@@ -5,12 +5,13 @@ use borrow.Author.Needs.{needs}
 use native.Mathlib.Omega.{arith}
 use denote.Ref.{now}
 use Rattle.image.specs.Image.{at, workers}
+use Rattle.image.proofs.Apart.{length-ge}
 use Rattle.recovery.proofs.Sets.{owner-named}
 use Rattle.recovery.proofs.locks.owner_ok.Statement.{statement}
 use Rattle.recovery.proofs.locks.owner_ok.Tie as tie
 
 read-lock-requires : tie.Need-read-lock-requires
-read-lock-requires c κs = search needs
+read-lock-requires c κs = let S = c .before in (S .pre .2, rw (S .pre .3) (length-ge (S .args .own) (workers (now (S .args .image)))))
 
 returns : tie.Need-returns
 returns c = rw (← c .before .read-lock .ensures (c .before .before .before .args .own), c .if1 .taken)

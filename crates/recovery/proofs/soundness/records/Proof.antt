@@ -34,7 +34,7 @@ loop-holds c = (omega arith, rw (left-all (workers (now (c .before .before .args
 sound-requires : tie.Need-sound-requires Inv-loop μ-loop
 sound-requires c κs =
     let S = c .before .before .before .before in
-    record { few = S .pre .0; below = omega (arith, c .before .before .workers .ensures); most = S .pre .1 }
+    record { few = S .pre .0; below = omega (arith, c .before .before .workers .ensures); most = S .pre .1; whole = S .pre .2 }
 
 returns : tie.Need-returns Inv-loop μ-loop
 returns c =

@@ -1,113 +1,86 @@
--- `recovery::soundness::section_passes` meets its contract. The loop's invariant: the first i words are the record's;
--- the check reads no others. A section that reaches past the end of the image does not pass.
-use Prim.Native.Nat.{ℕ, _-_, _≤_, _<_}
-use borrow.Author.Tests.{leb-false}
+-- `recovery::soundness::section_passes` meets its contract: the part of the image that is checked holds the record's instructions.
+use Prim.Native.Nat.{ℕ, _≤_, _<_, _+_, _-_}
 use borrow.Author.Needs.{needs}
-use mathlib.Core.Path.{_≡_, refl, sym, ap, _∙_}
+use borrow.Author.Tests.{lt-ltb}
+use mathlib.Core.Path.{_≡_, ap, _∙_}
 use native.Mathlib.Omega.{arith}
 use denote.Ref.{now}
-use lib.Seq.{length-take-le, getD-take}
-use lib.ListN.{length, getD, take, length-set}
-use Rattle.base.proofs.Bools.{denied}
-use Rattle.base.proofs.Filling.{filled-next}
-use Rattle.image.specs.Image.{at}
+use lib.Seq.{length-take-le, getD-take, getD-drop}
+use lib.ListN.{length, getD, take, drop, length-drop}
+use Rattle.base.proofs.Bools.{and-both}
+use Rattle.image.specs.Place.{step}
+use Rattle.image.specs.Image.{Image, indexOf, at, workers, Inside}
+use Rattle.image.proofs.Apart.{record-small}
+use Rattle.image.proofs.Stores.{inside-steps, load-at}
 use Rattle.section.proofs.Facts.{check-cong}
 use Rattle.section.specs.Check.{codeOf, check, passes}
 use Rattle.engine.specs.Turn.{codeIn}
-use Rattle.recovery.proofs.Records.{check-past}
 use Rattle.recovery.proofs.soundness.section_passes.Statement.{statement}
 use Rattle.recovery.proofs.soundness.section_passes.Tie as tie
 
-abbrev Inv-loop : tie.InvT-loop
-Inv-loop image d k own words₀ i₀ words i =
-    (i ≤ k) × (length words ≡ 64) × ((j : ℕ) → j < i → getD words j 0 ≡ codeIn own (at own image) d j)
+step-small : (n d : ℕ) {m : Image} → Inside n m d → indexOf n (step d 0) ≤ 1762
+unfolding indexOf
+step-small n d w = omega (arith, record-small n d (omega (arith, w .below, w .most)) (w .few), w .few)
 
-abbrev μ-loop : tie.MeasureT-loop
-μ-loop image d k own words₀ i₀ words i = k - i
+step-next : (n d j : ℕ) → indexOf n (step d j) ≡ indexOf n (step d 0) + j
+unfolding indexOf
+step-next n d j = omega arith
 
-has-steps-requires : tie.Need-has-steps-requires Inv-loop μ-loop
-has-steps-requires c κs = search needs
+-- the instruction words of a record are a part of the image
+part-checks : (n k : ℕ) (m : Image) (d from : ℕ) → Inside n m d → k ≤ 64 → from ≡ indexOf n (step d 0)
+    → check n (length (take (from + k - from) (drop from m))) (codeOf (take (from + k - from) (drop from m))) ≡ check n k (codeIn n (at n m) d)
+part-checks n k m d from w small e =
+    let size : from + k - from ≡ k = omega arith in
+    let fits : k ≤ length (drop from m) = rw (length-drop from m) (omega (arith, e, small, inside-steps n m d w)) in
+    let read : (j : ℕ) → j < k → codeOf (take k (drop from m)) j ≡ codeIn n (at n m) d j =
+    λ j l. getD-take k (drop from m) j 0 l ∙ (getD-drop from m j 0 ∙ (ap (λ (i : ℕ). getD m i 0) (rw (step-next n d j) (omega (arith, e))) ∙ load-at n m (step d j) (and-both _ _ (lt-ltb d (workers m) (w .below)) (lt-ltb j 64 (omega (arith, l, small)))))) in
+    rw (size, length-take-le k (drop from m) fits) (check-cong n k (codeOf (take k (drop from m))) (codeIn n (at n m) d) read)
 
-returns : tie.Need-returns Inv-loop μ-loop
-returns c =
-    let A = c .before .before .before .args in
-    sym (check-past (A .own) (now (A .image)) (A .d) (A .k) (leb-false _ (length (now (A .image))) (denied (c .before .has-steps .ensures) (c .if1 .taken))))
+step-index-requires : tie.Need-step-index-requires
+step-index-requires c κs = search needs
 
-loop-holds : tie.Need-loop-holds Inv-loop μ-loop
-loop-holds c = (omega arith, refl, λ j l. absurd (omega arith))
+add-check : tie.Need-add-check
+add-check c = let S = c .before .before in let A = S .args in omega (arith, c .step-index .ensures, step-small (A .own) (A .d) (S .pre .0), S .pre .1)
 
-read-step-requires : tie.Need-read-step-requires Inv-loop μ-loop
-read-step-requires c κs = (c .before .before .before .before .before .pre .0, omega arith)
+mul-check : tie.Need-mul-check
+mul-check c = let S = c .before .before in let A = S .args in omega (arith, c .step-index .ensures, step-small (A .own) (A .d) (S .pre .0))
 
-mul-words : tie.Need-mul-words Inv-loop μ-loop
-mul-words c = omega arith
+sub-check : tie.Need-sub-check
+sub-check c = search needs
 
-array-write-words : tie.Need-array-write-words Inv-loop μ-loop
-array-write-words c = omega arith
+part-check-start : tie.Need-part-check-start
+part-check-start c = search needs
 
-add-i : tie.Need-add-i Inv-loop μ-loop
-add-i c = omega arith
+part-check-end : tie.Need-part-check-end
+part-check-end c = let S = c .before .before in let A = S .args in omega (arith, c .step-index .ensures, inside-steps (A .own) (now (A .image)) (A .d) (S .pre .0), S .pre .1)
 
-loop-less : tie.Need-loop-less Inv-loop μ-loop
-loop-less c = omega arith
+cast-check : tie.Need-cast-check
+cast-check c = search needs
 
-loop-again : tie.Need-loop-again Inv-loop μ-loop
-loop-again c =
-    let A = c .before .before .before .before .before .before .args in
-    let L = c .before .before .loop in
-    let b : L .i < length (L .words) = omega arith in (
-      omega arith,
-      length-set (L .words) (L .i) (c .read-step .result) ∙ L .inv .1,
-      filled-next (L .words) (L .i) (c .read-step .result) (codeIn (A .own) (at (A .own) (now (A .image))) (A .d)) b (L .inv .2) (c .read-step .ensures),
-    )
-
-array-share-prefix-words : tie.Need-array-share-prefix-words Inv-loop μ-loop
-array-share-prefix-words c = omega arith
-
-slice-aggregate-check : tie.Need-slice-aggregate-check Inv-loop μ-loop
-slice-aggregate-check c =
-    let h : c .before .before .before .before .before .before .args .k ≤ length (c .before .before .loop .words) = omega arith in
-    sym (length-take-le (c .before .before .before .before .before .before .args .k) (c .before .before .loop .words) h)
-
-cast-check : tie.Need-cast-check Inv-loop μ-loop
-cast-check c = omega arith
-
-check-requires : tie.Need-check-requires Inv-loop μ-loop
+check-requires : tie.Need-check-requires
 check-requires c κs = search needs
 
-passes-requires : tie.Need-passes-requires Inv-loop μ-loop
+passes-requires : tie.Need-passes-requires
 passes-requires c κs = search needs
 
-returns-2 : tie.Need-returns-2 Inv-loop μ-loop
-returns-2 c =
-    let A = c .before .before .before .before .before .before .before .before .args in
-    let L = c .before .before .before .before .loop in
-    let code = codeIn (A .own) (at (A .own) (now (A .image))) (A .d) in
-    let h : A .k ≤ length (L .words) = omega arith in
-    let read : (j : ℕ) → j < A .k → codeOf (take (A .k) (L .words)) j ≡ code j = λ j l. getD-take (A .k) (L .words) j 0 l ∙ L .inv .2 j (omega arith) in
-    let same : check (A .own) (length (take (A .k) (L .words))) (codeOf (take (A .k) (L .words))) ≡ check (A .own) (A .k) code =
-    rw (length-take-le (A .k) (L .words) h) (check-cong (A .own) (A .k) (codeOf (take (A .k) (L .words))) code read)
-    in
-    c .passes .ensures ∙ ap passes (c .before .check .ensures ∙ same)
+returns : tie.Need-returns
+returns c =
+    let S = c .before .before .before .before .before in
+    let A = S .args in
+    let e = part-checks (A .own) (A .k) (now (A .image)) (A .d) (c .before .before .before .step-index .result) (S .pre .0) (S .pre .1) (c .before .before .before .step-index .ensures) in
+    c .passes .ensures ∙ ap passes (c .before .check .ensures ∙ e)
 
 pub section-passes-spec : {M : Type 1} → statement M
 section-passes-spec =
     tie.close
     (tie.spec
-    Inv-loop
-    μ-loop
-    has-steps-requires
-    returns
-    loop-holds
-    read-step-requires
-    mul-words
-    array-write-words
-    add-i
-    loop-less
-    loop-again
-    array-share-prefix-words
-    slice-aggregate-check
+    step-index-requires
+    add-check
+    mul-check
+    sub-check
+    part-check-start
+    part-check-end
     cast-check
     check-requires
     passes-requires
-    returns-2)
+    returns)

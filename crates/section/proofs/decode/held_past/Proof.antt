@@ -1,9 +1,9 @@
--- `recovery::begun::held_past` meets its contract, by whether the kind is above 2.
+-- `section::decode::held_past` meets its contract, by whether the kind is above 2.
 use borrow.Author.Needs.{needs}
 use mathlib.Core.Path.{sym}
-use Rattle.recovery.proofs.Records.{held-stays}
-use Rattle.recovery.proofs.begun.held_past.Statement.{statement}
-use Rattle.recovery.proofs.begun.held_past.Tie as tie
+use Rattle.section.proofs.Held.{held-stays}
+use Rattle.section.proofs.decode.held_past.Statement.{statement}
+use Rattle.section.proofs.decode.held_past.Tie as tie
 
 kind-of-requires : tie.Need-kind-of-requires
 kind-of-requires c κs = search needs
