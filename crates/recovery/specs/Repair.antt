@@ -13,7 +13,7 @@ use Rattle.image.specs.Place.{lock, field, Memory, Store}
 use Rattle.image.specs.Image.{Image, lengthOf, indexOf, at, workers, put}
 use Rattle.section.specs.declared.Op.{Op}
 use Rattle.section.specs.declared.Op.the-variants.{Acquire, Release, Assign, Jump, Finish, Unknown}
-use Rattle.section.specs.Check.{inRange}
+use Rattle.section.specs.Check.{inRange, heldBefore}
 use Rattle.engine.specs.Turn.{codeIn, activeAddr, activeVal}
 use Rattle.recovery.specs.declared.Repair.{Repair}
 use Rattle.recovery.specs.declared.Slot.{Slot}
@@ -39,6 +39,10 @@ pub record Restorable (n : ℕ) (m : Image) : Type 0 where
   pub most : workers m ≤ 8
   pub whole : length m ≡ lengthOf n (workers m)
   pub legible : (d : ℕ) → d < workers m → Legible n (at n m) d
+
+-- a list has the held set before each of the first k steps of worker d's section
+abbrev pub Helds : ℕ → Memory → ℕ → ℕ → List ℕ → Type 0
+Helds n rd d k held = (j : ℕ) → j < k → getD held j 0 ≡ heldBefore (codeIn n rd d) j
 
 -- ---- the sets
 

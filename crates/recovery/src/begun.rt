@@ -1,33 +1,14 @@
-// What worker d's record says of a section that is under way: the held sets, what is owed at an instruction, and where the
-// worker goes on.
+// What worker d's record says of a section that is under way: what is owed at an instruction, and where the worker goes on.
 use image::Field;
 use section::Op;
-use section::decode::held_past;
 use section::decode::op_of;
 ghost use mathlib.Core.Path.{_≡_};
-ghost use mathlib.Core.Bool.{true};
-ghost use Prim.Native.Nat.{ℕ, _<_, _≤_};
+ghost use Prim.Native.Nat.{ℕ};
 ghost use Rattle.image.specs.Place.{Memory};
 ghost use Rattle.image.specs.Image.{at, Inside};
-ghost use Rattle.section.specs.Check.{heldBefore, inRange};
 ghost use Rattle.engine.specs.Cursor.{stepNo, turnNo};
-ghost use Rattle.engine.specs.Turn.{codeIn};
 ghost use Rattle.recovery.specs.Recovery.{targetTurn, resumed};
 ghost use Rattle.recovery.specs.Repair.{Legible, owedOf};
-
-// The held set before step i.
-pub fn held(image: &[u64], d: usize, i: usize, own: usize) -> u64
-    requires { ⌜ (Inside own (now image) d) × (i ≤ 64) × ((j : ℕ) → j < i → inRange own (codeIn own (at own (now image)) d j) ≡ true) ⌝ }
-    ensures { λ r. ⌜ r ≡ heldBefore (codeIn own (at own (now (image .entry))) d) i ⌝ }
-{
-    let mut h: u64 = 0;
-    let mut j: usize = 0;
-    while j < i {
-        h = held_past(h, image::read_step(image, d, j, own));
-        j += 1;
-    }
-    h
-}
 
 // The owed set at an instruction: of an acquire the held set after it, since its lock may be taken and not yet owned.
 pub fn owed_by(x: Op, next: u64, owned: u64) -> u64

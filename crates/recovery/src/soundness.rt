@@ -18,22 +18,24 @@ ghost use Rattle.section.specs.Check.{check, passes};
 ghost use Rattle.section.specs.Fits.{fits};
 ghost use Rattle.engine.specs.Turn.{codeIn, activeAddr, activeVal};
 ghost use Rattle.recovery.specs.Recovery.{covers, heldNext, owed, sectionOk, entryOk, pcOk, sound, unsound};
-ghost use Rattle.recovery.specs.Repair.{setLogged, eight, owedAt};
+ghost use Rattle.recovery.specs.Repair.{Helds, setLogged, eight, owedAt};
 ghost use Rattle.recovery.specs.Recover.{isDone, byRecord};
 
-// Whether the first k instruction words of worker d's record pass the check.
-fn section_passes(image: &[u64], d: usize, k: usize, own: usize) -> bool
-    requires { ⌜ (Inside own (now image) d) × (k ≤ 64) ⌝ }
-    ensures { λ r. ⌜ r ≡ passes (check own k (codeIn own (at own (now (image .entry))) d)) ⌝ }
+// Whether the first k instruction words of worker d's record pass the check, which then leaves the held sets.
+fn section_passes(image: &[u64], d: usize, k: usize, own: usize, held: &mut [u64]) -> bool
+    requires { ⌜ (Inside own (now image) d) × (k ≤ 64) × (64 ≤ length (now held)) ⌝ }
+    ensures passes { λ r. ⌜ r ≡ passes (check own k (codeIn own (at own (now (image .entry))) d)) ⌝ }
+    ensures sets { λ r. ⌜ (r ≡ true → Helds own (at own (now (image .entry))) d k (now (held .exit))) ⌝ }
 {
     let from = image::step_index(d, 0, own);
-    section::passes(section::check(&image[from..from + k], own as u16))
+    section::passes(section::check_held(&image[from..from + k], own as u16, held))
 }
 
-// Whether worker d has no section, or one that passes the check, with a number that may be under way.
-fn section_ok(image: &[u64], d: usize, own: usize) -> bool
-    requires { ⌜ Inside own (now image) d ⌝ }
-    ensures { λ r. ⌜ r ≡ sectionOk own (at own (now (image .entry))) d ⌝ }
+// Whether worker d has no section, or one that passes the check, with a number that may be under way. The held sets are left.
+fn section_ok(image: &[u64], d: usize, own: usize, held: &mut [u64]) -> bool
+    requires { ⌜ (Inside own (now image) d) × (64 ≤ length (now held)) ⌝ }
+    ensures ok { λ r. ⌜ r ≡ sectionOk own (at own (now (image .entry))) d ⌝ }
+    ensures sets { λ r. ⌜ (r ≡ true → Helds own (at own (now (image .entry))) d (at own (now (image .entry)) (field Field.Count d)) (now (held .exit))) ⌝ }
 {
     let k = image::read_field(image, Field::Count, d, own);
     if k == 0 {
@@ -42,7 +44,7 @@ fn section_ok(image: &[u64], d: usize, own: usize) -> bool
     if 64 < k {
         return false;
     }
-    if !section_passes(image, d, k as usize, own) {
+    if !section_passes(image, d, k as usize, own, held) {
         return false;
     }
     let number = image::read_field(image, Field::Number, d, own);
@@ -125,8 +127,9 @@ fn owned_ok(owned: u64, here: u64, next: u64) -> bool
 }
 
 // Whether the pc names no step, with nothing owned, or one whose entry is right, with the set before or after it owned.
-fn pc_ok(image: &[u64], d: usize, own: usize) -> Found
-    requires { ⌜ (Inside own (now image) d) × (sectionOk own (at own (now image)) d ≡ true) ⌝ }
+fn pc_ok(image: &[u64], d: usize, own: usize, held: &[u64]) -> Found
+    requires { ⌜ (Inside own (now image) d) × (sectionOk own (at own (now image)) d ≡ true) × (64 ≤ length (now held))
+        × Helds own (at own (now image)) d (at own (now image) (field Field.Count d)) (now held) ⌝ }
     ensures ok { λ r. ⌜ r .ok ≡ pcOk own (at own (now (image .entry))) d ⌝ }
     ensures owed { λ r. ⌜ (r .ok ≡ true → r .owed ≡ owed own (at own (now (image .entry))) d) ⌝ }
 {
@@ -147,7 +150,7 @@ fn pc_ok(image: &[u64], d: usize, own: usize) -> Found
     }
     let s = p as usize - 1;
     let x = op_of(image::read_step(image, d, s, own));
-    let here = begun::held(image, d, s, own);
+    let here = held[s];
     let next = held_after(here, x);
     if !entry_ok(image, d, x, next, own) {
         return refused();
@@ -165,16 +168,16 @@ fn covers(big: u64, small: u64) -> bool
     small & big == small
 }
 
-// Whether worker d's record is sound.
-fn sound(image: &[u64], d: usize, own: usize) -> Found
-    requires { ⌜ Inside own (now image) d ⌝ }
+// Whether worker d's record is sound. The held sets of its section go through `held`.
+fn sound(image: &[u64], d: usize, own: usize, held: &mut [u64]) -> Found
+    requires { ⌜ (Inside own (now image) d) × (64 ≤ length (now held)) ⌝ }
     ensures ok { λ r. ⌜ r .ok ≡ sound own (at own (now (image .entry))) d ⌝ }
     ensures owed { λ r. ⌜ (r .ok ≡ true → r .owed ≡ owed own (at own (now (image .entry))) d) ⌝ }
 {
-    if !section_ok(image, d, own) {
+    if !section_ok(image, d, own, held) {
         return refused();
     }
-    let f = pc_ok(image, d, own);
+    let f = pc_ok(image, d, own, held);
     if !f.ok {
         return f;
     }
@@ -193,9 +196,10 @@ pub fn records(image: &[u64], own: usize) -> Judged
 {
     let n = image::workers(image) as usize;
     let mut sets = [0u64; 8];
+    let mut held = [0u64; 64];
     let mut d: usize = 0;
     while d < n {
-        let f = sound(image, d, own);
+        let f = sound(image, d, own, &mut held);
         if !f.ok {
             return Judged {
                 answer: Answer::Refused(Refusal::Record(d)),

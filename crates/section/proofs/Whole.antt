@@ -35,7 +35,7 @@ module _ (own n : ℕ) (code : Code) where
 
 -- where no step fails cause 5 and the held sets are at hand, every step can be judged
 pub judgeable :
-    (own : ℕ) (ws held : List ℕ) → length held ≡ 64 → length ws ≤ 64 → firstOf (formOf own (length ws) (codeOf ws)) 0 (length ws) ≡ Pass
+    (own : ℕ) (ws held : List ℕ) → 64 ≤ length held → length ws ≤ 64 → firstOf (formOf own (length ws) (codeOf ws)) 0 (length ws) ≡ Pass
     → ((j : ℕ) → j < length ws → getD held j 0 ≡ heldBefore (codeOf ws) j) → (i : ℕ) → i < length ws → Judgeable ws held i
 judgeable own ws held e l h s i g =
     let f = form-pass own (length ws) (codeOf ws) i (first-all (formOf own (length ws) (codeOf ws)) 0 (length ws) h i (omega arith) (omega arith)) in

@@ -5,8 +5,9 @@ mod judge;
 
 ghost use mathlib.Core.Path.{_≡_};
 ghost use Prim.Native.Nat.{ℕ, _<_, _≤_};
-ghost use lib.ListN.{length};
-ghost use Rattle.section.specs.Check.{codeOf, firstOf, useOf, check, passes, causeOf, stepOf};
+ghost use mathlib.Core.Bool.{true};
+ghost use lib.ListN.{length, getD};
+ghost use Rattle.section.specs.Check.{codeOf, heldBefore, firstOf, useOf, check, passes, causeOf, stepOf};
 ghost use Rattle.section.specs.Pass.{Judgeable, Passed};
 use decode::held_past;
 use decode::well_formed;
@@ -97,9 +98,12 @@ fn held_sets(words: &[u64], own: u16, held: &mut [u64]) -> Verdict
     Verdict::Pass
 }
 
-// The check of a section: it passes, or the first of causes 4 to 9.
-pub fn check(words: &[u64], own: u16) -> Verdict
-    ensures { λ r. ⌜ r ≡ check own (length (now (words .entry))) (codeOf (now (words .entry))) ⌝ }
+// The check of a section: it passes, or the first of causes 4 to 9. Where it passes, the held set before each step is left in
+// `held`.
+pub fn check_held(words: &[u64], own: u16, held: &mut [u64]) -> Verdict
+    requires { ⌜ 64 ≤ length (now held) ⌝ }
+    ensures verdict { λ r. ⌜ r ≡ check own (length (now (words .entry))) (codeOf (now (words .entry))) ⌝ }
+    ensures sets { λ r. ⌜ (passes r ≡ true → (j : ℕ) → j < length (now (words .entry)) → getD (now (held .exit)) j 0 ≡ heldBefore (codeOf (now (words .entry))) j) ⌝ }
 {
     let n = words.len();
     if n < 3 {
@@ -108,12 +112,19 @@ pub fn check(words: &[u64], own: u16) -> Verdict
     if 64 < n {
         return Verdict::Length;
     }
-    let mut held = [0u64; 64];
-    let v = held_sets(words, own, &mut held);
+    let v = held_sets(words, own, held);
     if !passes(v) {
         return v;
     }
-    uses(words, &held)
+    uses(words, held)
+}
+
+// The same, for a caller that does not ask for the held sets.
+pub fn check(words: &[u64], own: u16) -> Verdict
+    ensures { λ r. ⌜ r ≡ check own (length (now (words .entry))) (codeOf (now (words .entry))) ⌝ }
+{
+    let mut held = [0u64; 64];
+    check_held(words, own, &mut held)
 }
 
 // Document 01's number of an answer; 0 for a pass.

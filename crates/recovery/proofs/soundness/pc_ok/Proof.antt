@@ -33,7 +33,7 @@ refused-requires c κs = search needs
 
 returns-2 : tie.Need-returns-2
 returns-2 c =
-    let A = c .before .before .before .before .before .before .args in
+    let A = c .before .before .before .before .before .before .before .args in
     let pc = c .before .before .before .read-field2 in
     let tests = pc-tests (A .own) (at (A .own) (now (A .image))) (A .d) (pc .result) (pc .ensures) (c .before .before .if1 .left) in
     (rw (tests, lt-leb 1 (pc .result % 9223372036854775808) (c .before .if2 .taken)) (c .refused .ensures), λ h. absurd (false≢true (sym (c .refused .ensures) ∙ h)))
@@ -46,7 +46,7 @@ refused-requires-2 c κs = search needs
 
 returns-3 : tie.Need-returns-3
 returns-3 c =
-    let A = c .before .before .before .before .before .before .before .before .args in
+    let A = c .before .before .before .before .before .before .before .before .before .args in
     let pc = c .before .before .before .before .before .read-field2 in
     let k = c .before .before .read-field3 in
     let tests = pc-tests (A .own) (at (A .own) (now (A .image))) (A .d) (pc .result) (pc .ensures) (c .before .before .before .before .if1 .left) in
@@ -59,7 +59,7 @@ sub-s c = search needs
 
 read-step-requires : tie.Need-read-step-requires
 read-step-requires c κs =
-    let S = c .before .before .before .before .before .before .before in
+    let S = c .before .before .before .before .before .before .before .before in
     let A = S .args in
     let r = section-reads (A .own) (at (A .own) (now (A .image))) (A .d) (S .pre .1) (c .before .before .before .before .read-field2 .result % 9223372036854775808 - 1) (rw (c .before .read-field3 .ensures) at (c .if3 .left)) in
     (S .pre .0, omega (arith, c .before .read-field3 .ensures))
@@ -67,17 +67,25 @@ read-step-requires c κs =
 op-of-requires : tie.Need-op-of-requires
 op-of-requires c κs = search needs
 
-held-requires : tie.Need-held-requires
-held-requires c κs =
-    let S = c .before .before .before .before .before .before .before .before .before in
+mul-here : tie.Need-mul-here
+mul-here c =
+    let S = c .before .before .before .before .before .before .before .before .before .before in
     let A = S .args in
     let l = rw (c .before .before .before .read-field3 .ensures) at (c .before .before .if3 .left) in
     let r = section-reads (A .own) (at (A .own) (now (A .image))) (A .d) (S .pre .1) (c .before .before .before .before .before .before .read-field2 .result % 9223372036854775808 - 1) l in
-    (S .pre .0, omega arith, λ j h. r .1 j (omega arith))
+    omega (arith, l, r .0)
+
+shared-slice-read-here : tie.Need-shared-slice-read-here
+shared-slice-read-here c =
+    let S = c .before .before .before .before .before .before .before .before .before .before .before in
+    let A = S .args in
+    let l = rw (c .before .before .before .before .read-field3 .ensures) at (c .before .before .before .if3 .left) in
+    let r = section-reads (A .own) (at (A .own) (now (A .image))) (A .d) (S .pre .1) (c .before .before .before .before .before .before .before .read-field2 .result % 9223372036854775808 - 1) l in
+    omega (arith, l, r .0, S .pre .2)
 
 held-after-requires : tie.Need-held-after-requires
 held-after-requires c κs =
-    let S = c .before .before .before .before .before .before .before .before .before .before in
+    let S = c .before .before .before .before .before .before .before .before .before .before .before in
     let A = S .args in
     let s = c .before .before .before .before .before .before .before .read-field2 .result % 9223372036854775808 - 1 in
     let l = rw (c .before .before .before .before .read-field3 .ensures) at (c .before .before .before .if3 .left) in
@@ -86,7 +94,7 @@ held-after-requires c κs =
 
 entry-ok-requires : tie.Need-entry-ok-requires
 entry-ok-requires c κs =
-    let S = c .before .before .before .before .before .before .before .before .before .before .before in
+    let S = c .before .before .before .before .before .before .before .before .before .before .before .before in
     let A = S .args in
     let s = c .before .before .before .before .before .before .before .before .read-field2 .result % 9223372036854775808 - 1 in
     let l = rw (c .before .before .before .before .before .read-field3 .ensures) at (c .before .before .before .before .if3 .left) in
@@ -99,12 +107,14 @@ refused-requires-3 c κs = search needs
 returns-4 : tie.Need-returns-4
 returns-4 c =
     let e = c .before .before in
-    let A = e .before .before .before .before .before .before .before .before .before .before .before .before .args in
+    let S = e .before .before .before .before .before .before .before .before .before .before .before .before .before in
+    let A = S .args in
     let pc = e .before .before .before .before .before .before .before .before .before .read-field2 in
     let k = e .before .before .before .before .before .before .read-field3 in
     let zero = e .before .before .before .before .before .before .before .before .if1 .left in
+    let l = rw (k .ensures) at (e .before .before .before .before .before .if3 .left) in
     let t = pc-rest (A .own) (at (A .own) (now (A .image))) (A .d) (pc .result) (pc .ensures) zero (e .before .before .before .before .before .before .before .if2 .left) (k .result) (k .ensures) (e .before .before .before .before .before .if3 .left) in
-    let q = t _ _ _ _ (e .before .before .before .before .read-step .ensures) (e .before .before .before .op-of .ensures) (e .before .before .held .ensures) (e .before .held-after .ensures) in
+    let q = t _ _ _ _ (e .before .before .before .before .read-step .ensures) (e .before .before .before .op-of .ensures) (S .pre .3 (pc .result % 9223372036854775808 - 1) l) (e .before .held-after .ensures) in
     (rw (q .1, denied (e .entry-ok .ensures (q .0)) (c .before .if4 .taken)) (c .refused3 .ensures), λ h. absurd (false≢true (sym (c .refused3 .ensures) ∙ h)))
 
 owned-ok-requires : tie.Need-owned-ok-requires
@@ -116,12 +126,14 @@ owed-by-requires c κs = search needs
 returns-5 : tie.Need-returns-5
 returns-5 c =
     let e = c .before .before .before in
-    let A = e .before .before .before .before .before .before .before .before .before .before .before .before .args in
+    let S = e .before .before .before .before .before .before .before .before .before .before .before .before .before in
+    let A = S .args in
     let pc = e .before .before .before .before .before .before .before .before .before .read-field2 in
     let k = e .before .before .before .before .before .before .read-field3 in
     let zero = e .before .before .before .before .before .before .before .before .if1 .left in
+    let l = rw (k .ensures) at (e .before .before .before .before .before .if3 .left) in
     let t = pc-rest (A .own) (at (A .own) (now (A .image))) (A .d) (pc .result) (pc .ensures) zero (e .before .before .before .before .before .before .before .if2 .left) (k .result) (k .ensures) (e .before .before .before .before .before .if3 .left) in
-    let q = t _ _ _ _ (e .before .before .before .before .read-step .ensures) (e .before .before .before .op-of .ensures) (e .before .before .held .ensures) (e .before .held-after .ensures) in
+    let q = t _ _ _ _ (e .before .before .before .before .read-step .ensures) (e .before .before .before .op-of .ensures) (S .pre .3 (pc .result % 9223372036854775808 - 1) l) (e .before .held-after .ensures) in
     let owned = e .before .before .before .before .before .before .before .before .before .before .read-field in
     let o = owed-begun (A .own) (at (A .own) (now (A .image))) (A .d) (pc .result) (pc .ensures) zero _ _ _ (e .before .before .before .before .read-step .ensures) (e .before .before .before .op-of .ensures) (q .0) in (
       rw (q .1, granted (e .entry-ok .ensures (q .0)) (c .before .before .if4 .left), ← owned .ensures) (c .before .owned-ok .ensures),
@@ -143,7 +155,8 @@ pc-ok-spec =
     sub-s
     read-step-requires
     op-of-requires
-    held-requires
+    mul-here
+    shared-slice-read-here
     held-after-requires
     entry-ok-requires
     refused-requires-3

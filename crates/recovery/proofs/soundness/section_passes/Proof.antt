@@ -2,10 +2,11 @@
 use Prim.Native.Nat.{ℕ, _≤_, _<_, _+_, _-_}
 use borrow.Author.Needs.{needs}
 use borrow.Author.Tests.{lt-ltb}
-use mathlib.Core.Path.{_≡_, ap, _∙_}
+use mathlib.Core.Path.{_≡_, ap, _∙_, sym}
 use native.Mathlib.Omega.{arith}
 use denote.Ref.{now}
 use lib.Seq.{length-take-le, getD-take, getD-drop}
+use mathlib.Core.List.{List}
 use lib.ListN.{length, getD, take, drop, length-drop}
 use Rattle.base.proofs.Bools.{and-both}
 use Rattle.image.specs.Place.{step}
@@ -13,8 +14,10 @@ use Rattle.image.specs.Image.{Image, indexOf, at, workers, Inside}
 use Rattle.image.proofs.Apart.{record-small}
 use Rattle.image.proofs.Stores.{inside-steps, load-at}
 use Rattle.section.proofs.Facts.{check-cong}
-use Rattle.section.specs.Check.{codeOf, check, passes}
+use Rattle.section.specs.Check.{codeOf, heldBefore, check, passes}
+use Rattle.section.proofs.Held.{held-cong}
 use Rattle.engine.specs.Turn.{codeIn}
+use Rattle.recovery.specs.Repair.{Helds}
 use Rattle.recovery.proofs.soundness.section_passes.Statement.{statement}
 use Rattle.recovery.proofs.soundness.section_passes.Tie as tie
 
@@ -27,60 +30,85 @@ unfolding indexOf
 step-next n d j = omega arith
 
 -- the instruction words of a record are a part of the image
+part-reads : (n k : ℕ) (m : Image) (d from : ℕ) → Inside n m d → k ≤ 64 → from ≡ indexOf n (step d 0)
+    → (j : ℕ) → j < k → codeOf (take k (drop from m)) j ≡ codeIn n (at n m) d j
+part-reads n k m d from w small e j l =
+    getD-take k (drop from m) j 0 l ∙ (getD-drop from m j 0 ∙ (ap (λ (i : ℕ). getD m i 0) (rw (step-next n d j) (omega (arith, e))) ∙ load-at n m (step d j) (and-both _ _ (lt-ltb d (workers m) (w .below)) (lt-ltb j 64 (omega (arith, l, small))))))
+
+-- so it has their number
+part-length : (n k : ℕ) (m : Image) (d from : ℕ) → Inside n m d → k ≤ 64 → from ≡ indexOf n (step d 0) → length (take k (drop from m)) ≡ k
+part-length n k m d from w small e =
+    let fits : k ≤ length (drop from m) = rw (length-drop from m) (omega (arith, e, small, inside-steps n m d w)) in
+    length-take-le k (drop from m) fits
+
+-- passes the check as they do, and has their held sets
 part-checks : (n k : ℕ) (m : Image) (d from : ℕ) → Inside n m d → k ≤ 64 → from ≡ indexOf n (step d 0)
     → check n (length (take (from + k - from) (drop from m))) (codeOf (take (from + k - from) (drop from m))) ≡ check n k (codeIn n (at n m) d)
 part-checks n k m d from w small e =
     let size : from + k - from ≡ k = omega arith in
-    let fits : k ≤ length (drop from m) = rw (length-drop from m) (omega (arith, e, small, inside-steps n m d w)) in
-    let read : (j : ℕ) → j < k → codeOf (take k (drop from m)) j ≡ codeIn n (at n m) d j =
-    λ j l. getD-take k (drop from m) j 0 l ∙ (getD-drop from m j 0 ∙ (ap (λ (i : ℕ). getD m i 0) (rw (step-next n d j) (omega (arith, e))) ∙ load-at n m (step d j) (and-both _ _ (lt-ltb d (workers m) (w .below)) (lt-ltb j 64 (omega (arith, l, small)))))) in
-    rw (size, length-take-le k (drop from m) fits) (check-cong n k (codeOf (take k (drop from m))) (codeIn n (at n m) d) read)
+    rw (size, part-length n k m d from w small e) (check-cong n k (codeOf (take k (drop from m))) (codeIn n (at n m) d) (part-reads n k m d from w small e))
+
+part-helds : (n k : ℕ) (m : Image) (d from : ℕ) (held : List ℕ) → Inside n m d → k ≤ 64 → from ≡ indexOf n (step d 0)
+    → ((j : ℕ) → j < length (take (from + k - from) (drop from m)) → getD held j 0 ≡ heldBefore (codeOf (take (from + k - from) (drop from m))) j)
+    → Helds n (at n m) d k held
+part-helds n k m d from held w small e sets j l =
+    let size : from + k - from ≡ k = omega arith in
+    let s : getD held j 0 ≡ heldBefore (codeOf (take k (drop from m))) j = (rw size at (sets j)) (rw (part-length n k m d from w small e) l) in
+    s ∙ held-cong _ _ j (λ i h. part-reads n k m d from w small e i (omega (arith, h, l)))
 
 step-index-requires : tie.Need-step-index-requires
 step-index-requires c κs = search needs
 
-add-check : tie.Need-add-check
-add-check c = let S = c .before .before in let A = S .args in omega (arith, c .step-index .ensures, step-small (A .own) (A .d) (S .pre .0), S .pre .1)
+add-check-held : tie.Need-add-check-held
+add-check-held c = let S = c .before .before .before in let A = S .args in omega (arith, c .step-index .ensures, step-small (A .own) (A .d) (S .pre .0), S .pre .1)
 
-mul-check : tie.Need-mul-check
-mul-check c = let S = c .before .before in let A = S .args in omega (arith, c .step-index .ensures, step-small (A .own) (A .d) (S .pre .0))
+mul-check-held : tie.Need-mul-check-held
+mul-check-held c = let S = c .before .before .before in let A = S .args in omega (arith, c .step-index .ensures, step-small (A .own) (A .d) (S .pre .0))
 
-sub-check : tie.Need-sub-check
-sub-check c = search needs
+sub-check-held : tie.Need-sub-check-held
+sub-check-held c = search needs
 
-part-check-start : tie.Need-part-check-start
-part-check-start c = search needs
+part-check-held-start : tie.Need-part-check-held-start
+part-check-held-start c = search needs
 
-part-check-end : tie.Need-part-check-end
-part-check-end c = let S = c .before .before in let A = S .args in omega (arith, c .step-index .ensures, inside-steps (A .own) (now (A .image)) (A .d) (S .pre .0), S .pre .1)
+part-check-held-end : tie.Need-part-check-held-end
+part-check-held-end c = let S = c .before .before .before in let A = S .args in omega (arith, c .step-index .ensures, inside-steps (A .own) (now (A .image)) (A .d) (S .pre .0), S .pre .1)
 
-cast-check : tie.Need-cast-check
-cast-check c = search needs
+cast-check-held : tie.Need-cast-check-held
+cast-check-held c = search needs
 
-check-requires : tie.Need-check-requires
-check-requires c κs = search needs
+check-held-requires : tie.Need-check-held-requires
+check-held-requires c κs = search needs
 
 passes-requires : tie.Need-passes-requires
 passes-requires c κs = search needs
 
+same-length : tie.Need-same-length
+same-length c = search needs
+
 returns : tie.Need-returns
 returns c =
-    let S = c .before .before .before .before .before in
+    let S = c .before .before .before .before .before .before .before .before .before in
     let A = S .args in
-    let e = part-checks (A .own) (A .k) (now (A .image)) (A .d) (c .before .before .before .step-index .result) (S .pre .0) (S .pre .1) (c .before .before .before .step-index .ensures) in
-    c .passes .ensures ∙ ap passes (c .before .check .ensures ∙ e)
+    let at = c .before .before .before .before .before .before .step-index in
+    let k = c .before .before .before .check-held in
+    let e = part-checks (A .own) (A .k) (now (A .image)) (A .d) (at .result) (S .pre .0) (S .pre .1) (at .ensures) in (
+      c .passes .ensures ∙ ap passes (k .ensures .0 ∙ e),
+      λ t. part-helds (A .own) (A .k) (now (A .image)) (A .d) (at .result) (k .last .1 .1 .0) (S .pre .0) (S .pre .1) (at .ensures) (k .ensures .1 (sym (c .passes .ensures) ∙ t)),
+    )
 
 pub section-passes-spec : {M : Type 1} → statement M
 section-passes-spec =
     tie.close
     (tie.spec
     step-index-requires
-    add-check
-    mul-check
-    sub-check
-    part-check-start
-    part-check-end
-    cast-check
-    check-requires
+    add-check-held
+    mul-check-held
+    sub-check-held
+    part-check-held-start
+    part-check-held-end
+    cast-check-held
+    check-held-requires
     passes-requires
+    same-length
     returns)
