@@ -7,8 +7,7 @@ use native.Mathlib.Omega.{arith}
 use borrow.Author.Tests.{ltb-false, lt-ltb, le-ltb}
 use Rattle.base.proofs.Bools.{and-both}
 use Rattle.image.specs.Place.{cell, own, valid}
-use Rattle.image.specs.Image.{recordAt, lengthOf, indexOf}
-use Rattle.image.proofs.Apart.{record-small, index-lt}
+use Rattle.image.specs.Image.{recordAt, indexOf}
 use Rattle.engine.specs.Turn.{operand}
 
 module _ (n d x : ℕ) where
@@ -31,8 +30,3 @@ module _ (n d x : ℕ) where
       by : (b : Bool) → ltb x 512 ≡ b → valid D n (cond b (cell x) (own d (x - 512))) ≡ true
       by true e = e
       by false e = and-both _ _ (lt-ltb d D h) (lt-ltb (x - 512) n (omega (arith, f, ltb-false x 512 e)))
-
-  -- no index overflows
-  pub operand-small : d < 8 → n ≤ 64 → x < 512 + n → indexOf n (operand d x) < 1688
-  unfolding lengthOf
-  operand-small h f l = let b = index-lt n 8 (operand d x) (operand-valid 8 h l) in let s = record-small n 8 (omega arith) f in omega (arith, b, s)

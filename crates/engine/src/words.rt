@@ -1,10 +1,10 @@
 // The words that a section names: cells and the worker's own words by their numbers, and what an expression gives.
 use section::Expr;
 ghost use mathlib.Core.Path.{_≡_};
-ghost use Prim.Native.Nat.{ℕ, _+_, _<_, _≤_};
+ghost use Prim.Native.Nat.{_+_, _<_, _≤_};
 ghost use Rattle.image.specs.Image.{at, indexOf, Inside};
 ghost use Rattle.section.specs.Fits.{ranged};
-ghost use Rattle.section.specs.Op.{Reads, eval};
+ghost use Rattle.section.specs.Op.{ofTwo, eval};
 ghost use Rattle.engine.specs.Turn.{operand, wordIn};
 
 // The index of word number x as worker d names it: the numbers from 0 are the cells', those from 512 the own words'.
@@ -30,7 +30,7 @@ pub fn word(image: &[u64], d: usize, x: u64, own: usize) -> u64
 
 // What an expression of two words gives of what they hold.
 fn combined(e: Expr, x: u64, y: u64) -> u64
-    ensures { λ r. ⌜ ((f : ℕ → ℕ) → Reads f e x y → r ≡ eval f e) ⌝ }
+    ensures { λ r. ⌜ r ≡ ofTwo e x y ⌝ }
 {
     match e {
         Expr::Literal(_, _) => 0,

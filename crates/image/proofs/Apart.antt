@@ -43,6 +43,11 @@ module _ (n : ℕ) where
   index-lt D (own d i) v = let e = and-eq-true-iff _ _ .0 v in omega (arith, record-lt d D (e .0), ltb-true i n (e .1))
   index-lt D (step d i) v = let e = and-eq-true-iff _ _ .0 v in omega (arith, record-lt d D (e .0), ltb-true i 64 (e .1))
 
+  -- the index of a place of any image is small
+  pub index-small : (p : Place) → n ≤ 64 → valid 8 n p ≡ true → indexOf n p < 1688
+  unfolding lengthOf
+  index-small p few v = omega (arith, index-lt 8 p v, record-small 8 (omega arith) few)
+
   -- ---- reading an index back: the word at an offset of a record, and the place at an index
   inRecord : ℕ → ℕ → Place
   inRecord d o = cond (ltb o 10) (field (fieldAt o) d) (cond (ltb o (10 + n)) (own d (o - 10)) (step d (o - (10 + n))))

@@ -1,6 +1,5 @@
 -- The instructions, how a word says one, and what an expression gives.
 use Prim.Native.Nat.{ℕ, suc, zero, _+_, _*_, _-_, _%_, _^_}
-use mathlib.Core.Path.{_≡_}
 use mathlib.Core.Bool.{cond}
 use lib.Dec.{ltb}
 use Rattle.section.specs.declared.Expr.{Expr}
@@ -26,16 +25,16 @@ byKind (suc (suc (suc (suc (suc (suc (suc (suc (suc k))))))))) a b c = Unknown
 unfoldable pub opOf : ℕ → Op
 opOf w = byKind (kindOf w) (fieldA w) (fieldB w) (fieldC w)
 
--- x and y are what f reads at the two operands of an expression; a literal has none
-abbrev pub Reads : (ℕ → ℕ) → Expr → ℕ → ℕ → Type 0
-Reads f (Literal b c) x y = ⊥
-Reads f (Sum b c) x y = (x ≡ f b) × (y ≡ f c)
-Reads f (Difference b c) x y = (x ≡ f b) × (y ≡ f c)
-Reads f (Less b c) x y = (x ≡ f b) × (y ≡ f c)
+-- what an expression of two words gives of what they hold; a literal has none
+abbrev pub ofTwo : Expr → ℕ → ℕ → ℕ
+ofTwo (Literal b c) x y = 0
+ofTwo (Sum b c) x y = (x + y) % 2 ^ 64
+ofTwo (Difference b c) x y = (x + (2 ^ 64 - y)) % 2 ^ 64
+ofTwo (Less b c) x y = cond (ltb x y) 1 0
 
 -- what an expression gives, its operands read by f
 unfoldable pub eval : (ℕ → ℕ) → Expr → ℕ
 eval f (Literal b c) = 65536 * b + c
-eval f (Sum b c) = (f b + f c) % 2 ^ 64
-eval f (Difference b c) = (f b + (2 ^ 64 - f c)) % 2 ^ 64
-eval f (Less b c) = cond (ltb (f b) (f c)) 1 0
+eval f (Sum b c) = ofTwo (Sum b c) (f b) (f c)
+eval f (Difference b c) = ofTwo (Difference b c) (f b) (f c)
+eval f (Less b c) = ofTwo (Less b c) (f b) (f c)

@@ -1,6 +1,8 @@
 -- `engine::submitting::store_section` meets its contract: its stores are the definition's, one call after the other, and the places
 -- of each of its rows stand one after the other.
 use borrow.Author.Needs.{needs}
+use borrow.Author.Tests.{lt-ltb}
+use Rattle.base.proofs.Bools.{and-both}
 use Prim.Native.Nat.{ℕ, _+_, _-_, _<_, _≤_}
 use mathlib.Core.Path.{_≡_}
 use native.Mathlib.Omega.{arith}
@@ -8,7 +10,7 @@ use denote.Ref.{now}
 use lib.ListN.{length, replicate, length-replicate}
 use Rattle.image.specs.Place.{own, step}
 use Rattle.image.specs.Image.{Image, indexOf, putAll}
-use Rattle.image.proofs.Apart.{record-small}
+use Rattle.image.proofs.Apart.{index-small}
 use Rattle.image.proofs.Stores.{inside-own, inside-steps}
 use Rattle.engine.specs.Format.{putFrom}
 use Rattle.engine.specs.Submit.{assigns}
@@ -28,10 +30,6 @@ step-next n d j = omega arith
 own-eighth : (n d : ℕ) → indexOf n (own d 8) ≡ indexOf n (own d 0) + 8
 unfolding indexOf
 own-eighth n d = omega arith
-
-own-small : (n d : ℕ) → d < 8 → n ≤ 64 → indexOf n (own d 0) ≤ 1698
-unfolding indexOf
-own-small n d h g = omega (arith, record-small n d (omega arith) g)
 
 field-index-requires : tie.Need-field-index-requires
 field-index-requires c κs = search needs
@@ -53,7 +51,7 @@ add-clear : tie.Need-add-clear
 add-clear c =
     let S = c .before .before .before .before .before .before .before .before .before .before .before .before .before .before .before .before in
     let A = S .args in
-    omega (arith, c .before .before .before .before .before .before .before .own-index .ensures, own-small (A .n) (A .d) (omega (arith, S .pre .0 .below, S .pre .0 .most)) (S .pre .0 .few))
+    omega (arith, c .before .before .before .before .before .before .before .own-index .ensures, index-small (A .n) (own (A .d) 0) (S .pre .0 .few) (and-both _ _ (lt-ltb (A .d) 8 (omega (arith, S .pre .0 .below, S .pre .0 .most))) (lt-ltb 0 (A .n) (omega (arith, S .pre .1)))))
 
 sub-clear : tie.Need-sub-clear
 sub-clear c = search needs

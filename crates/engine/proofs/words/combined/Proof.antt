@@ -2,7 +2,6 @@
 use native.Mathlib.Omega.{arith}
 use borrow.Author.Tests.{lt-ltb, le-ltb}
 use borrow.Author.Needs.{needs}
-use Rattle.section.specs.Op.{eval}
 use Rattle.engine.proofs.words.combined.Statement.{statement}
 use Rattle.engine.proofs.words.combined.Tie as tie
 
@@ -25,32 +24,19 @@ enum-told-4 : tie.Need-enum-told-4
 enum-told-4 c = search needs
 
 returns : tie.Need-returns
-unfolding eval
-returns c =
-    λ f h.
-    let e = c .before .enum-told4 .given .1 in
-    let g = rw e at h in
-    rw (e, ← g .0, ← g .1) (simp (lt-ltb _ _ (c .if1 .taken)))
+returns c = rw (c .before .enum-told4 .given .1) (simp (lt-ltb _ _ (c .if1 .taken)))
 
 returns-2 : tie.Need-returns-2
-unfolding eval
-returns-2 c = λ f h. absurd (rw (c .enum-told .given .1) at h)
+returns-2 c = rw (c .enum-told .given .1)
 
 returns-3 : tie.Need-returns-3
-unfolding eval
-returns-3 c = λ f h. let e = c .before .enum-told2 .given .1 in let g = rw e at h in rw (e, ← g .0, ← g .1) (c .wrapping-add-u64 .ensures)
+returns-3 c = rw (c .before .enum-told2 .given .1) (c .wrapping-add-u64 .ensures)
 
 returns-4 : tie.Need-returns-4
-unfolding eval
-returns-4 c = λ f h. let e = c .before .enum-told3 .given .1 in let g = rw e at h in rw (e, ← g .0, ← g .1) (omega (arith, c .wrapping-sub-u64 .ok))
+returns-4 c = rw (c .before .enum-told3 .given .1) (omega (arith, c .wrapping-sub-u64 .ok))
 
 returns-5 : tie.Need-returns-5
-unfolding eval
-returns-5 c =
-    λ f h.
-    let e = c .before .enum-told4 .given .1 in
-    let g = rw e at h in
-    rw (e, ← g .0, ← g .1) (simp (le-ltb _ _ (c .if1 .left)))
+returns-5 c = rw (c .before .enum-told4 .given .1) (simp (le-ltb _ _ (c .if1 .left)))
 
 pub combined-spec : {M : Type 1} → statement M
 combined-spec =

@@ -1,11 +1,11 @@
 -- `engine::words::eval` meets its contract: a literal says its value, and the three others' words are read alike.
 use native.Mathlib.Omega.{arith}
-use mathlib.Core.Path.{_≡_, ap, _∙_, sym}
+use mathlib.Core.Path.{_≡_}
 use mathlib.Core.Logic.{⊎-elim}
 use denote.Ref.{now}
 use borrow.Author.Needs.{needs}
 use Rattle.image.specs.Image.{at}
-use Rattle.section.specs.Op.{Reads, eval}
+use Rattle.section.specs.Op.{eval}
 use Rattle.engine.specs.Turn.{wordIn}
 use Rattle.engine.proofs.words.eval.Statement.{statement}
 use Rattle.engine.proofs.words.eval.Tie as tie
@@ -46,16 +46,15 @@ unfolding eval
 returns c = rw (c .before .e .given .1)
 
 returns-2 : tie.Need-returns-2
+unfolding eval
 returns-2 c =
     let A = c .before .before .before .before .before .args in
     let f = wordIn (A .own) (at (A .own) (now (A .image))) (A .d) in
     let m = c .before .before .before .match in
     let x = c .before .before .word .ensures in
     let y = c .before .word2 .ensures in
-    let same : m .e ≡ A .e = ⊎-elim (λ w. w .3 ∙ sym (w .1 .given .1)) (λ w. ⊎-elim (λ v. v .3 ∙ sym (v .1 .given .1)) (λ v. v .3 ∙ sym (v .1 .given .1)) w) (m .came) in
-    let read : Reads f (A .e) (c .before .before .word .result) (c .before .word2 .result) =
-    ⊎-elim (λ w. rw (w .1 .given .1) (x ∙ ap f (w .4), y ∙ ap f (w .5))) (λ w. ⊎-elim (λ v. rw (v .1 .given .1) (x ∙ ap f (v .4), y ∙ ap f (v .5))) (λ v. rw (v .1 .given .1) (x ∙ ap f (v .4), y ∙ ap f (v .5))) w) (m .came) in
-    c .combined .ensures f (rw same read) ∙ ap (eval f) same
+    let given = c .combined .ensures in
+    ⊎-elim (λ w. rw (w .1 .given .1, ← w .4, ← w .5, ← x, ← y) (rw (w .3) at given)) (λ w. ⊎-elim (λ v. rw (v .1 .given .1, ← v .4, ← v .5, ← x, ← y) (rw (v .3) at given)) (λ v. rw (v .1 .given .1, ← v .4, ← v .5, ← x, ← y) (rw (v .3) at given)) w) (m .came)
 
 pub eval-spec : {M : Type 1} → statement M
 eval-spec =

@@ -5,8 +5,9 @@ use mathlib.Core.Path.{_≡_}
 use mathlib.Core.Logic.{⊎-elim}
 use native.Mathlib.Omega.{arith}
 use Rattle.image.specs.Image.{indexOf}
+use Rattle.image.proofs.Apart.{index-small}
 use Rattle.engine.specs.Turn.{operand}
-use Rattle.engine.proofs.Operands.{operand-cell, operand-own, own-past, operand-small}
+use Rattle.engine.proofs.Operands.{operand-cell, operand-own, own-past, operand-valid}
 use Rattle.engine.proofs.words.operand_index.Statement.{statement}
 use Rattle.engine.proofs.words.operand_index.Tie as tie
 
@@ -23,7 +24,7 @@ add-result : tie.Need-add-result
 add-result c =
     let S = c .before .before in
     let A = S .args in
-    let small = operand-small (A .own) (A .d) (A .x) (S .pre .0) (S .pre .2) (S .pre .1) in
+    let small = index-small (A .own) (operand (A .d) (A .x)) (S .pre .2) (operand-valid (A .own) (A .d) (A .x) 8 (S .pre .0) (S .pre .1)) in
     let at : c .before .if1 .from + A .x ≡ indexOf (A .own) (operand (A .d) (A .x)) = ⊎-elim
     (λ w. rw (w .2, w .1 .ensures (A .own)) (operand-cell (A .own) (A .d) (A .x) (w .0 .taken)))
     (λ w. rw (w .2, w .1 .ensures) (operand-own (A .own) (A .d) (A .x) (w .0 .left)))

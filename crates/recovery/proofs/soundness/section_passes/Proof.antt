@@ -1,18 +1,14 @@
 -- `recovery::soundness::section_passes` meets its contract: the part of the image that is checked holds the record's instructions.
 use Prim.Native.Nat.{ℕ, _≤_, _<_, _+_, _-_}
 use borrow.Author.Needs.{needs}
-use borrow.Author.Tests.{lt-ltb}
 use mathlib.Core.Path.{_≡_, ap, _∙_, sym}
 use native.Mathlib.Omega.{arith}
 use denote.Ref.{now}
-use lib.Seq.{length-take-le, getD-take, getD-drop}
 use mathlib.Core.List.{List}
-use lib.ListN.{length, getD, take, drop, length-drop}
-use Rattle.base.proofs.Bools.{and-both}
+use lib.ListN.{length, getD, take, drop}
 use Rattle.image.specs.Place.{step}
-use Rattle.image.specs.Image.{Image, indexOf, at, workers, Inside}
-use Rattle.image.proofs.Apart.{record-small}
-use Rattle.image.proofs.Stores.{inside-steps, load-at}
+use Rattle.image.specs.Image.{Image, indexOf, at, Inside}
+use Rattle.image.proofs.Stores.{inside-small, inside-steps, part-length, part-reads}
 use Rattle.section.proofs.Facts.{check-cong}
 use Rattle.section.specs.Check.{codeOf, heldBefore, check, passes}
 use Rattle.section.proofs.Held.{held-cong}
@@ -21,49 +17,29 @@ use Rattle.recovery.specs.Repair.{Helds}
 use Rattle.recovery.proofs.soundness.section_passes.Statement.{statement}
 use Rattle.recovery.proofs.soundness.section_passes.Tie as tie
 
-step-small : (n d : ℕ) {m : Image} → Inside n m d → indexOf n (step d 0) ≤ 1762
-unfolding indexOf
-step-small n d w = omega (arith, record-small n d (omega (arith, w .below, w .most)) (w .few), w .few)
-
-step-next : (n d j : ℕ) → indexOf n (step d j) ≡ indexOf n (step d 0) + j
-unfolding indexOf
-step-next n d j = omega arith
-
--- the instruction words of a record are a part of the image
-part-reads : (n k : ℕ) (m : Image) (d from : ℕ) → Inside n m d → k ≤ 64 → from ≡ indexOf n (step d 0)
-    → (j : ℕ) → j < k → codeOf (take k (drop from m)) j ≡ codeIn n (at n m) d j
-part-reads n k m d from w small e j l =
-    getD-take k (drop from m) j 0 l ∙ (getD-drop from m j 0 ∙ (ap (λ (i : ℕ). getD m i 0) (rw (step-next n d j) (omega (arith, e))) ∙ load-at n m (step d j) (and-both _ _ (lt-ltb d (workers m) (w .below)) (lt-ltb j 64 (omega (arith, l, small))))))
-
--- so it has their number
-part-length : (n k : ℕ) (m : Image) (d from : ℕ) → Inside n m d → k ≤ 64 → from ≡ indexOf n (step d 0) → length (take k (drop from m)) ≡ k
-part-length n k m d from w small e =
-    let fits : k ≤ length (drop from m) = rw (length-drop from m) (omega (arith, e, small, inside-steps n m d w)) in
-    length-take-le k (drop from m) fits
-
--- passes the check as they do, and has their held sets
+-- the part of the image that has the record's instructions passes the check as they do, and has their held sets
 part-checks : (n k : ℕ) (m : Image) (d from : ℕ) → Inside n m d → k ≤ 64 → from ≡ indexOf n (step d 0)
     → check n (length (take (from + k - from) (drop from m))) (codeOf (take (from + k - from) (drop from m))) ≡ check n k (codeIn n (at n m) d)
 part-checks n k m d from w small e =
     let size : from + k - from ≡ k = omega arith in
-    rw (size, part-length n k m d from w small e) (check-cong n k (codeOf (take k (drop from m))) (codeIn n (at n m) d) (part-reads n k m d from w small e))
+    rw (size, part-length n m d k from w small e) (check-cong n k (codeOf (take k (drop from m))) (codeIn n (at n m) d) (part-reads n m d k from w small e))
 
 part-helds : (n k : ℕ) (m : Image) (d from : ℕ) (held : List ℕ) → Inside n m d → k ≤ 64 → from ≡ indexOf n (step d 0)
     → ((j : ℕ) → j < length (take (from + k - from) (drop from m)) → getD held j 0 ≡ heldBefore (codeOf (take (from + k - from) (drop from m))) j)
     → Helds n (at n m) d k held
 part-helds n k m d from held w small e sets j l =
     let size : from + k - from ≡ k = omega arith in
-    let s : getD held j 0 ≡ heldBefore (codeOf (take k (drop from m))) j = (rw size at (sets j)) (rw (part-length n k m d from w small e) l) in
-    s ∙ held-cong _ _ j (λ i h. part-reads n k m d from w small e i (omega (arith, h, l)))
+    let s : getD held j 0 ≡ heldBefore (codeOf (take k (drop from m))) j = (rw size at (sets j)) (rw (part-length n m d k from w small e) l) in
+    s ∙ held-cong _ _ j (λ i h. part-reads n m d k from w small e i (omega (arith, h, l)))
 
 step-index-requires : tie.Need-step-index-requires
 step-index-requires c κs = search needs
 
 add-check-held : tie.Need-add-check-held
-add-check-held c = let S = c .before .before .before in let A = S .args in omega (arith, c .step-index .ensures, step-small (A .own) (A .d) (S .pre .0), S .pre .1)
+add-check-held c = let S = c .before .before .before in let A = S .args in omega (arith, c .step-index .ensures, inside-small (A .own) (now (A .image)) (A .d) (S .pre .0), S .pre .1)
 
 mul-check-held : tie.Need-mul-check-held
-mul-check-held c = let S = c .before .before .before in let A = S .args in omega (arith, c .step-index .ensures, step-small (A .own) (A .d) (S .pre .0))
+mul-check-held c = let S = c .before .before .before in let A = S .args in omega (arith, c .step-index .ensures, inside-small (A .own) (now (A .image)) (A .d) (S .pre .0))
 
 sub-check-held : tie.Need-sub-check-held
 sub-check-held c = search needs
