@@ -16,7 +16,7 @@ use Rattle.engine.specs.Turn.{resting, turnAt}
 use Rattle.engine.specs.World.{World, outcomeAt}
 use Rattle.engine.specs.Run.{anyOpen, openTo, Counting, turned, through, sweep}
 use Rattle.engine.proofs.Planned.{idle-is}
-use Rattle.engine.proofs.Standing.{idle-by}
+use Rattle.engine.proofs.Placed.{idle-by}
 
 -- all of the workers from d to e are idle
 abbrev pub Idle : Cursors → ℕ → ℕ → Type 0

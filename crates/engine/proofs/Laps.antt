@@ -22,7 +22,7 @@ use Rattle.engine.specs.Turn.{refused, ready, turnAt}
 use Rattle.engine.specs.World.{World, answerOf, leaves, outcomeAt, planOf, planDid, didAnswer}
 use Rattle.engine.specs.Run.{countedAs, openTo, Counting, counting, ran, through, halted, sweep, roundsOf}
 use Rattle.engine.proofs.Planned.{on-is, ready-says}
-use Rattle.engine.proofs.Standing.{Full, open-turn, idle-says}
+use Rattle.engine.proofs.Placed.{Full, open-turn, idle-says}
 use Rattle.engine.proofs.Staying.{tested, Known, known-turn, sized-leaves}
 use Rattle.engine.proofs.Turns.{Made, made-ready, made-goes, did-answers, leaves-other}
 use Rattle.engine.proofs.Idling.{Idle, sweep-idle, sweep-rest, to-zero, to-most, to-idle, to-none, to-some, to-cut, to-same, to-below, to-with}

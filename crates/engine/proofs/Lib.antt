@@ -1,4 +1,4 @@
-pub mod Standing
+pub mod Placed
 pub mod Planned
 pub mod Operands
 pub mod Rows

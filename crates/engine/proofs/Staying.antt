@@ -28,7 +28,7 @@ use Rattle.engine.specs.Cursor.{Cursor, idle, on, stepNo, turnNo, cursor
 use Rattle.engine.specs.Turn.{Outcome, stored, jumped, unheld, waiting, resting, refused, operand, codeIn, second, spareAddr, spareVal, logged, acquireTurn, finishTurn, opTurn, ready, turnAt}
 use Rattle.engine.specs.World.{World, world, leaves, outcomeAt}
 use Rattle.engine.proofs.Planned.{on-is, ready-says, ready-turn}
-use Rattle.engine.proofs.Standing.{Full, open-turn}
+use Rattle.engine.proofs.Placed.{Full, open-turn}
 
 -- ---- where a turn of an instruction with k turns goes, from step s
 

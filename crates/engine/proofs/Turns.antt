@@ -19,7 +19,7 @@ use Rattle.engine.specs.Turn.{Outcome, stored, jumped, unheld, waiting, 
 use Rattle.engine.specs.Refusal.{isRefused}
 use Rattle.engine.specs.World.{World, answerOf, leaves, outcomeAt, outcome, planOf, planDid, didAnswer, planLeaves}
 use Rattle.engine.proofs.Planned.{ready-says}
-use Rattle.engine.proofs.Standing.{placed-other}
+use Rattle.engine.proofs.Placed.{placed-other}
 
 -- a turn that is made, that is, of an open worker and not refused
 abbrev pub Made : Outcome → Type 0

@@ -6,3 +6,4 @@ pub mod World
 pub mod Format
 pub mod Submit
 pub mod Run
+pub mod Asking

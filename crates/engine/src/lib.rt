@@ -3,6 +3,7 @@
 use section::Verdict;
 use tally::Tally;
 
+pub mod asking;
 mod formatting;
 mod log;
 mod once;
@@ -131,6 +132,18 @@ pub struct Ran {
     pub end: End,
     pub cursors: Cursors,
     pub tally: Tally,
+}
+
+// How a worker stands to the section of a number.
+pub enum Standing {
+    // Nothing of it stands that a recovery keeps: the same section may be submitted under this number.
+    NotBegun,
+    // The worker has begun it, and it will reach its end.
+    Begun,
+    // The worker's last finished number is this one or above it.
+    Finished,
+    // The image or the worker is none.
+    Refused(Refusal),
 }
 
 // Document 01's number of a refusal.

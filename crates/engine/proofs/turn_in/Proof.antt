@@ -10,7 +10,7 @@ use Rattle.image.proofs.Header.{header-workers, header-inside}
 use Rattle.engine.specs.Edition.{mark, ownWords}
 use Rattle.engine.specs.Cursor.{standing}
 use Rattle.engine.specs.World.{world, outcomeAt, didAnswer}
-use Rattle.engine.proofs.Standing.{Full, idle-turn}
+use Rattle.engine.proofs.Placed.{Full, idle-turn}
 use Rattle.engine.proofs.Turns.{no-header, no-worker, a-turn, did-answers}
 use Rattle.engine.proofs.Idling.{rests}
 use Rattle.engine.proofs.Laps.{made-at, refused-at}

@@ -9,7 +9,7 @@ use Rattle.image.specs.Image.{at}
 use Rattle.engine.specs.Cursor.{standing}
 use Rattle.engine.specs.World.{world, outcomeAt, planOf}
 use Rattle.engine.proofs.Planned.{on-is, ready-says}
-use Rattle.engine.proofs.Standing.{open-turn}
+use Rattle.engine.proofs.Placed.{open-turn}
 use Rattle.engine.proofs.Turns.{plan-leaves}
 use Rattle.engine.proofs.once.turn_on.Statement.{statement}
 use Rattle.engine.proofs.once.turn_on.Tie as tie

@@ -12,7 +12,7 @@ use lib.ListN.{length}
 use mathlib.Core.Path.{refl}
 use Rattle.engine.specs.Cursor.{standing, isIdle, cursorAt}
 use Rattle.engine.specs.Run.{openTo}
-use Rattle.engine.proofs.Standing.{idle-turn, open-turn}
+use Rattle.engine.proofs.Placed.{idle-turn, open-turn}
 use Rattle.engine.proofs.Idling.{to-zero, to-here, to-below}
 use Rattle.engine.proofs.running.open_to.Statement.{statement}
 use Rattle.engine.proofs.running.open_to.Tie as tie

@@ -7,7 +7,7 @@ use native.Mathlib.Omega.{arith}
 use denote.Ref.{now}
 use lib.ListN.{length}
 use Prim.Native.Nat.{_<_}
-use Rattle.engine.proofs.Standing.{Full}
+use Rattle.engine.proofs.Placed.{Full}
 use Rattle.base.proofs.Counting.{left-all}
 use Rattle.base.proofs.Bools.{denied, granted}
 use Rattle.tally.specs.Tally.{none}
@@ -15,7 +15,7 @@ use Rattle.engine.specs.Cursor.{standing}
 use Rattle.engine.specs.World.{world}
 use Rattle.engine.specs.Run.{counting}
 use Rattle.engine.proofs.Rounds.{most-none, most-room}
-use Rattle.engine.proofs.Standing.{idle-turn}
+use Rattle.engine.proofs.Placed.{idle-turn}
 use Rattle.engine.proofs.Laps.{Lap, lap-idle, lap-turn, lap-halts, Laps, laps-lap, laps-again, laps-idle, laps-spent, laps-halts}
 use Rattle.engine.proofs.running.rounds_of.Statement.{statement}
 use Rattle.engine.proofs.running.rounds_of.Tie as tie

@@ -1,7 +1,7 @@
 use Prim.Native.Nat.{ℕ}
 use lib.Dec.{eqb}
 use Rattle.base.proofs.Filling.{getD-inside}
-use Rattle.engine.proofs.Standing.{idle-by}
+use Rattle.engine.proofs.Placed.{idle-by}
 use lib.ListN.{length, List·getD-eq-default}
 use borrow.Author.Tests.{eq-eqb}
 use native.Mathlib.Omega.{arith}
