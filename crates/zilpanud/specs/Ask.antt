@@ -2,14 +2,17 @@
 use Prim.Native.Nat.{ℕ}
 use mathlib.Core.Bool.{cond}
 use lib.Dec.{ltb, eqb}
-use Rattle.image.specs.declared.Field.the-variants.{Count, Pc, Finished}
+use Rattle.image.specs.declared.Field.the-variants.{Finished}
 use Rattle.image.specs.Place.{field}
 use Rattle.image.specs.Image.{Image, at, workers, headerOk}
 use Rattle.engine.specs.declared.Cursors.{Cursors}
 use Rattle.engine.specs.declared.Refusal.the-variants.{Worker, Image as ImageRefused}
+use Rattle.engine.specs.declared.Standing.{Standing}
+use Rattle.engine.specs.declared.Standing.the-variants.{NotBegun, Begun, Finished as StandsFinished, Refused}
 use Rattle.engine.specs.Edition.{mark, ownWords}
 use Rattle.engine.specs.Refusal.{causeOf}
 use Rattle.engine.specs.Cursor.{isIdle, cursorAt}
+use Rattle.engine.specs.Asking.{standingOf}
 
 -- the number that a question about worker d returns: causes 10 and 1, or 0
 unfoldable pub askCode : Image → ℕ → ℕ
@@ -27,6 +30,13 @@ idleBit c d = cond (isIdle (cursorAt c d)) 1 0
 abbrev pub finishedNo : Image → ℕ → ℕ
 finishedNo m d = at ownWords m (field Finished d)
 
--- 0: worker d has no section; 1: one that is submitted and not begun; 2: one that is begun
-unfoldable pub stageOf : Image → ℕ → ℕ
-stageOf m d = cond (eqb (at ownWords m (field Count d)) 0) 0 (cond (eqb (at ownWords m (field Pc d)) 0) 1 2)
+-- the number that a standing crosses as; 0 where it is refused
+abbrev pub standingNo : Standing → ℕ
+standingNo NotBegun = 0
+standingNo Begun = 1
+standingNo StandsFinished = 2
+standingNo (Refused r) = 0
+
+-- how worker d stands to section k, as a number
+abbrev pub stands : Image → ℕ → ℕ → ℕ
+stands m d k = standingNo (standingOf mark ownWords m d k)

@@ -2,11 +2,12 @@
 use crate::MARK;
 use crate::OWN;
 use engine::Cursors;
+use engine::Standing;
 use image::Field;
 ghost use mathlib.Core.Path.{_≡_};
 ghost use Rattle.image.specs.Image.{Inside};
 ghost use Rattle.engine.specs.Edition.{ownWords};
-ghost use Rattle.zilpanud.specs.Ask.{askCode, idleBit, finishedNo, stageOf};
+ghost use Rattle.zilpanud.specs.Ask.{askCode, idleBit, finishedNo, standingNo};
 
 // The number that a question about worker d returns: causes 10 and 1, or 0.
 pub fn code(image: &[u64], d: usize) -> u64
@@ -36,16 +37,14 @@ pub fn finished(image: &[u64], d: usize) -> u64
     image::read_field(image, Field::Finished, d, OWN)
 }
 
-// 0 where worker d has no section, 1 where it is not begun, 2 where it is.
-pub fn stage(image: &[u64], d: usize) -> u64
-    requires { ⌜ Inside ownWords (now image) d ⌝ }
-    ensures { λ r. ⌜ r ≡ stageOf (now (image .entry)) d ⌝ }
+// The number that a standing crosses as; 0 also where it is refused.
+pub fn standing_no(s: Standing) -> u64
+    ensures { λ r. ⌜ r ≡ standingNo s ⌝ }
 {
-    if image::read_field(image, Field::Count, d, OWN) == 0 {
-        return 0;
+    match s {
+        Standing::NotBegun => 0,
+        Standing::Begun => 1,
+        Standing::Finished => 2,
+        Standing::Refused(_) => 0,
     }
-    if image::read_field(image, Field::Pc, d, OWN) == 0 {
-        return 1;
-    }
-    2
 }

@@ -9,7 +9,7 @@ ghost use Rattle.zilpanud.specs.Codes.{formatCode, checkCode, checkDetai
 ghost use Rattle.zilpanud.specs.Codes.{turnCode, turnDetail, endCode, endDetail, recoverCode, recoverDetail};
 ghost use Rattle.zilpanud.specs.Lent.{cursors, lent, formatting, formatsTo, checking, submitting, submitsTo};
 ghost use Rattle.zilpanud.specs.Lent.{turning, turnsTo, running, counts, recovering, recoversTo};
-ghost use Rattle.zilpanud.specs.Ask.{askCode, told, idleBit, finishedNo, stageOf};
+ghost use Rattle.zilpanud.specs.Ask.{askCode, told, idleBit, finishedNo, stands};
 
 // The edition of images that the library serves: word 0, and the own words of a record.
 const MARK: u64 = 1;
@@ -184,17 +184,18 @@ pub extern "C" fn zilpanud_finished(image: &[u64], worker: usize, number: &mut u
     0
 }
 
-// How far a worker's section is: 0 none, 1 submitted and not begun, 2 begun.
+// How a worker stands to the section of a number: 0 not begun, 1 begun, 2 finished.
 #[no_mangle]
-pub extern "C" fn zilpanud_under_way(image: &[u64], worker: usize, stage: &mut u64) -> u64
+pub extern "C" fn zilpanud_standing(
+    image: &[u64],
+    worker: usize,
+    number: u64,
+    answer: &mut u64,
+) -> u64
     ensures code { λ r. ⌜ r ≡ askCode (now (image .entry)) worker ⌝ }
-    ensures answer { λ r. ⌜ now (stage .exit) ≡ told (now (image .entry)) worker (stageOf (now (image .entry)) worker) ⌝ }
+    ensures answer { λ r. ⌜ now (answer .exit) ≡ told (now (image .entry)) worker (stands (now (image .entry)) worker number) ⌝ }
 {
-    let no = asking::code(image, worker);
-    if no != 0 {
-        *stage = 0;
-        return no;
-    }
-    *stage = asking::stage(image, worker);
-    0
+    let s = engine::asking::standing(image, worker, number);
+    *answer = asking::standing_no(s);
+    asking::code(image, worker)
 }
