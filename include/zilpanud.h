@@ -105,8 +105,14 @@ uint64_t zilpanud_is_idle(const uint64_t *image, size_t image_words, const uint8
 /* the number of the last section that the worker finished; 0: none yet */
 uint64_t zilpanud_finished(const uint64_t *image, size_t image_words, size_t worker, uint64_t *number);
 
-/* 0: the worker has no section; 1: one that is submitted and not begun; 2: one that is begun */
-uint64_t zilpanud_under_way(const uint64_t *image, size_t image_words, size_t worker, uint64_t *stage);
+/* how the worker stands to the section of this number; 0: not begun, 1: begun, 2: finished
+ *
+ * For a caller that numbers a worker's sections one by one, each one above the last finished, and after a cut does not know
+ * what became of the last one: recover, then ask. Not begun: submit the same section again, under the same number. Begun:
+ * turns or a run will bring it to its end. Finished: it is done, and the next number is due. No section is then left out,
+ * and none is carried out twice.
+ */
+uint64_t zilpanud_standing(const uint64_t *image, size_t image_words, size_t worker, uint64_t number, uint64_t *answer);
 
 #ifdef __cplusplus
 }

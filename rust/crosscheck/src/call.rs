@@ -1,7 +1,7 @@
 //! A call, as ours and as the twin's, and all that it gives.
 
 use twin::{Left, Refusal, Working};
-use zilpanud::{Cursors, End, Stage, Tally, Turn};
+use zilpanud::{Cursors, End, Standing, Tally, Turn};
 
 #[derive(Clone, Debug)]
 pub enum Call {
@@ -13,11 +13,11 @@ pub enum Call {
     Recover,
     IsIdle { worker: usize },
     Finished { worker: usize },
-    UnderWay { worker: usize },
+    Standing { worker: usize, number: u64 },
 }
 
 pub const SORTS: [&str; 9] =
-    ["format", "check", "submit", "turn", "run", "recover", "is_idle", "finished", "under_way"];
+    ["format", "check", "submit", "turn", "run", "recover", "is_idle", "finished", "standing"];
 
 impl Call {
     /// Which of `SORTS` it is.
@@ -31,7 +31,7 @@ impl Call {
             Call::Recover => 5,
             Call::IsIdle { .. } => 6,
             Call::Finished { .. } => 7,
-            Call::UnderWay { .. } => 8,
+            Call::Standing { .. } => 8,
         }
     }
 }
@@ -91,16 +91,18 @@ pub fn ours(call: &Call, image: &mut [u64], lent: Lent) -> Given {
         Call::Recover => of_ours(zilpanud::recover(image, &mut at, &mut left), done),
         Call::IsIdle { worker } => of_ours(zilpanud::is_idle(image, &at, *worker), |idle| (0, idle as u64)),
         Call::Finished { worker } => of_ours(zilpanud::finished(image, *worker), |n| (0, n)),
-        Call::UnderWay { worker } => of_ours(zilpanud::under_way(image, *worker), |s| (0, told_stage(s))),
+        Call::Standing { worker, number } => {
+            of_ours(zilpanud::standing(image, *worker, *number), |s| (0, told_standing(s)))
+        }
     };
     Given { answer, detail, lent: Lent { step: at.step, turn: at.turn, left }, tally }
 }
 
-fn told_stage(stage: Stage) -> u64 {
-    match stage {
-        Stage::Empty => 0,
-        Stage::Submitted => 1,
-        Stage::Begun => 2,
+fn told_standing(standing: Standing) -> u64 {
+    match standing {
+        Standing::NotBegun => 0,
+        Standing::Begun => 1,
+        Standing::Finished => 2,
     }
 }
 
@@ -145,8 +147,10 @@ fn twin_told(
             let (answer, after) = twin::recover_with(image, &mut meter);
             (answer.map_or_else(refused, done), after, left - meter.0)
         }
-        Call::IsIdle { worker } | Call::Finished { worker } | Call::UnderWay { worker } => {
-            (asked(call, *worker, image, at), at, 0)
+        Call::IsIdle { worker } | Call::Finished { worker } => (asked(call, *worker, image, at), at, 0),
+        Call::Standing { worker, number } => {
+            let answer = twin::standing(image, *worker as u64, *number);
+            (answer.map_or_else(refused, told_ticket), at, 0)
         }
     }
 }
@@ -178,19 +182,23 @@ fn told_desk(answer: twin::Answer) -> (u64, u64) {
     }
 }
 
-/// The questions, which the twin has not: causes 10 and 1, and whether a desk is idle, are those of a turn of it; the
-/// rest is read in its record.
+fn told_ticket(standing: twin::Standing) -> (u64, u64) {
+    match standing {
+        twin::Standing::NotBegun => (0, 0),
+        twin::Standing::Begun => (0, 1),
+        twin::Standing::Finished => (0, 2),
+    }
+}
+
+/// The questions that the twin has not: causes 10 and 1, and whether a desk is idle, are those of a turn of it; the last
+/// finished number is read in its record.
 fn asked(call: &Call, worker: usize, image: &[u64], at: Working) -> (u64, u64) {
     let turned = twin::turn(&mut image.to_vec(), at, worker as u64, 0).0;
     if let Err(no @ Refusal { number: 1 | 10, .. }) = turned {
         return refused(no);
     }
-    let record = &image[twin::HEAD + twin::REC * worker..];
-    let detail = match call {
-        Call::IsIdle { .. } => (turned == Ok(twin::Answer::Idle)) as u64,
-        Call::Finished { .. } => record[twin::LAST],
-        _ if record[twin::COUNT] == 0 => 0,
-        _ => 1 + (record[twin::PLACE] != 0) as u64,
-    };
-    (0, detail)
+    match call {
+        Call::IsIdle { .. } => (0, (turned == Ok(twin::Answer::Idle)) as u64),
+        _ => (0, image[twin::HEAD + twin::REC * worker + twin::LAST]),
+    }
 }

@@ -3,7 +3,7 @@
 use crate::call::{Call, Lent};
 use crate::rng::Rng;
 use crate::sections;
-use twin::{HEAD, LAST, REC};
+use twin::{HEAD, LAST, NUMBER, REC};
 
 /// A worker of the image, or sometimes one that it has not.
 fn worker(r: &mut Rng, workers: u64) -> usize {
@@ -13,9 +13,24 @@ fn worker(r: &mut Rng, workers: u64) -> usize {
     r.pick(&[workers as usize, 7, 8, 9, 255, 256, 1 << 32, usize::MAX])
 }
 
+/// A word of a worker's record; 0 where the image has no such worker.
+fn recorded(image: &[u64], worker: usize, offset: usize) -> u64 {
+    let index = REC.checked_mul(worker).and_then(|n| n.checked_add(HEAD + offset));
+    index.and_then(|i| image.get(i)).copied().unwrap_or(0)
+}
+
+/// A number to ask a worker after: about the one of its section or the last finished, or at an end of the range.
+fn asked_number(r: &mut Rng, image: &[u64], worker: usize) -> u64 {
+    let near = recorded(image, worker, r.pick(&[NUMBER, LAST]));
+    match r.below(10) {
+        0 => r.pick(&[0, u64::MAX]),
+        1..=4 => near,
+        _ => near.wrapping_add(r.below(5)).wrapping_sub(2),
+    }
+}
+
 fn number(r: &mut Rng, image: &[u64], worker: usize) -> u64 {
-    let record = REC.checked_mul(worker).and_then(|n| n.checked_add(HEAD + LAST));
-    let finished = record.and_then(|i| image.get(i)).copied().unwrap_or(0);
+    let finished = recorded(image, worker, LAST);
     match r.below(10) {
         0 => finished.wrapping_sub(r.below(2)),
         1 => r.word(),
@@ -72,7 +87,7 @@ pub fn call(r: &mut Rng, image: &[u64], workers: u64, lent: &Lent) -> Call {
         }
         90..=92 => Call::IsIdle { worker: someone },
         93..=95 => Call::Finished { worker: someone },
-        96..=98 => Call::UnderWay { worker: someone },
+        96..=98 => Call::Standing { worker: someone, number: asked_number(r, image, someone) },
         _ => {
             let other = r.pick(&[0, 1, 2, 8, 9, u64::MAX]);
             Call::Format { workers: if r.chance(50) { workers } else { other } }

@@ -34,12 +34,17 @@ pub struct Met {
     pub odd_cursors: u64,
     /// Turns by the kind of the instruction.
     kinds: [u64; 9],
+    /// Standings told: not begun, begun, finished.
+    standings: [u64; 3],
 }
 
 impl Met {
     pub fn call(&mut self, call: &Call, given: &Given, cut: bool, kind: u64) {
         self.calls[call.sort()][given.answer as usize] += 1;
         self.cut[call.sort()] += cut as u64;
+        if matches!(call, Call::Standing { .. }) && given.answer == 0 {
+            self.standings[given.detail as usize] += 1;
+        }
         let turned = matches!(call, Call::Turn { .. }) && (16..19).contains(&given.answer);
         if turned && kind < 9 {
             self.kinds[kind as usize] += 1;
@@ -59,6 +64,7 @@ impl Met {
                 lines.push(format!("{} was never cut", SORTS[sort]));
             }
         }
+        lines.extend((0..3).filter(|&s| self.standings[s] == 0).map(|s| format!("no standing {s}")));
         lines.extend((1..9).filter(|&k| self.kinds[k] == 0).map(|k| format!("no turn of kind {k}")));
         lines
     }
@@ -96,6 +102,7 @@ impl Met {
         DAMAGES.iter().zip(self.damages).for_each(|(name, n)| print!(" {name} {n};"));
         print!("\nturns by kind of instruction:");
         (1..9).for_each(|k| print!(" {k}: {};", self.kinds[k]));
-        println!();
+        let [not_begun, begun, finished] = self.standings;
+        println!("\nstandings: not begun {not_begun}; begun {begun}; finished {finished}");
     }
 }

@@ -140,15 +140,15 @@ pub enum End {
     Spent,
 }
 
-/// How far a worker's section has come.
+/// How a worker stands to the section of a number.
 #[derive(Clone, Copy, PartialEq, Eq, Debug)]
-pub enum Stage {
-    /// No section.
-    Empty,
-    /// Submitted and not begun: a recovery withdraws it.
-    Submitted,
-    /// Begun: it will reach its end, whatever is cut.
+pub enum Standing {
+    /// Not submitted, or submitted and not begun: a recovery withdraws it.
+    NotBegun,
+    /// It will reach its end, whatever is cut.
     Begun,
+    /// The worker's last finished number is this one or above it.
+    Finished,
 }
 
 /// Where all workers stand (document 01's working record): a step and a turn for each. It is not in the image, and a

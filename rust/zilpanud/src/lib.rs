@@ -42,7 +42,7 @@
 mod answers;
 mod raw;
 
-pub use answers::{Cause, Cursors, End, Refusal, Stage, Tally, Turn};
+pub use answers::{Cause, Cursors, End, Refusal, Standing, Tally, Turn};
 
 /// More stores than any list of calls makes.
 pub const ENOUGH: u64 = u64::MAX;
@@ -195,14 +195,16 @@ pub fn finished(image: &[u64], worker: usize) -> Result<u64, Refusal> {
     done(answer, 0).map(|()| number)
 }
 
-/// How far a worker's section has come.
-pub fn under_way(image: &[u64], worker: usize) -> Result<Stage, Refusal> {
-    let mut stage = 0;
+/// How a worker stands to the section of this number: what a caller asks after a cut and a recovery. A section that is
+/// not begun is submitted again, under the same number; one that is begun is left to its turns; one that is finished is
+/// done. With numbers that follow one another, each one above the last finished, every section is carried out once.
+pub fn standing(image: &[u64], worker: usize, number: u64) -> Result<Standing, Refusal> {
+    let mut standing = 0;
     let (words, len) = (image.as_ptr(), image.len());
-    let answer = unsafe { raw::zilpanud_under_way(words, len, worker, &mut stage) };
-    done(answer, 0).map(|()| match stage {
-        0 => Stage::Empty,
-        1 => Stage::Submitted,
-        _ => Stage::Begun,
+    let answer = unsafe { raw::zilpanud_standing(words, len, worker, number, &mut standing) };
+    done(answer, 0).map(|()| match standing {
+        0 => Standing::NotBegun,
+        1 => Standing::Begun,
+        _ => Standing::Finished,
     })
 }

@@ -60,5 +60,11 @@ unsafe extern "C" {
         answer: *mut u64,
     ) -> u64;
     pub fn zilpanud_finished(image: *const u64, len: usize, worker: usize, number: *mut u64) -> u64;
-    pub fn zilpanud_under_way(image: *const u64, len: usize, worker: usize, stage: *mut u64) -> u64;
+    pub fn zilpanud_standing(
+        image: *const u64,
+        len: usize,
+        worker: usize,
+        number: u64,
+        answer: *mut u64,
+    ) -> u64;
 }

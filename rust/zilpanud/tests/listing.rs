@@ -3,7 +3,7 @@
 mod common;
 
 use common::{Board, CELL_24, FINISHED, LOCK_3};
-use zilpanud::{Cursors, End, Stage, Tally, Turn};
+use zilpanud::{Cursors, End, Standing, Tally, Turn};
 
 /// The listing's lines, as they stand in document 01: five of turns, three of the recovery.
 const LISTING: &str = "\
@@ -112,22 +112,34 @@ fn a_second_worker_waits() {
 #[test]
 fn questions_follow_the_section() {
     let mut board = Board::formatted(1);
-    let stage = |b: &Board| zilpanud::under_way(&b.image, 0).unwrap();
+    let standing = |b: &Board, number| zilpanud::standing(&b.image, 0, number).unwrap();
     let idle = |b: &Board| zilpanud::is_idle(&b.image, &b.at, 0).unwrap();
-    assert_eq!((stage(&board), idle(&board)), (Stage::Empty, true));
+    assert_eq!((standing(&board, 9), idle(&board)), (Standing::NotBegun, true));
+    // a worker that finished no section has 0 as its last finished number
+    assert_eq!(standing(&board, 0), Standing::Finished);
     board.submit(0, 9, &common::TICKET).unwrap();
-    for _ in 0..5 {
-        assert_eq!((stage(&board), idle(&board)), (Stage::Submitted, false));
-        board.turn(0).unwrap();
+    // the pc is stored in the fifth turn, the finished number in the 17th, and the pc is 0 again after the 18th
+    let turns = [(5, Standing::NotBegun), (12, Standing::Begun), (2, Standing::Finished)];
+    for (count, expected) in turns {
+        for _ in 0..count {
+            assert_eq!((standing(&board, 9), idle(&board)), (expected, false));
+            board.turn(0).unwrap();
+        }
     }
-    for _ in 5..18 {
-        assert_eq!((stage(&board), idle(&board)), (Stage::Begun, false));
-        board.turn(0).unwrap();
-    }
-    // the pc is 0 again, the count not yet
-    assert_eq!(stage(&board), Stage::Submitted);
+    assert_eq!((standing(&board, 9), idle(&board)), (Standing::Finished, true));
     assert_eq!(zilpanud::finished(&board.image, 0), Ok(9));
     assert_eq!(board.image[FINISHED], 9);
-    board.turn(0).unwrap();
-    assert_eq!((stage(&board), idle(&board)), (Stage::Empty, true));
+}
+
+#[test]
+fn a_begun_section_is_that_of_its_own_number() {
+    let mut board = Board::formatted(1);
+    board.image[FINISHED] = 7;
+    board.submit(0, 9, &common::TICKET).unwrap();
+    for _ in 0..5 {
+        board.turn(0).unwrap();
+    }
+    let asked = [7, 8, 9, 10, u64::MAX].map(|number| zilpanud::standing(&board.image, 0, number).unwrap());
+    let no = Standing::NotBegun;
+    assert_eq!(asked, [Standing::Finished, no, Standing::Begun, no, no]);
 }

@@ -23,7 +23,7 @@ fn cause_1_worker() {
         not_taken(&mut board, worker, 1, &TICKET, Cause::Worker);
         assert_eq!(board.turn(worker), refused(Cause::Worker));
         assert_eq!(zilpanud::finished(&board.image, worker), refused(Cause::Worker));
-        assert_eq!(zilpanud::under_way(&board.image, worker), refused(Cause::Worker));
+        assert_eq!(zilpanud::standing(&board.image, worker, 1), refused(Cause::Worker));
         let idle = zilpanud::is_idle(&board.image, &board.at, worker);
         assert_eq!(idle, refused(Cause::Worker));
     }
@@ -156,7 +156,7 @@ fn cause_10_image() {
         assert_eq!(tally, Tally::default());
         assert_eq!(zilpanud::is_idle(image, at, 0), refused(no));
         assert_eq!(zilpanud::finished(image, 0), refused(no));
-        assert_eq!(zilpanud::under_way(image, 0), refused(no));
+        assert_eq!(zilpanud::standing(image, 9, 0), refused(no));
         assert_eq!(*at, busy);
         assert_eq!(zilpanud::recover(image, at, left), refused(no));
         assert_eq!(*at, Cursors::IDLE);
