@@ -1,5 +1,5 @@
-// The engine: cursors, formatting, submitting a section, turns and runs. Every entry point takes any image, any cursors and
-// any number of stores left; it refuses with document 01's number.
+// The engine: cursors, formatting, submitting a section, turns and runs, and how a worker stands to a section. Every entry point
+// takes any image, any cursors and any number of stores left; it refuses with document 01's number.
 use section::Verdict;
 use tally::Tally;
 
@@ -136,13 +136,13 @@ pub struct Ran {
 
 // How a worker stands to the section of a number.
 pub enum Standing {
-    // Nothing of it stands that a recovery keeps: the same section may be submitted under this number.
+    // Not submitted, or submitted and not begun: a recovery withdraws it, and it may be submitted again under this number.
     NotBegun,
     // The worker has begun it, and it will reach its end.
     Begun,
     // The worker's last finished number is this one or above it.
     Finished,
-    // The image or the worker is none.
+    // For the image (cause 10) or the worker (cause 1).
     Refused(Refusal),
 }
 

@@ -36,9 +36,9 @@ told-no m d v h = rw (ne-eqb _ _ h)
 
 -- a standing is refused with the same causes, and then crosses as 0
 private-stands :
-  (a b : Bool) (x : Standing) →
-  let no = standingNo (cond a (cond b x (Refused Worker)) (Refused ImageRefused)) in
-  no ≡ cond (eqb (cond a (cond b 0 1) 10) 0) no 0
+    (a b : Bool) (x : Standing) →
+    let no = standingNo (cond a (cond b x (Refused Worker)) (Refused ImageRefused)) in
+    no ≡ cond (eqb (cond a (cond b 0 1) 10) 0) no 0
 private-stands true true x = refl
 private-stands true false x = refl
 private-stands false b x = refl
