@@ -25,7 +25,8 @@ use Rattle.engine.proofs.Planned.{idle-is}
 use Rattle.engine.proofs.Submission.{submission-length, accepted as met}
 use Rattle.recovery.specs.Recovery.{plan, resumedAll, recovery, accepted, owed}
 use Rattle.claims.specs.Reference.{Given, given}
-use Rattle.claims.specs.Calls.{Trace, Traced, traced, but, taking, forgetful}
+use Rattle.claims.specs.Events.{but}
+use Rattle.claims.specs.Calls.{Trace, Traced, traced, taking, forgetful}
 use Rattle.claims.proofs.Invariant.{Live, Crashed, Mirrors}
 use Rattle.claims.proofs.Submitting.{submit-live}
 use Rattle.claims.proofs.Covers.{crashed-accepted}
@@ -54,7 +55,7 @@ reached-all mark n D cells m begun order left ss r h =
 -- ---- recovery
 
 module _ (mark n D : ℕ) (cells : List ℕ) (m : Image) (begun : List Given) (order : List ℕ) (k : Recoverable mark n D cells m begun order) where
-  crash : Crashed n (workers m) (at n m)
+  pub crash : Crashed n (workers m) (at n m)
   crash = subst (λ (e : ℕ). Crashed n e (at n m)) (sym (k .reached .many)) (k .crashed)
 
   pub accepts : recovery mark n m ≡ accepted (plan n (at n m) (workers m)) (resumedAll n (at n m) (workers m))
@@ -123,10 +124,10 @@ module _ (mark n D : ℕ) (cells : List ℕ) (w : Traced) (d k : ℕ) (args ws :
   abbrev rd : Memory
   rd = at n m
 
-  dl : d < D
+  pub dl : d < D
   dl = subst (λ (e : ℕ). d < e) (r .reached .many) (t .below)
 
-  submitted-at : (left : ℕ) → at n (putAll n left m (submission n d k args ws)) ≡ updAll rd (take left (submission n d k args ws))
+  pub submitted-at : (left : ℕ) → at n (putAll n left m (submission n d k args ws)) ≡ updAll rd (take left (submission n d k args ws))
   submitted-at left = submission-at mark n m (t .header) d k args ws (t .below) wide full8 (t .passes) left
 
   submitted-reached : (left : ℕ) → Reached mark n D cells (putAll n left m (submission n d k args ws)) (w .trace .begun) (w .trace .order)
@@ -146,7 +147,7 @@ module _ (mark n D : ℕ) (cells : List ℕ) (w : Traced) (d k : ℕ) (args ws :
 
   -- an uncut one leaves the worker at its first turn
   pub submit-whole : (left : ℕ) → n + 66 ≤ left
-      → Running mark n D cells (traced (world (putAll n left m (submission n d k args ws)) (placed (w .world .cursors) d (on 0 0)) (left - length (submission n d k args ws))) (taking (w .trace) (given d args ws)))
+      → Running mark n D cells (traced (world (putAll n left m (submission n d k args ws)) (placed (w .world .cursors) d (on 0 0)) (left - length (submission n d k args ws))) (taking (w .trace) (given d k args ws)))
   submit-whole left l =
       let few64 = check-parts n (length ws) (codeOf ws) (t .passes) .1 in
       let enough : length (submission n d k args ws) ≤ left = rw (submission-length n d k args ws full8 wide) (omega arith) in

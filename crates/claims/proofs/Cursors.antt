@@ -11,9 +11,9 @@ use native.Mathlib.Decide.{ℕ-discrete}
 use Rattle.engine.specs.declared.Cursors.{Cursors}
 use Rattle.engine.specs.Cursor.{Cursor, idle, on, isIdle, cursorAt, setAt, placed, allIdle}
 use Rattle.engine.specs.Run.{anyOpen}
-use Rattle.engine.proofs.Standing.{Full, sayable, placed-same, placed-other}
+use Rattle.engine.proofs.Placed.{Full, sayable, placed-same, placed-other}
 use Rattle.engine.proofs.Planned.{idle-is}
-use Rattle.claims.specs.Calls.{but}
+use Rattle.claims.specs.Events.{but}
 use Rattle.claims.proofs.LiveTurn.{but-same, but-other}
 
 pub full-set : (c : Cursors) (d s t : ℕ) → Full c → Full (setAt c d s t)

@@ -3,6 +3,7 @@ use native.Mathlib.Omega.{arith}
 use Rattle.engine.specs.Edition.{mark, ownWords}
 use Rattle.claims.specs.Claims.{FormattedRests, DurableAlways, Linearizable, EveryOrderHad}
 use Rattle.claims.proofs.Durable.{durable-always, formatted-rests}
+use Rattle.claims.proofs.Once.{admitted-always}
 use Rattle.claims.proofs.Linear.{linearizable}
 use Rattle.claims.proofs.EveryOrder.{every-order-had}
 
@@ -20,4 +21,4 @@ orders-had = every-order-had mark ownWords (omega arith) (omega arith)
 
 -- demand 3: whatever is called and cut, every section begun is carried to its end once
 pub sections-kept : DurableAlways mark ownWords
-sections-kept = durable-always mark ownWords (omega arith) (omega arith)
+sections-kept = durable-always mark ownWords (omega arith) (omega arith) (admitted-always mark ownWords (omega arith) (omega arith))

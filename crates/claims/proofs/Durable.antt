@@ -1,113 +1,107 @@
--- Demand 3: from any image at rest, after any list of calls and cuts with a recovery after each cut, a recovery is accepted,
--- and 384 rounds for each worker, in one run or several, leave every worker idle, every lock free, and the cells those that the
--- reference machine gives for the sections begun.
-use Prim.Native.Nat.{ℕ, suc, zero, _+_, _*_, _≤_}
-use mathlib.Core.Path.{_≡_, refl}
-use mathlib.Core.Logic.{_⊎_, inl, inr, ⊎-elim}
+-- Demand 3: from any image at rest, after any list of calls and cuts with a recovery after each cut, a recovery is accepted, and
+-- unless a cut came last no turn and no run is refused; 384 rounds for each worker, in one run or several, with any turns among
+-- them, leave every worker idle, every lock free, and the cells those that the reference machine gives for the sections begun,
+-- and the last run says so. A list leaves a world that runs (`play-good`), or after a cut what a recovery makes run again; the
+-- rest is what runs and turns come to from there (proofs/Working.antt) and what they answer (proofs/Answers.antt).
+use Prim.Native.Nat.{ℕ, _+_, _*_, _<_, _≤_}
+use mathlib.Core.Path.{_≡_, refl, subst}
 use mathlib.Core.Bool.{Bool, true, false, cond}
-use mathlib.Core.List.{List, [], _∷_, _++_, map}
+use mathlib.Core.List.{List, [], _∷_, _++_}
 use native.Mathlib.Omega.{arith}
 use Rattle.image.specs.declared.Field.the-variants.{Count, Pc, Intent, Owned}
 use Rattle.image.specs.Place.{lock, field}
-use Rattle.image.specs.Image.{Image, at, workers, cellsOf}
-use Rattle.engine.specs.Cursor.{cursorAt}
+use Rattle.image.specs.Image.{Image, workers, cellsOf}
+use Rattle.engine.specs.declared.End.the-variants.{AllIdle}
+use Rattle.engine.specs.World.{outcomeAt, outcome}
 use Rattle.engine.specs.Run.{anyOpen}
 use Rattle.engine.proofs.Formats.{formatted-header, formatted-at}
-use Rattle.claims.specs.Calls.{Traced, runs, recovers, Move, whole, call, lent, move, play, from, legal, endsCut, machine, rounds}
-use Rattle.claims.specs.Claims.{total, FormattedRests, Idle, Settled, DurableAlways, after, mended}
-use Rattle.claims.proofs.Progress.{rankSum-most}
+use Rattle.claims.specs.Calls.{Traced, refuses, runs, recovers, Move, whole, move, play, from, legal, endsCut, machine}
+use Rattle.claims.specs.Claims.{working, isHalted, roundsIn, Rested, FormattedRests, Idle, admissible, Settled, DurableAlways, after, mended, runEnd}
 use Rattle.claims.proofs.Held.{Running}
-use Rattle.claims.proofs.Settling.{sum, settles, no-rank-idle}
+use Rattle.claims.proofs.Settling.{never-refused}
 use Rattle.claims.proofs.Called.{accepts}
-use Rattle.claims.proofs.Played.{plenty, Worth, running-worth, spare-lent, ran-is, Good, play-good}
+use Rattle.claims.proofs.Played.{Worth, running-worth, outcome-below, Good, play-good}
+use Rattle.claims.proofs.Working.{nearer-both, nearer-idle, move-run, working-nearer, working-running, working-idle}
+use Rattle.claims.proofs.Answers.{end-made, run-end}
 use Rattle.claims.proofs.Resting.{rested-running, idle-rested, idle-gives}
 use Rattle.claims.proofs.Cursors.{idle-all}
 use Rattle.claims.proofs.Moves.{play-append}
 
-rounds-idle : (mark n D r : ℕ) (w : Traced) → anyOpen D 0 (w .world .cursors) ≡ false → rounds mark n r D w ≡ w
-unfolding rounds
-rounds-idle mark n D zero w h = refl
-rounds-idle mark n D (suc r) w h = rw h
+-- ---- a world that runs
 
-module _ (mark n D : ℕ) (cells : List ℕ) where
-  -- several runs: the sum is less by their rounds, or nobody is open
-  record After (rounds-in-all : ℕ) (w v : Traced) : Type 0 where
-    running : Running mark n D cells v
-    gone : (sum n D v + rounds-in-all ≤ sum n D w) ⊎ (anyOpen D 0 (v .world .cursors) ≡ false)
+module _ (mark n : ℕ) (m : Image) where
+  settled :
+      (w : Traced) → Running mark n (workers m) (cellsOf m) w → anyOpen (workers m) 0 (w .world .cursors) ≡ false
+      → admissible mark n (workers m) (w .trace .begun) ≡ true → Settled mark n m w
+  settled w r e a =
+      let i : Idle mark n (workers m) (w .world .cursors) = λ d l. idle-all (workers m) 0 (w .world .cursors) e d (omega arith) (omega arith) in
+      record { idles = i; rests = idle-rested mark n (workers m) (cellsOf m) w r i; admits = a; gives = idle-gives mark n (workers m) (cellsOf m) w r i }
 
-  one-run : (r : ℕ) (w : Traced) → Running mark n D cells w → After r w (move mark n (whole (runs r)) w)
-  unfolding move call sum
-  one-run r w h =
-      let x = settles mark n D cells r (lent mark n (plenty mark n D cells) w) (spare-lent mark n D cells w (plenty mark n D cells) h (omega arith)) in
-      rw (ran-is mark n D cells (lent mark n (plenty mark n D cells) w) r (h .reached)) (record { running = x .spare .running; gone = x .gone })
+  turn-goes : (w : Traced) (d : ℕ) → Running mark n (workers m) (cellsOf m) w → d < workers m → refuses mark n (outcome mark n (w .world) d) ≡ false
+  unfolding outcomeAt
+  turn-goes w d r l = rw (outcome-below mark n (workers m) (cellsOf m) w d (r .reached) l) (never-refused mark n (workers m) (cellsOf m) w d r l)
 
-  still-idle : (r : ℕ) (w : Traced) → Running mark n D cells w → anyOpen D 0 (w .world .cursors) ≡ false → anyOpen D 0 (move mark n (whole (runs r)) w .world .cursors) ≡ false
-  unfolding move call
-  still-idle r w h e =
-      rw (ran-is mark n D cells (lent mark n (plenty mark n D cells) w) r (h .reached), rounds-idle mark n D r (lent mark n (plenty mark n D cells) w) e) e
+  run-goes : (w : Traced) (r : ℕ) → Running mark n (workers m) (cellsOf m) w → isHalted (runEnd mark n w r) ≡ false
+  run-goes w r h =
+      rw (run-end mark n (workers m) (cellsOf m) r w h) (end-made (anyOpen (workers m) 0 (move mark n (whole (runs r)) w .world .cursors)))
 
-  private-runs : (r k : ℕ) (w v u : Traced) → After r w v → (anyOpen D 0 (v .world .cursors) ≡ false → anyOpen D 0 (u .world .cursors) ≡ false) → After k v u → After (r + k) w u
-  private-runs r k w v u a stays b =
-      record {
-        running = b .running;
-        gone = ⊎-elim (λ x. ⊎-elim (λ y. inl (omega arith)) (λ y. inr y) (b .gone)) (λ x. inr (stays x)) (a .gone);
-      }
+  -- the rounds of the last run count with those before it
+  last-says :
+      (ys : List Move) (r : ℕ) (w : Traced) → Running mark n (workers m) (cellsOf m) w → working ys ≡ true → 384 * workers m ≤ roundsIn ys + r
+      → runEnd mark n (play mark n ys w) r ≡ AllIdle
+  last-says ys r w h y l =
+      let D = workers m in
+      let v = play mark n ys w in
+      let a = working-nearer mark n D (cellsOf m) ys w y h in
+      let b = move-run mark n D (cellsOf m) r v (a .running) in
+      let none =
+      nearer-idle mark n D (cellsOf m) (roundsIn ys + r) w _ h (nearer-both mark n D (cellsOf m) (roundsIn ys) r (roundsIn ys + r) w v _ refl a b) l
+      in
+      rw (run-end mark n D (cellsOf m) r v (a .running), none)
 
-  abbrev all-runs : List ℕ → List Move
-  all-runs rs = map (λ (r : ℕ). whole (runs r)) rs
+  good-worth : (b : Bool) (w : Traced) → Good mark n (workers m) (cellsOf m) b w → Worth mark n (workers m) (cellsOf m) w
+  good-worth false w g = running-worth mark n (workers m) (cellsOf m) w g
+  good-worth true w g = g
 
-  runs-idle : (rs : List ℕ) (w : Traced) → Running mark n D cells w → anyOpen D 0 (w .world .cursors) ≡ false → anyOpen D 0 (play mark n (all-runs rs) w .world .cursors) ≡ false
-  unfolding play
-  runs-idle [] w h e = e
-  runs-idle (r ∷ rs) w h e = runs-idle rs (move mark n (whole (runs r)) w) (one-run r w h .running) (still-idle r w h e)
-
-  runs-after : (rs : List ℕ) (w : Traced) → Running mark n D cells w → After (total rs) w (play mark n (all-runs rs) w)
-  unfolding play
-  runs-after [] w h = record { running = h; gone = inl (omega arith) }
-  runs-after (r ∷ rs) w h =
-      let a = one-run r w h in
-      private-runs r (total rs) w (move mark n (whole (runs r)) w) _ a (runs-idle rs (move mark n (whole (runs r)) w) (a .running)) (runs-after rs (move mark n (whole (runs r)) w) (a .running))
-
-  -- with as many rounds as 384 a worker, nobody is open
-  all-idle : (rs : List ℕ) (w : Traced) → Running mark n D cells w → 384 * D ≤ total rs → anyOpen D 0 (play mark n (all-runs rs) w .world .cursors) ≡ false
-  unfolding sum
-  all-idle rs w h l =
-      let a = runs-after rs w h in
-      let most = rankSum-most n D (at n (w .world .image)) (cursorAt (w .world .cursors)) (h .locks) (w .trace .jumps) (w .trace .last) (h .live) in
-      ⊎-elim (λ x. no-rank-idle mark n D cells (play mark n (all-runs rs) w) (a .running) (omega arith)) (λ x. x) (a .gone)
+  -- a recovery after a cut, where one ends the list
+  pub mended-running : 8 ≤ n → n ≤ 64 → (xs : List Move) (b : Bool) → Good mark n (workers m) (cellsOf m) b (after mark n m xs)
+      → Running mark n (workers m) (cellsOf m) (after mark n m (cond b (xs ++ (whole recovers ∷ [])) xs))
+  unfolding legal machine endsCut
+  mended-running wide narrow xs true g =
+      rw (play-append mark n xs (whole recovers ∷ []) (from m))
+      (play-good mark n (workers m) (cellsOf m) true (whole recovers ∷ []) (after mark n m xs) wide narrow refl refl g)
+  mended-running wide narrow xs false g = g
 
 -- ---- the theorem
 
-module _ (mark n : ℕ) (wide : 8 ≤ n) (narrow : n ≤ 64) where
-  settled : (m : Image) (w : Traced) → Running mark n (workers m) (cellsOf m) w → anyOpen (workers m) 0 (w .world .cursors) ≡ false → Settled mark n m w
-  settled m w r e =
-      let i : Idle mark n (workers m) (w .world .cursors) = λ d l. idle-all (workers m) 0 (w .world .cursors) e d (omega arith) (omega arith) in
-      record { idles = i; rests = idle-rested mark n (workers m) (cellsOf m) w r i; gives = idle-gives mark n (workers m) (cellsOf m) w r i }
+-- every section begun is one that the engine takes
+abbrev pub Admitted : ℕ → ℕ → Type 0
+Admitted mark n =
+    (m : Image) → Rested mark n m → (xs ys : List Move) → machine xs ≡ true → legal false xs ≡ true → working ys ≡ true
+    → admissible mark n (workers m) (after mark n m (mended mark n xs ++ ys) .trace .begun) ≡ true
 
-  -- a recovery after a cut, where one ends the list
-  mended-running : (m : Image) (xs : List Move) (b : Bool) → endsCut false xs ≡ b → Good mark n (workers m) (cellsOf m) b (after mark n m xs)
-      → Running mark n (workers m) (cellsOf m) (after mark n m (cond b (xs ++ (whole recovers ∷ [])) xs))
-  unfolding legal machine endsCut
-  mended-running m xs true e g =
-      rw (play-append mark n xs (whole recovers ∷ []) (from m)) (play-good mark n (workers m) (cellsOf m) true (whole recovers ∷ []) (after mark n m xs) wide narrow refl refl g)
-  mended-running m xs false e g = g
-
-  good-worth : (m : Image) (b : Bool) (w : Traced) → Good mark n (workers m) (cellsOf m) b w → Worth mark n (workers m) (cellsOf m) w
-  good-worth m false w g = running-worth mark n (workers m) (cellsOf m) w g
-  good-worth m true w g = g
-
+module _ (mark n : ℕ) (wide : 8 ≤ n) (narrow : n ≤ 64) (admitted : Admitted mark n) where
   pub durable-always : DurableAlways mark n
   unfolding DurableAlways
   durable-always m rest xs h l =
-      let g = play-good mark n (workers m) (cellsOf m) false xs (from m) wide narrow h l (rested-running mark n m rest) in
+      let D = workers m in
+      let g = play-good mark n D (cellsOf m) false xs (from m) wide narrow h l (rested-running mark n m rest) in
       let w = after mark n m xs in
+      let worth = good-worth mark n m (endsCut false xs) w g in
       let v = after mark n m (mended mark n xs) in
-      let run = mended-running m xs (endsCut false xs) refl g in
+      let run = mended-running mark n m wide narrow xs (endsCut false xs) g in
+      let uncut : endsCut false xs ≡ false → Running mark n D (cellsOf m) w = λ e. subst (λ (b : Bool). Good mark n D (cellsOf m) b w) e g in
       record {
-        accepts = (_, _, accepts mark n (workers m) (cellsOf m) (w .world .image) (w .trace .begun) (w .trace .order) (good-worth m (endsCut false xs) w g));
-        settles = λ rs k.
-            rw (play-append mark n (mended mark n xs) (map (λ (r : ℕ). whole (runs r)) rs) (from m))
-            (settled m (play mark n (map (λ (r : ℕ). whole (runs r)) rs) v) (runs-after mark n (workers m) (cellsOf m) rs v run .running) (all-idle mark n (workers m) (cellsOf m) rs v run k));
+        accepts = (_, _, accepts mark n D (cellsOf m) (w .world .image) (w .trace .begun) (w .trace .order) worth);
+        as-many = worth .reached .many;
+        turn-made = λ e d k. turn-goes mark n m w d (uncut e) k;
+        run-made = λ e r. run-goes mark n m w r (uncut e);
+        settles = λ ys y k.
+            let a = admitted m rest xs ys h l y in
+            rw (play-append mark n (mended mark n xs) ys (from m))
+            (settled mark n m (play mark n ys v) (working-running mark n D (cellsOf m) ys v y run) (working-idle mark n D (cellsOf m) ys v y run k)
+            (rw (play-append mark n (mended mark n xs) ys (from m)) at a));
+        says-idle = λ ys r y k. rw (play-append mark n (mended mark n xs) ys (from m)) (last-says mark n m ys r v run y k);
       }
 
 -- what formatting leaves is an image at rest
@@ -117,5 +111,10 @@ formatted-rests mark n D some few =
     record {
       header = formatted-header mark n D some few;
       free = λ b l. formatted-at mark n D (lock b);
-      empty = λ d l. (formatted-at mark n D (field Count d), formatted-at mark n D (field Pc d), formatted-at mark n D (field Intent d), formatted-at mark n D (field Owned d));
+      empty = λ d l. (
+        formatted-at mark n D (field Count d),
+        formatted-at mark n D (field Pc d),
+        formatted-at mark n D (field Intent d),
+        formatted-at mark n D (field Owned d),
+      );
     }

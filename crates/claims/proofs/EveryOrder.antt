@@ -1,7 +1,7 @@
 -- Demand 2, second half: every order that the reference machine follows to its end is had. From an image at rest, level with
 -- the machine's start, each entry of the order has a block of calls that leaves the world level with the machine's next state;
--- so the cells are the machine's after every block. In the end no section is left, so that all workers are idle and the
--- sections taken are those given.
+-- so the cells are the machine's after every block, and the workers stand where it says (`Meets`). In the end no section is
+-- left, so that all workers are idle and the sections taken are those given, under the numbers that waited for them.
 use Prim.Native.Nat.{ℕ, suc, zero, _+_, _^_, _<_, _≤_}
 use mathlib.Core.Path.{_≡_, refl, ap, subst, _∙_, sym}
 use mathlib.Core.Logic.{inl, inr}
@@ -20,12 +20,14 @@ use Rattle.image.proofs.Cells.{cells-length, cells-at}
 use Rattle.engine.specs.Cursor.{idle, cursorAt}
 use Rattle.claims.specs.Reference.{Job, State, Given, start, advance, follow, noneLeft, initial}
 use Rattle.claims.specs.Calls.{Traced, Move, play, from, callable, ofMove, machine}
-use Rattle.claims.specs.Claims.{EveryOrderHad, concat, ofWorker, callsOf, Rested, Had, admissible}
-use Rattle.claims.proofs.OrderLevel.{Stand, Even}
+use Rattle.claims.specs.Claims.{EveryOrderHad, concat, ofWorker, numbered, callsOf, cursorOf, Rested, Had, admissible}
+use Rattle.claims.proofs.OrderLevel.{Stand, Even, Begun, even-stands}
+use Rattle.claims.proofs.OrderBlock.{idle-begun}
 use Rattle.claims.proofs.OrderSubmit.{Able}
 use Rattle.claims.proofs.OrderStep.{some-same, none-some}
 use Rattle.claims.proofs.OrderEntry.{EntryHad, entry}
-use Rattle.claims.proofs.OrderFeed.{rested-even, admitted-able}
+use Rattle.claims.proofs.OrderFeed.{rested-even, admitted-able, numbered-able}
+use Rattle.claims.proofs.Cursors.{idle-at}
 use Rattle.claims.proofs.Moves.{play-append}
 use Rattle.claims.proofs.Machine.{follow-first}
 
@@ -61,6 +63,15 @@ even-cells mark n D w s gs E =
     ext-getD 0 (cellsOf (w .world .image)) (s .cells) (c ∙ sym (E .level .size))
     (λ x h. let l : x < 512 = omega arith in cells-at n (w .world .image) x l ∙ sym (E .level .cells x l))
 
+-- what is claimed of a world and of the machine's state, between the blocks
+record Meets (D : ℕ) (w : Traced) (s : State) : Type 0 where
+  cells : cellsOf (w .world .image) ≡ s .cells
+  cursors : (d : ℕ) → d < D → cursorAt (w .world .cursors) d ≡ cursorOf (getD (s .queues) d [])
+
+even-meets : (mark n D : ℕ) (w : Traced) (s t : State) (gs : ℕ → List Given) → Even mark n D w s gs → Begun w → s ≡ t → Meets D w t
+even-meets mark n D w s t gs E begun e =
+    subst (Meets D w) e (record { cells = even-cells mark n D w s gs E; cursors = even-stands mark n D w s gs E begun })
+
 -- ---- the blocks of an order
 
 module _ (mark n D : ℕ) (least : 8 ≤ n) (most : n ≤ 64) (final : State) where
@@ -69,16 +80,18 @@ module _ (mark n D : ℕ) (least : 8 ≤ n) (most : n ≤ 64) (final : State) wh
     one-each : length blocks ≡ length order
     by-worker : (i : ℕ) → i < length order → callsOf (getD order i 0) (getD blocks i []) ≡ true
     words : machine (concat blocks) ≡ true
-    follows : (i : ℕ) → i ≤ length order → (t : State) → follow s (take i order) ≡ some t → cellsOf (play mark n (concat (take i blocks)) w .world .image) ≡ t .cells
+    follows : (i : ℕ) → i ≤ length order → (t : State) → follow s (take i order) ≡ some t → Meets D (play mark n (concat (take i blocks)) w) t
     rests : ℕ → List Given
     even : Even mark n D (play mark n (concat blocks) w) final rests
     kept : (e : ℕ) → ofWorker e (play mark n (concat blocks) w .trace .taken) ++ rests e ≡ ofWorker e (w .trace .taken) ++ gs e
 
   abbrev Has : List ℕ → Type 0
-  Has order = (w : Traced) (s : State) (gs : ℕ → List Given) → Even mark n D w s gs → ((e : ℕ) → e < D → Able n e (gs e)) → follow s order ≡ some final → Blocks w s gs order
+  Has order =
+      (w : Traced) (s : State) (gs : ℕ → List Given) → Even mark n D w s gs → Begun w → ((e : ℕ) → e < D → Able n e (gs e)) → follow s order ≡ some final
+      → Blocks w s gs order
 
   no-blocks : Has []
-  no-blocks w s gs E able f =
+  no-blocks w s gs E begun able f =
       record {
         blocks = [];
         one-each = refl;
@@ -90,22 +103,23 @@ module _ (mark n D : ℕ) (least : 8 ≤ n) (most : n ≤ 64) (final : State) wh
         kept = λ e. rw (play-nil mark n w);
       }
     where
-      here : (i : ℕ) → i ≤ 0 → (t : State) → follow s (take i []) ≡ some t → cellsOf (play mark n (concat (take i [])) w .world .image) ≡ t .cells
-      here zero l t h = rw (play-nil mark n w) (even-cells mark n D w s gs E ∙ ap (λ (r : State). r .cells) (follow-nil s t h))
+      here : (i : ℕ) → i ≤ 0 → (t : State) → follow s (take i []) ≡ some t → Meets D (play mark n (concat (take i [])) w) t
+      here zero l t h = rw (play-nil mark n w) (even-meets mark n D w s t gs E begun (follow-nil s t h))
       here (suc i) l t h = absurd (omega arith)
 
   -- a block, and those of the order behind its entry
   one-block :
-      (d : ℕ) (ds : List ℕ) (w : Traced) (s t : State) (gs : ℕ → List Given) → Even mark n D w s gs → advance s d ≡ some t → (en : EntryHad mark n D w d t gs)
+      (d : ℕ) (ds : List ℕ) (w : Traced) (s t : State) (gs : ℕ → List Given) → Even mark n D w s gs → Begun w → advance s d ≡ some t
+      → (en : EntryHad mark n D w d t gs)
       → Blocks (play mark n (en .moves) w) t (en .rests) ds → Blocks w s gs (d ∷ ds)
-  one-block d ds w s t gs E a en B =
+  one-block d ds w s t gs E begun a en B =
       let p = play-append mark n (en .moves) (concat (B .blocks)) w in
       record {
         blocks = en .moves ∷ B .blocks;
         one-each = ap suc (B .one-each);
         by-worker = calls;
         words = machine-append (en .moves) (concat (B .blocks)) (en .words) (B .words);
-        follows = cells;
+        follows = meets;
         rests = B .rests;
         even = rw p (B .even);
         kept = λ e. rw p (B .kept e ∙ en .kept e);
@@ -115,18 +129,23 @@ module _ (mark n D : ℕ) (least : 8 ≤ n) (most : n ≤ 64) (final : State) wh
       calls zero l = en .by-worker
       calls (suc i) l = B .by-worker i (omega arith)
 
-      cells : (i : ℕ) → i ≤ suc (length ds) → (r : State) → follow s (take i (d ∷ ds)) ≡ some r → cellsOf (play mark n (concat (take i (en .moves ∷ B .blocks))) w .world .image) ≡ r .cells
-      cells zero l r h = rw (play-nil mark n w) (even-cells mark n D w s gs E ∙ ap (λ (q : State). q .cells) (follow-nil s r h))
-      cells (suc i) l r h = rw (play-append mark n (en .moves) (concat (take i (B .blocks))) w) (B .follows i (omega arith) r (sym (follow-first s t d (take i ds) a) ∙ h))
+      meets :
+          (i : ℕ) → i ≤ suc (length ds) → (r : State) → follow s (take i (d ∷ ds)) ≡ some r
+          → Meets D (play mark n (concat (take i (en .moves ∷ B .blocks))) w) r
+      meets zero l r h = rw (play-nil mark n w) (even-meets mark n D w s r gs E begun (follow-nil s r h))
+      meets (suc i) l r h =
+          rw (play-append mark n (en .moves) (concat (take i (B .blocks))) w)
+          (B .follows i (omega arith) r (sym (follow-first s t d (take i ds) a) ∙ h))
 
   more-blocks : (d : ℕ) (ds : List ℕ) → Has ds → Has (d ∷ ds)
-  more-blocks d ds more w s gs E able f = by (advance s d) refl
+  more-blocks d ds more w s gs E begun able f = by (advance s d) refl
     where
       by : (o : Option State) → advance s d ≡ o → Blocks w s gs (d ∷ ds)
       by none a = absurd (follow-stuck s final d ds a f)
       by (some t) a =
           let en = entry mark n D w s t gs E able least most d a in
-          one-block d ds w s t gs E a en (more (play mark n (en .moves) w) t (en .rests) (en .even) (en .able) (sym (follow-first s t d ds a) ∙ f))
+          one-block d ds w s t gs E begun a en
+          (more (play mark n (en .moves) w) t (en .rests) (en .even) (en .begun begun) (en .able) (sym (follow-first s t d ds a) ∙ f))
 
   all-blocks : (order : List ℕ) → Has order
   all-blocks [] = no-blocks
@@ -160,21 +179,25 @@ rest-idle mark n D w s gs E e d l = by (E .level .stands d l)
 pub orders-had :
     (mark n : ℕ) → 8 ≤ n → n ≤ 64
     → (m : Image) → Rested mark n m → (gs : List Given) → admissible mark n (workers m) gs ≡ true
-    → ((d : ℕ) → d < workers m → at n m (field Finished d) + length gs < 2 ^ 64)
+    → ((d : ℕ) → d < workers m → at n m (field Finished d) + length (ofWorker d gs) < 2 ^ 64)
     → (order : List ℕ) (final : State) → follow (initial n (workers m) (cellsOf m) gs) order ≡ some final → noneLeft (final .queues) ≡ true
     → Had mark n m gs order
 orders-had mark n least most m rested gs admitted room order final followed ended =
     let D = workers m in
     let s = initial n D (cellsOf m) gs in
-    let waits : ℕ → List Given = λ d. ofWorker d gs in
-    let B = all-blocks mark n D least most final order (from m) s waits (rested-even mark n m gs rested room) (λ e l. admitted-able mark n D e gs admitted) followed in
+    let waits : ℕ → List Given = λ d. numbered (at n m (field Finished d)) (ofWorker d gs) in
+    let able : (e : ℕ) → e < D → Able n e (waits e) =
+    λ e l. numbered-able n e (at n m (field Finished e)) (ofWorker e gs) (admitted-able mark n D e gs admitted)
+    in
+    let B = all-blocks mark n D least most final order (from m) s waits (rested-even mark n m gs rested room) (λ e. idle-begun _ (idle-at e)) able followed in
     let end = rest-idle mark n D (play mark n (concat (B .blocks)) (from m)) final (B .rests) (B .even) ended in
     record {
       blocks = B .blocks;
       one-each = B .one-each;
       by-worker = B .by-worker;
       words = B .words;
-      follows = B .follows;
+      follows = λ i l t h. B .follows i l t h .cells;
+      stands = λ i l t h. B .follows i l t h .cursors;
       entered = λ d l. sym (append-nil (ofWorker d (play mark n (concat (B .blocks)) (from m) .trace .taken))) ∙ (rw (end d l .1) at (B .kept d));
       rests = λ d l. end d l .0;
     }

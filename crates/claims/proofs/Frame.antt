@@ -66,7 +66,7 @@ nearing-within n rd e s t h locks (Acquire a) (p, i, l, u, v) = subst (Within h)
 nearing-within n rd e s t h locks (Release a) (p, i, l, u, v) = subst (Within h) (sym l) (within-refl h)
 nearing-within n rd e s t h locks (Assign a z) (p, i, l, u, v) = subst (Within h) (sym l) (within-refl h)
 nearing-within n rd e s t h locks (Jump a b) (p, i, l) = subst (Within h) (sym l) (within-refl h)
-nearing-within n rd e s t h locks Finish (p, i, l) = subst (Within h) (sym l) (within-refl h)
+nearing-within n rd e s t h locks Finish (p, i, l, f) = subst (Within h) (sym l) (within-refl h)
 nearing-within n rd e s t h locks Unknown z = absurd z
 
 pub some-steps : {n k : ℕ} {code : Code} → Valid n k code → 0 < k
@@ -124,7 +124,7 @@ module _ (n : ℕ) (rd rd′ : Memory) (e locks : ℕ) (A : Agree rd rd′ e loc
     λ m. spareVal-same ∙ (v m ∙ eval-same n h (wordIn n rd e) (wordIn n rd′ e) (λ x k l. sym (word-same h x w k)) z (c a z refl .0) (c a z refl .1)),
   )
   nearing-same s t h (Jump a b) w c (p, i, l) = (p, A .fields Intent ∙ i, l)
-  nearing-same s t h Finish w c (p, i, l) = (p, A .fields Intent ∙ i, l)
+  nearing-same s t h Finish w c (p, i, l, f) = (p, A .fields Intent ∙ i, l, λ m. A .fields Finished ∙ (f m ∙ sym (A .fields Number)))
   nearing-same s t h Unknown w c z = z
 
   due-same : (s : ℕ) (x : Op) → Due n rd e s locks x → Due n rd′ e s locks x
@@ -176,7 +176,7 @@ phase-same n rd rd′ e g c locks j (fresh t l s h p o m) A =
     nearing-same n rd rd′ e l A 0 t 0 (opAt n rd e 0) (within-none l)
     (λ a z q. (subst (λ (h : ℕ). coveredIn h z ≡ true) (held-zero (codeIn n rd e)) (s .valid .operands 0 a z (some-steps (s .valid)) q), expr-range n (codeIn n rd e 0) a z (s .valid .ranges 0 (some-steps (s .valid))) q)) m
     in
-    fresh t l (sectioned-same n rd rd′ e l A s) (entered-kept n rd rd′ e (keeps n rd rd′ e l A) (A .owns) g h) (A .fields Pc ∙ p) (A .fields Owned ∙ o)
+    fresh t l (sectioned-same n rd rd′ e l A s) (entered-kept n rd rd′ e (keeps n rd rd′ e l A) (A .owns) (A .fields Number) g h) (A .fields Pc ∙ p) (A .fields Owned ∙ o)
     (subst (Nearing n rd′ e 0 t 0 l) (sym (op-kept n rd rd′ e (keeps n rd rd′ e l A) 0)) m′)
 phase-same n rd rd′ e g c locks j (due s l k m q) A =
     subst (λ (x : Op). Phase n rd′ e g (on s (targetTurn n rd′ e x)) l 0) (op-kept n rd rd′ e (keeps n rd rd′ e l A) s)

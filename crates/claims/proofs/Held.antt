@@ -19,10 +19,11 @@ use Rattle.section.specs.declared.Op.the-variants.{Acquire, Release, Assign, Ju
 use Rattle.engine.specs.Cursor.{Cursor, cursorAt, placed}
 use Rattle.engine.specs.Turn.{Outcome, stored, jumped, unheld, waiting, resting as rests, refused, turnAt}
 use Rattle.engine.specs.World.{world, leaves}
-use Rattle.engine.proofs.Standing.{Full, sayable}
+use Rattle.engine.proofs.Placed.{Full, sayable}
 use Rattle.recovery.specs.Recovery.{targetTurn}
 use Rattle.claims.specs.Reference.{Given, State, follow, initial}
-use Rattle.claims.specs.Calls.{Traced, but, recorded, isPc, turnTrace, turnBy}
+use Rattle.claims.specs.Events.{but}
+use Rattle.claims.specs.Calls.{Traced, recording, isPc, turnTrace, turnBy}
 use Rattle.claims.proofs.Invariant.{opAt, heldAt, Nearing, Phase, resting, fresh, due, unlocking, unlocked, between, ended, Live, Crashed, Mirrors}
 use Rattle.claims.proofs.Turns.{Touches, inRecord, ownWord, ownCell, takes, frees, Stepped, Went}
 use Rattle.claims.proofs.LiveTurn.{live-turn, but-same, but-self, live-cursors}
@@ -122,13 +123,13 @@ module _ (mark n D : ℕ) (cells : List ℕ) (w : Traced) (d : ℕ) (r : Running
     where
       by : (b : Bool) → isPc p ≡ b
           → Reached mark n D cells (put (w .world .left) (w .world .image) (indexOf n p) v)
-          (cond (isPc p && not (eqb (w .world .left) 0)) (recorded (w .trace) d (eqb (rd (field Pc d)) 0)) (w .trace) .begun)
-          (cond (isPc p && not (eqb (w .world .left) 0)) (recorded (w .trace) d (eqb (rd (field Pc d)) 0)) (w .trace) .order)
+          (cond (isPc p && not (eqb (w .world .left) 0)) (recording (w .trace) d (eqb (rd (field Pc d)) 0)) (w .trace) .begun)
+          (cond (isPc p && not (eqb (w .world .left) 0)) (recording (w .trace) d (eqb (rd (field Pc d)) 0)) (w .trace) .order)
       by true h =
           let ne : eqb (w .world .left) 0 ≡ false = ne-eqb (w .world .left) 0 (λ q. omega arith) in
           let k = mirror-counts n D rd (r .reached .state) (w .trace .jumps d) (w .trace .last d) d p v c h mi in
           rw (h, ne)
-          (stored-reached p v l (recorded (w .trace) d (eqb (rd (field Pc d)) 0) .begun) (recorded (w .trace) d (eqb (rd (field Pc d)) 0) .order) (k .2 .0) t
+          (stored-reached p v l (recording (w .trace) d (eqb (rd (field Pc d)) 0) .begun) (recording (w .trace) d (eqb (rd (field Pc d)) 0) .order) (k .2 .0) t
           (order-grows n D rd (r .reached .state) (k .2 .0) (w .trace .jumps d) (w .trace .last d) d cells (w .trace .begun) (w .trace .order) dl (k .1) (r .reached .followed) (k .2 .1))
           (k .2 .2))
       by false h =
@@ -167,8 +168,8 @@ module _ (mark n D : ℕ) (cells : List ℕ) (w : Traced) (d : ℕ) (r : Running
       by : (b : Bool)
           → Live n D (at n (put (w .world .left) (w .world .image) (indexOf n p) v)) (cursorAt (placed (w .world .cursors) d c)) (but (r .locks) d l) (but (w .trace .jumps) d (cond b 0 (w .trace .jumps d))) (w .trace .last)
           → Live n D (at n (put (w .world .left) (w .world .image) (indexOf n p) v)) (cursorAt (placed (w .world .cursors) d c)) (but (r .locks) d l)
-          (cond (b && not (eqb (w .world .left) 0)) (recorded (w .trace) d (eqb (rd (field Pc d)) 0)) (w .trace) .jumps)
-          (cond (b && not (eqb (w .world .left) 0)) (recorded (w .trace) d (eqb (rd (field Pc d)) 0)) (w .trace) .last)
+          (cond (b && not (eqb (w .world .left) 0)) (recording (w .trace) d (eqb (rd (field Pc d)) 0)) (w .trace) .jumps)
+          (cond (b && not (eqb (w .world .left) 0)) (recording (w .trace) d (eqb (rd (field Pc d)) 0)) (w .trace) .last)
       by true x = rw left-over x
       by false x =
           subst (λ (f : ℕ → ℕ). Live n D (at n (put (w .world .left) (w .world .image) (indexOf n p) v)) (cursorAt (placed (w .world .cursors) d c)) (but (r .locks) d l) f (w .trace .last))

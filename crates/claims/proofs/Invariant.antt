@@ -74,7 +74,7 @@ module _ (n : ℕ) (rd : Memory) (d : ℕ) where
       × (1 ≤ t → rd (field (spareAddr n rd d) d) ≡ indexOf n (operand d a))
       × (2 ≤ t → rd (field (spareVal n rd d) d) ≡ eval (wordIn n rd d) e)
   Nearing s t h locks (Jump a b) = (t ≡ 0) × (rd (field Intent d) ≡ h) × (locks ≡ h)
-  Nearing s t h locks Finish = (t ≤ 1) × (rd (field Intent d) ≡ h) × (locks ≡ h)
+  Nearing s t h locks Finish = (t ≤ 1) × (rd (field Intent d) ≡ h) × (locks ≡ h) × (1 ≤ t → rd (field Finished d) ≡ rd (field Number d))
   Nearing s t h locks Unknown = ⊥
 
   -- what is owned, intended and locked while step s's target store is due: by the instruction
@@ -96,6 +96,7 @@ module _ (n : ℕ) (rd : Memory) (d : ℕ) where
   -- the record holds the section as it was submitted
   pub record Entered (g : Given) : Type 0 where
     pub by : g .worker ≡ d
+    pub numbered : g .number ≡ rd (field Number d)
     pub code : (i : ℕ) → i < rd (field Count d) → getD (g .code) i 0 ≡ rd (step d i)
     pub size : length (g .args ++ replicate (n - 8) 0) ≡ n
     pub args : (i : ℕ) → i < n → getD (g .args ++ replicate (n - 8) 0) i 0 ≡ rd (own d i)

@@ -27,6 +27,7 @@ pub mod Counting
 pub mod Jumping
 pub mod PcTurn
 pub mod MirrorTurn
+pub mod Writes
 -- Cuts and recovery: a memory that keeps the invariant is one that a recovery accepts, so is one after any prefix of a recovery's
 -- stores, and after all of them the invariant holds.
 pub mod Covers
@@ -52,18 +53,35 @@ pub mod Turning
 pub mod Called
 pub mod Moves
 pub mod Played
+pub mod Enough
 pub mod Resting
+pub mod Keeping
+pub mod Untouched
+pub mod Behind
 -- Ranks and rounds: each turn that stores or moves brings its worker nearer to its end, some open worker's turn always does, and
 -- so rounds enough leave every worker idle.
 pub mod Rank
 pub mod Progress
 pub mod Settling
+pub mod Working
+pub mod Answers
 -- Demand 3: after any calls and cuts a recovery is accepted, and runs of 384 rounds a worker leave all at rest.
 pub mod Durable
 -- Demand 2, first half: with no cut the cells are those that the reference machine gives for the sections taken.
 pub mod Pending
 pub mod Pairing
 pub mod Linear
+pub mod RunTurns
+-- What a planner may be told: which numbers a worker has begun, by its record, after any calls and cuts.
+pub mod Numbers
+pub mod Recorded
+pub mod Telling
+pub mod Events
+pub mod Admitted
+pub mod Reading
+pub mod FromRest
+pub mod Once
+pub mod Through
 -- Demand 2, second half: every order that the reference machine follows to its end is had, entry by entry, each by a block of
 -- one worker's calls.
 pub mod OrderTurn

@@ -21,10 +21,11 @@ use Rattle.engine.specs.Cursor.{Cursor, on, cursorAt, placed, allIdle}
 use Rattle.engine.specs.Turn.{turnAt}
 use Rattle.engine.specs.World.{outcomeAt, outcome}
 use Rattle.engine.specs.Submit.{submission, submitAnswer, submitLeaves}
-use Rattle.engine.proofs.Standing.{placed-same, placed-other}
+use Rattle.engine.proofs.Placed.{placed-same, placed-other}
 use Rattle.engine.proofs.Planned.{idle-is}
 use Rattle.claims.specs.Reference.{Given, given, initial}
-use Rattle.claims.specs.Calls.{Traced, traced, but, turnBy, turnedAt, ranBy, submitTrace, Call, submits, turns, runs, recovers, Move, whole, cut, call, lent, move, play, from, recovering, plain, callable, machine}
+use Rattle.claims.specs.Events.{but}
+use Rattle.claims.specs.Calls.{Traced, traced, turnBy, turnedAt, ranBy, submitTrace, Call, submits, turns, runs, recovers, Move, whole, cut, call, lent, move, play, from, recovering, plain, callable, machine}
 use Rattle.claims.specs.Claims.{Idle, Linearizable, after}
 use Rattle.claims.proofs.LiveTurn.{but-same, but-other}
 use Rattle.claims.proofs.Progress.{isMoving}
@@ -66,7 +67,7 @@ module _ (mark n D : ℕ) (cells : List ℕ) where
     m = w .world .image
 
     abbrev x : Given
-    x = given d args ws
+    x = given d k args ws
 
     -- the pcs stay
     submitted-pcs : (e : ℕ) → e < D → at n m (field Pc e) ≡ at n (putAll n left m (submission n d k args ws)) (field Pc e)
@@ -100,10 +101,10 @@ module _ (mark n D : ℕ) (cells : List ℕ) where
 
   submit-call :
       (w : Traced) (d k : ℕ) (args ws : List ℕ) → 8 ≤ n → length args ≡ 8 → Running mark n D cells w → Paired mark n D cells w
-      → Paired mark n D cells (traced (submitLeaves n (w .world) d k args ws (submitAnswer mark n (w .world) d k ws)) (submitTrace mark n (w .trace) (given d args ws) (submitAnswer mark n (w .world) d k ws)))
+      → Paired mark n D cells (traced (submitLeaves n (w .world) d k args ws (submitAnswer mark n (w .world) d k ws)) (submitTrace mark n (w .trace) (given d k args ws) (submitAnswer mark n (w .world) d k ws)))
   submit-call w d k args ws wide full r paired = by (submitAnswer mark n (w .world) d k ws) refl
     where
-      by : (a : Submitted) → submitAnswer mark n (w .world) d k ws ≡ a → Paired mark n D cells (traced (submitLeaves n (w .world) d k args ws a) (submitTrace mark n (w .trace) (given d args ws) a))
+      by : (a : Submitted) → submitAnswer mark n (w .world) d k ws ≡ a → Paired mark n D cells (traced (submitLeaves n (w .world) d k args ws a) (submitTrace mark n (w .trace) (given d k args ws) a))
       by Taken e = submit-paired w d k args ws wide full r (taken-as mark n (w .world) d k ws e) paired (w .world .left)
       by (Refused q) e = paired
 
@@ -135,7 +136,7 @@ module _ (mark n D : ℕ) (cells : List ℕ) where
           let f = t .falls e in
           let k = b .spare .stores in
           record { spare = t .spare; paired = paired-turned w d (b .spare .running) l (omega arith) (b .paired) }
-      by t false e = subst Both (sym (t .same e)) b
+      by t false e = let q = t .same e .1 in record { spare = t .spare; paired = rw q (b .paired) }
 
   run-call : (w : Traced) (r : ℕ) → Running mark n D cells w → plenty mark n D cells ≤ w .world .left → Paired mark n D cells w → Paired mark n D cells (ranBy mark n w r)
   run-call w r h l paired =

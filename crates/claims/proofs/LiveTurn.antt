@@ -15,7 +15,8 @@ use Rattle.image.specs.Place.{Place, cell, lock, field, own, sameField, Memory,
 use Rattle.engine.specs.Cursor.{Cursor}
 use Rattle.engine.specs.Turn.{Outcome, stored, jumped, unheld, waiting, resting, refused}
 use Rattle.claims.specs.Reference.{Given}
-use Rattle.claims.specs.Calls.{isPc, but}
+use Rattle.claims.specs.Events.{but}
+use Rattle.claims.specs.Calls.{isPc}
 use Rattle.claims.proofs.Invariant.{Phase, Live}
 use Rattle.claims.proofs.Turns.{Touches, inRecord, ownWord, ownCell, takes, frees, Stepped, Went}
 use Rattle.claims.proofs.Frame.{Agree, phase-same}

@@ -204,7 +204,7 @@ module _ (n : ℕ) (rd : Memory) (d : ℕ) (g : Given) (k j locks : ℕ) (b : Be
         let w = rd (field Number d) in
         let rd′ = upd rd (field Finished d) w in
         let f : rd′ (field Finished d) ≤ rd′ (field Number d) = rw (upd-same rd (field Finished d) w) (omega arith) in
-        (locks, inRecord Finished w, near n rd′ d g k j 1 locks Finish (before-kept n rd rd′ d g k j (quiet-finished n rd d w) f b) o (omega arith, r .1, r .2))
+        (locks, inRecord Finished w, near n rd′ d g k j 1 locks Finish (before-kept n rd rd′ d g k j (quiet-finished n rd d w) f b) o (omega arith, r .1, r .2, λ m. upd-same rd (field Finished d) w))
     finish-turn (suc zero) r =
         let rd′ = upd rd (field Pc d) 0 in
         let s : Sectioned n rd′ d = record { valid = b .sectioned .valid; numbered = b .sectioned .numbered; unfinished = b .sectioned .unfinished } in

@@ -33,7 +33,7 @@ use Rattle.claims.proofs.Ready.{step-behind}
 use Rattle.claims.proofs.OrderTurn.{View}
 use Rattle.claims.proofs.OrderLog.{turnsOf, Logs, Wrote, log-turns}
 use Rattle.claims.proofs.OrderLevel.{heldsOf, Works, Even, works-on, even-after}
-use Rattle.claims.proofs.OrderBlock.{Block, turns-calls, turns-words, owning-kept, start-view, small, here, mine-held, reads-alike}
+use Rattle.claims.proofs.OrderBlock.{Block, on-begun, turns-calls, turns-words, owning-kept, start-view, small, here, mine-held, reads-alike}
 use Rattle.claims.proofs.Frame.{eval-same}
 
 -- the words of a list after one changed, where a function changes alike
@@ -136,4 +136,6 @@ module _
         words = turns-words 4 d (small mark n D w s gs E d dl W);
         even = assign-even;
         entered = assign-wrote .view .entered;
+        others = assign-wrote .view .others;
+        begun = on-begun _ (k + 1) (assign-wrote .view .mine) (omega arith);
       })

@@ -1,8 +1,9 @@
 -- The block of an instruction: the turns of one worker that stands before it, and the world level again with the reference
--- machine's state after it. Here what all instructions share, and the blocks of a jump and of a finish.
+-- machine's state after it. No block leaves its worker before a section's first instruction, nor moves another worker. Here
+-- what all instructions share, and the blocks of a jump and of a finish.
 use Prim.Native.Nat.{ℕ, suc, zero, _+_, _-_, _^_, _<_}
 use mathlib.Core.Path.{_≡_, refl, ap, subst, _∙_, sym, fun-ext}
-use mathlib.Core.Logic.{inl, inr}
+use mathlib.Core.Logic.{_≢_, inl, inr}
 use mathlib.Core.Bool.{Bool, true, false, cond}
 use mathlib.Core.List.{List, [], _∷_, map}
 use lib.ListN.{getD, set}
@@ -20,10 +21,11 @@ use Rattle.section.specs.declared.Op.the-variants.{Jump, Finish}
 use Rattle.section.specs.Op.{opOf}
 use Rattle.section.proofs.Held.{after-jump}
 use Rattle.section.proofs.Ranges.{jump-range}
-use Rattle.engine.specs.Cursor.{idle, on, cursorAt}
+use Rattle.engine.specs.Cursor.{Cursor, idle, on, cursorAt}
 use Rattle.engine.specs.Turn.{operand, codeIn, wordIn, jumped}
 use Rattle.claims.specs.Reference.{job, State, state, Given, start, readIn, onto}
-use Rattle.claims.specs.Calls.{Traced, but, Move, play, machine}
+use Rattle.claims.specs.Events.{but}
+use Rattle.claims.specs.Calls.{Traced, Move, play, machine}
 use Rattle.claims.specs.Claims.{callsOf}
 use Rattle.claims.proofs.Invariant.{heldAt}
 use Rattle.claims.proofs.LiveTurn.{Owning, but-self}
@@ -39,6 +41,14 @@ pub record Block (mark n D : ℕ) (w : Traced) (d : ℕ) (t : State) (gs : ℕ �
   pub words : machine moves ≡ true
   pub even : Even mark n D (play mark n moves w) t gs
   pub entered : play mark n moves w .trace .taken ≡ w .trace .taken
+  pub others : (e : ℕ) → e ≢ d → cursorAt (play mark n moves w .world .cursors) e ≡ cursorAt (w .world .cursors) e
+  pub begun : cursorAt (play mark n moves w .world .cursors) d ≢ on 0 0
+
+pub idle-begun : (c : Cursor) → c ≡ idle → c ≢ on 0 0
+idle-begun c e h = let z : _≡_ {A = ℕ} 0 1 = cc in omega arith
+
+pub on-begun : (c : Cursor) (k : ℕ) → c ≡ on k 0 → 0 < k → c ≢ on 0 0
+on-begun c k e l h = let z : k ≡ 0 = cc in omega arith
 
 pub turns-calls : (k d : ℕ) → callsOf d (turnsOf k d) ≡ true
 turns-calls zero d = refl
@@ -103,6 +113,10 @@ module _
     jump-below true = W .valid .jumps k a b (W .below) o .1
     jump-below false = step-behind n (rd (field Count d)) (codeIn n rd d) (W .valid) k (Jump a b) (W .below) o refl
 
+    jump-on : (q : Bool) → 0 < cond q b (suc k)
+    jump-on true = let l = W .valid .jumps k a b (W .below) o .0 in omega arith
+    jump-on false = omega arith
+
     jump-held : (q : Bool) → heldAt n rd d k ≡ heldAt n rd d (cond q b (suc k))
     jump-held true = sym (W .valid .jumps k a b (W .below) o .2)
     jump-held false = sym (after-jump (codeIn n rd d) k a b o)
@@ -135,7 +149,16 @@ module _
     unfolding jump-to
     jump-block =
         let r = reads-alike a (jump-range n (rd (step d k)) a b (W .valid .ranges k (W .below)) o) in
-        rw r (record { moves = turnsOf 1 d; by-worker = turns-calls 1 d; words = turns-words 1 d small; even = jump-even; entered = jump-view .entered })
+        rw r
+        (record {
+          moves = turnsOf 1 d;
+          by-worker = turns-calls 1 d;
+          words = turns-words 1 d small;
+          even = jump-even;
+          entered = jump-view .entered;
+          others = jump-view .others;
+          begun = on-begun _ jump-to (jump-view .mine) (jump-on (eqb (wordIn n rd d a) 0));
+        })
 
   -- ---- a finish
 
@@ -179,10 +202,20 @@ module _
           pc = upd-same told (field Pc d) 0;
           intent = W .intent ∙ finish-none;
           owned = W .owned ∙ finish-none;
+          numbers = rw (upd-same rd (field Finished d) (rd (field Number d))) (W .numbers);
           room = rw (upd-same rd (field Finished d) (rd (field Number d))) (W .room);
         }))
         (owning-kept D rd emptied (heldsOf (s .queues)) d (heldOf (map (start n) (gs d))) (λ b. refl) (waiting-held n (gs d) ∙ sym (mine-held ∙ (W .held ∙ finish-none))) (E .level .owning))
         (E .level .size) (E .level .cells)
 
     pub finish-block : Block mark n D w d (state (s .cells) (set (s .queues) d (map (start n) (gs d)))) gs
-    finish-block = record { moves = turnsOf 3 d; by-worker = turns-calls 3 d; words = turns-words 3 d small; even = finish-even; entered = finish-view .entered }
+    finish-block =
+        record {
+          moves = turnsOf 3 d;
+          by-worker = turns-calls 3 d;
+          words = turns-words 3 d small;
+          even = finish-even;
+          entered = finish-view .entered;
+          others = finish-view .others;
+          begun = idle-begun _ (finish-view .mine);
+        }

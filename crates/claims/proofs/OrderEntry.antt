@@ -1,8 +1,8 @@
 -- One entry of an order that the reference machine allows: the worker's turns, after a submit where it is idle. Of each worker
--- the sections taken, with those that wait, are as before.
+-- the sections taken, with those that wait, are as before; and none is left before a section's first instruction.
 use Prim.Native.Nat.{ℕ, _+_, _^_, _<_, _≤_}
 use mathlib.Core.Path.{_≡_, refl, ap, subst, _∙_, sym}
-use mathlib.Core.Logic.{inl, inr}
+use mathlib.Core.Logic.{_≢_, inl, inr}
 use mathlib.Core.Bool.{true}
 use mathlib.Core.Option.{some}
 use mathlib.Core.List.{List, [], _∷_, _++_, map, append-assoc}
@@ -16,11 +16,12 @@ use Rattle.image.specs.Place.{field}
 use Rattle.image.specs.Image.{at}
 use Rattle.engine.specs.Cursor.{idle, on, cursorAt}
 use Rattle.claims.specs.Reference.{State, Given, start, advance}
-use Rattle.claims.specs.Calls.{Traced, but, Move, move, play, machine, callable, submits}
+use Rattle.claims.specs.Events.{but}
+use Rattle.claims.specs.Calls.{Traced, Move, move, play, machine, callable, submits}
 use Rattle.claims.specs.Claims.{callsOf, ofWorker}
 use Rattle.claims.proofs.LiveTurn.{but-same, but-other, changed}
 use Rattle.claims.proofs.OrderTurn.{view-few}
-use Rattle.claims.proofs.OrderLevel.{Idles, Stand, Even, even-view}
+use Rattle.claims.proofs.OrderLevel.{Idles, Stand, Even, Begun, even-view}
 use Rattle.claims.proofs.OrderBlock.{Block}
 use Rattle.claims.proofs.OrderStep.{none-some, step-block}
 use Rattle.claims.proofs.OrderSubmit.{Able, nextNumber, submitNext, next-room, next-view, next-even}
@@ -49,6 +50,16 @@ pub record EntryHad (mark n D : ℕ) (w : Traced) (d : ℕ) (t : State) (gs : �
   pub able : (e : ℕ) → e < D → Able n e (rests e)
   pub even : Even mark n D (play mark n moves w) t rests
   pub kept : (e : ℕ) → ofWorker e (play mark n moves w .trace .taken) ++ rests e ≡ ofWorker e (w .trace .taken) ++ gs e
+  pub begun : Begun w → Begun (play mark n moves w)
+
+block-begun :
+    (mark n D : ℕ) (w : Traced) (d : ℕ) (t : State) (gs : ℕ → List Given) → (b : Block mark n D w d t gs)
+    → ((e : ℕ) → e ≢ d → cursorAt (w .world .cursors) e ≢ on 0 0) → Begun (play mark n (b .moves) w)
+block-begun mark n D w d t gs b h e = by (ℕ-discrete e d)
+  where
+    by : Dec (e ≡ d) → cursorAt (play mark n (b .moves) w .world .cursors) e ≢ on 0 0
+    by (yes p) = rw p (b .begun)
+    by (no p) = rw (b .others e p) (h e p)
 
 -- an entry is of a worker that has a section
 no-queue : (s t : State) (d : ℕ) → getD (s .queues) d [] ≡ [] → advance s d ≡ some t → ⊥
@@ -75,6 +86,7 @@ module _
         able = able;
         even = b .even;
         kept = λ e. ap (λ (l : List Given). ofWorker e l ++ gs e) (b .entered);
+        begun = λ h. block-begun mark n D w d t gs b (λ e p. h e);
       }
 
   -- a submit, and the first instruction's turns
@@ -94,6 +106,9 @@ module _
 
     after-entered : after .trace .taken ≡ w .trace .taken ++ (g ∷ [])
     after-entered = next-view mark n D w s gs E d entry-worker least most idles g rest waits (fits .0) .entered
+
+    after-others : (e : ℕ) → e ≢ d → cursorAt (after .world .cursors) e ≡ cursorAt (w .world .cursors) e
+    after-others = next-view mark n D w s gs E d entry-worker least most idles g rest waits (fits .0) .others
 
     submit-block : Stand n (at n (after .world .image)) d (cursorAt (after .world .cursors) d) (getD (s .queues) d []) (but gs d rest d) → Block mark n D after d t (but gs d rest)
     submit-block (inl i) =
@@ -122,6 +137,7 @@ module _
           able = λ e l. changed (λ (x : ℕ) (l : List Given). Able n x l) gs d rest (fits .1) e (λ h. able e l);
           even = b .even;
           kept = λ e. ap (λ (l : List Given). ofWorker e l ++ but gs d rest e) (b .entered ∙ after-entered) ∙ kept-one d (w .trace .taken) rest g gs (fits .0 .by) waits e;
+          begun = λ h. block-begun mark n D after d t (but gs d rest) b (λ e p. rw (after-others e p) (h e));
         }
 
   private-entry : Stand n (at n (w .world .image)) d (cursorAt (w .world .cursors) d) (getD (s .queues) d []) (gs d) → (l : List Given) → gs d ≡ l → EntryHad mark n D w d t gs

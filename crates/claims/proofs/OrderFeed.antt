@@ -1,11 +1,12 @@
 -- The start of an order: an image at rest is level with the reference machine fed some sections, all of them waiting
--- (`rested-even`), since the machine has in each worker's queue those of that worker and holds nothing. Sections that the check
--- admits can be submitted (`admitted-able`), by induction on the list.
-use Prim.Native.Nat.{ℕ, suc, _+_, _^_, _<_, _≤_}
+-- (`rested-even`), since the machine has in each worker's queue those of that worker and holds nothing; they bear the numbers
+-- behind the worker's finished one, of which the machine reads none. Sections that the check admits can be submitted
+-- (`admitted-able`), also under other numbers (`numbered-able`), by induction on the list.
+use Prim.Native.Nat.{ℕ, suc, _+_, _^_, _<_}
 use mathlib.Core.Path.{_≡_, refl, ap, _∙_, sym}
 use mathlib.Core.Logic.{inl}
 use mathlib.Core.Bool.{Bool, true, false, cond, _&&_, true≢false, and-eq-true-iff}
-use mathlib.Core.List.{List, [], _∷_}
+use mathlib.Core.List.{List, [], _∷_, map}
 use lib.ListN.{length, getD, List·getD-eq-default}
 use lib.Dec.{eqb, ltb}
 use borrow.Author.Tests.{eqb-true}
@@ -20,9 +21,9 @@ use Rattle.image.proofs.Header.{header-sized}
 use Rattle.image.proofs.Cells.{cells-length, cells-at}
 use Rattle.section.specs.Check.{codeOf, check, passes}
 use Rattle.section.proofs.Passing.{passed-is}
-use Rattle.claims.specs.Reference.{Given, initial}
+use Rattle.claims.specs.Reference.{Job, Given, given, start, initial}
 use Rattle.claims.specs.Calls.{from, areWords}
-use Rattle.claims.specs.Claims.{ofWorker, Rested, admissible}
+use Rattle.claims.specs.Claims.{ofWorker, numbered, Rested, admissible}
 use Rattle.claims.proofs.OrderLevel.{heldOf, heldsOf, Even}
 use Rattle.claims.proofs.OrderBlock.{waiting-held}
 use Rattle.claims.proofs.OrderSubmit.{Able}
@@ -67,19 +68,31 @@ admitted-able mark n D d (g ∷ gs) h = by (admitted-able mark n D d gs) (eqb (g
         )
     by more false e = more (tests .4)
 
-of-length : (d : ℕ) (gs : List Given) → length (ofWorker d gs) ≤ length gs
-of-length d [] = omega arith
-of-length d (g ∷ gs) = by (eqb (g .worker) d) (of-length d gs)
-  where
-    by : (b : Bool) → length (ofWorker d gs) ≤ length gs → length (cond b (g ∷ ofWorker d gs) (ofWorker d gs)) ≤ suc (length gs)
-    by true l = omega arith
-    by false l = omega arith
+-- ---- sections under the numbers that follow k: the machine starts them alike, and they can be submitted as before
+
+numbered-starts : (n k : ℕ) (gs : List Given) → map (start n) (numbered k gs) ≡ map (start n) gs
+numbered-starts n k [] = refl
+numbered-starts n k (g ∷ gs) = ap (λ (js : List Job). start n g ∷ js) (numbered-starts n (k + 1) gs)
+
+numbered-length : (k : ℕ) (gs : List Given) → length (numbered k gs) ≡ length gs
+numbered-length k [] = refl
+numbered-length k (g ∷ gs) = ap suc (numbered-length (k + 1) gs)
+
+numbered-twice : (k : ℕ) (gs : List Given) → numbered k (numbered k gs) ≡ numbered k gs
+numbered-twice k [] = refl
+numbered-twice k (g ∷ gs) = ap (λ (hs : List Given). given (g .worker) (k + 1) (g .args) (g .code) ∷ hs) (numbered-twice (k + 1) gs)
+
+pub numbered-able : (n d k : ℕ) (gs : List Given) → Able n d gs → Able n d (numbered k gs)
+numbered-able n d k [] a = tt
+numbered-able n d k (g ∷ gs) a =
+    let f = a .0 in
+    (record { by = f .by; eight = f .eight; arg-words = f .arg-words; code-words = f .code-words; passed = f .passed }, numbered-able n d (k + 1) gs (a .1))
 
 -- ---- all idle
 
 pub rested-even :
-    (mark n : ℕ) (m : Image) (gs : List Given) → Rested mark n m → ((d : ℕ) → d < workers m → at n m (field Finished d) + length gs < 2 ^ 64)
-    → Even mark n (workers m) (from m) (initial n (workers m) (cellsOf m) gs) (λ (d : ℕ). ofWorker d gs)
+    (mark n : ℕ) (m : Image) (gs : List Given) → Rested mark n m → ((d : ℕ) → d < workers m → at n m (field Finished d) + length (ofWorker d gs) < 2 ^ 64)
+    → Even mark n (workers m) (from m) (initial n (workers m) (cellsOf m) gs) (λ (d : ℕ). numbered (at n m (field Finished d)) (ofWorker d gs))
 rested-even mark n m gs r room =
     let s = initial n (workers m) (cellsOf m) gs in
     let z = header-sized mark n m (r .header) in
@@ -90,12 +103,13 @@ rested-even mark n m gs r room =
       level = record {
         stands = λ d l. inl (record {
           cursor = idle-at d;
-          queue = initial-at n (workers m) (cellsOf m) gs d l;
+          queue = initial-at n (workers m) (cellsOf m) gs d l ∙ sym (numbered-starts n (at n m (field Finished d)) (ofWorker d gs));
           count = r .empty d l .0;
           pc = r .empty d l .1;
           intent = r .empty d l .2;
           owned = r .empty d l .3;
-          room = let a = room d l in let b = of-length d gs in omega arith;
+          numbers = sym (numbered-twice (at n m (field Finished d)) (ofWorker d gs));
+          room = rw (numbered-length (at n m (field Finished d)) (ofWorker d gs)) (room d l);
         });
         owning = record {
           locked = λ b d l p h. absurd (true≢false (sym h ∙ (ap (λ (x : ℕ). has x b) (initial-held n (workers m) (cellsOf m) gs d) ∙ has-none b)));

@@ -1,7 +1,8 @@
 -- A world level with a state of the reference machine, as it is between the blocks of an order: a worker is idle, and its
 -- queue is of sections not yet submitted (`Idles`); or it stands before an instruction of the queue's first, which its record
--- holds word by word (`Works`). The owner words name who holds the locks, and the cells are the state's. A change of one
--- worker's words, of its queue and of the cells keeps the others as they are (`even-after`).
+-- holds word by word (`Works`). The sections not yet submitted bear the numbers that come next. The owner words name who holds
+-- the locks, and the cells are the state's. A change of one worker's words, of its queue and of the cells keeps the others as
+-- they are (`even-after`). Where no worker has just submitted (`Begun`), each stands where the claims say (`even-stands`).
 use Prim.Native.Nat.{ℕ, _+_, _^_, _<_}
 use mathlib.Core.Path.{_≡_, refl, ap, subst, _∙_, sym, fun-ext}
 use mathlib.Core.Logic.{_≢_, _⊎_, inl, inr}
@@ -9,6 +10,7 @@ use mathlib.Core.Bool.{true}
 use mathlib.Core.List.{List, [], _∷_, map}
 use lib.ListN.{length, getD, set, length-set}
 use lib.Seq.{getD-set-same, getD-set-other}
+use borrow.Author.Tests.{ne-eqb}
 use native.Mathlib.Decide.{ℕ-discrete}
 use Rattle.image.specs.declared.Field.{Field}
 use Rattle.image.specs.declared.Field.the-variants.{Count, Pc, Intent, Owned, Number, Finished}
@@ -18,9 +20,11 @@ use Rattle.section.specs.Valid.{Valid}
 use Rattle.section.proofs.Held.{held-cong}
 use Rattle.engine.specs.Cursor.{Cursor, idle, on, cursorAt}
 use Rattle.engine.specs.Turn.{codeIn}
-use Rattle.engine.proofs.Standing.{Full}
+use Rattle.engine.proofs.Placed.{Full}
 use Rattle.claims.specs.Reference.{Job, job, State, state, Given, start}
-use Rattle.claims.specs.Calls.{Traced, but}
+use Rattle.claims.specs.Events.{but}
+use Rattle.claims.specs.Calls.{Traced}
+use Rattle.claims.specs.Claims.{numbered, cursorOf}
 use Rattle.claims.proofs.Invariant.{heldAt}
 use Rattle.claims.proofs.LiveTurn.{Owning, but-same, but-other}
 use Rattle.claims.proofs.OrderTurn.{View}
@@ -44,6 +48,7 @@ module _ (n : ℕ) (rd : Memory) (d : ℕ) where
     pub pc : rd (field Pc d) ≡ 0
     pub intent : rd (field Intent d) ≡ 0
     pub owned : rd (field Owned d) ≡ 0
+    pub numbers : gs ≡ numbered (rd (field Finished d)) gs
     pub room : rd (field Finished d) + length gs < 2 ^ 64
 
   -- worker d stands before an instruction of its queue's first
@@ -59,6 +64,7 @@ module _ (n : ℕ) (rd : Memory) (d : ℕ) where
     pub owned : rd (field Owned d) ≡ heldAt n rd d (first .next)
     pub intent : rd (field Intent d) ≡ heldAt n rd d (first .next)
     pub held : first .held ≡ heldAt n rd d (first .next)
+    pub numbers : gs ≡ numbered (rd (field Number d)) gs
     pub room : rd (field Number d) + length gs < 2 ^ 64
 
   abbrev pub Stand : Cursor → List Job → List Given → Type 0
@@ -79,6 +85,30 @@ pub record Even (mark n D : ℕ) (w : Traced) (s : State) (gs : ℕ → List Giv
   pub full : Full (w .world .cursors)
   pub level : Level n D (at n (w .world .image)) (cursorAt (w .world .cursors)) s gs
 
+-- ---- where the workers stand
+
+-- no worker is before a section's first instruction
+abbrev pub Begun : Traced → Type 0
+Begun w = (e : ℕ) → cursorAt (w .world .cursors) e ≢ on 0 0
+
+-- sections that are not submitted have no cursor
+waiting-cursor : (n : ℕ) (gs : List Given) → cursorOf (map (start n) gs) ≡ idle
+waiting-cursor n [] = refl
+waiting-cursor n (g ∷ gs) = refl
+
+pub even-stands :
+    (mark n D : ℕ) (w : Traced) (s : State) (gs : ℕ → List Given) → Even mark n D w s gs → Begun w → (e : ℕ) → e < D
+    → cursorAt (w .world .cursors) e ≡ cursorOf (getD (s .queues) e [])
+even-stands mark n D w s gs E begun e l = by (E .level .stands e l)
+  where
+    by :
+        Stand n (at n (w .world .image)) e (cursorAt (w .world .cursors) e) (getD (s .queues) e []) (gs e)
+        → cursorAt (w .world .cursors) e ≡ cursorOf (getD (s .queues) e [])
+    by (inl i) = i .cursor ∙ sym (ap cursorOf (i .queue) ∙ waiting-cursor n (gs e))
+    by (inr x) =
+        let later : x .first .next ≢ 0 = λ z. begun e (x .cursor ∙ ap (λ (k : ℕ). on k 0) z) in
+        x .cursor ∙ sym (ap cursorOf (x .queue) ∙ rw (ne-eqb (x .first .next) 0 later))
+
 -- ---- the memories are alike in what worker e's standing looks at
 
 pub record Beside (rd rd′ : Memory) (e : ℕ) : Type 0 where
@@ -95,6 +125,7 @@ stand-same n rd rd′ e c q gs b (inl i) =
       pc = b .fields Pc ∙ i .pc;
       intent = b .fields Intent ∙ i .intent;
       owned = b .fields Owned ∙ i .owned;
+      numbers = rw (b .fields Finished) (i .numbers);
       room = rw (b .fields Finished) (i .room);
     })
 stand-same n rd rd′ e c q gs b (inr w) =
@@ -110,6 +141,7 @@ stand-same n rd rd′ e c q gs b (inr w) =
       owned = b .fields Owned ∙ (w .owned ∙ sym (held-cong (codeIn n rd′ e) (codeIn n rd e) (w .first .next) (λ j l. b .steps j)));
       intent = b .fields Intent ∙ (w .intent ∙ sym (held-cong (codeIn n rd′ e) (codeIn n rd e) (w .first .next) (λ j l. b .steps j)));
       held = w .held ∙ sym (held-cong (codeIn n rd′ e) (codeIn n rd e) (w .first .next) (λ j l. b .steps j));
+      numbers = rw (b .fields Number) (w .numbers);
       room = rw (b .fields Number) (w .room);
     })
 
@@ -134,6 +166,7 @@ module _ (n : ℕ) (rd rd′ : Memory) (d : ℕ) (c : Cursor) (q : List Job) (gs
         owned = owned ∙ same;
         intent = intent ∙ same;
         held = same;
+        numbers = rw number (w .numbers);
         room = rw number (w .room);
       }
 

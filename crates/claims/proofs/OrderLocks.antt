@@ -24,7 +24,8 @@ use Rattle.section.proofs.Ranges.{acquire-range, release-range}
 use Rattle.engine.specs.Cursor.{Cursor, on, cursorAt}
 use Rattle.engine.specs.Turn.{codeIn, turnAt, stored, waiting, unheld}
 use Rattle.claims.specs.Reference.{Job, job, State, Given, start, heldIn, taken, onto}
-use Rattle.claims.specs.Calls.{Traced, but, play}
+use Rattle.claims.specs.Events.{but}
+use Rattle.claims.specs.Calls.{Traced, play}
 use Rattle.claims.proofs.Invariant.{heldAt}
 use Rattle.claims.proofs.Turns.{takes, frees}
 use Rattle.claims.proofs.LiveTurn.{Owning, touched-owning}
@@ -33,7 +34,7 @@ use Rattle.claims.proofs.Ready.{turn-op, step-behind}
 use Rattle.claims.proofs.OrderTurn.{View, turn-stored}
 use Rattle.claims.proofs.OrderLog.{turnsOf, Codes, codes-same, field-other, Logs, Wrote, log-turns}
 use Rattle.claims.proofs.OrderLevel.{heldOf, heldsOf, Works, Even, Beside, works-on, even-after}
-use Rattle.claims.proofs.OrderBlock.{Block, turns-calls, turns-words, owning-same, start-view, small, here, mine-held}
+use Rattle.claims.proofs.OrderBlock.{Block, on-begun, turns-calls, turns-words, owning-same, start-view, small, here, mine-held}
 
 -- ---- locks that no section holds
 
@@ -148,6 +149,8 @@ module _
           even = even-after mark n D w s gs E d (play mark n (turnsOf 6 d) w) acquired (on (suc k) 0) (w .trace .taken) gs (s .cells) _ acquire-view dl (λ e h. refl) acquire-beside (inr acquire-works) acquire-owning
               (E .level .size) (λ x l. E .level .cells x l ∙ sym (acquire-wrote .noted .cells x));
           entered = acquire-view .entered;
+          others = acquire-view .others;
+          begun = on-begun _ (suc k) (acquire-view .mine) (omega arith);
         }
 
   -- ---- a release
@@ -235,4 +238,6 @@ module _
           even = even-after mark n D w s gs E d (play mark n (turnsOf 6 d) w) released (on (suc k) 0) (w .trace .taken) gs (s .cells) _ release-view dl (λ e h. refl) release-beside (inr release-works) release-owning
               (E .level .size) (λ x l. E .level .cells x l ∙ sym (release-wrote .noted .cells x));
           entered = release-view .entered;
+          others = release-view .others;
+          begun = on-begun _ (suc k) (release-view .mine) (omega arith);
         }

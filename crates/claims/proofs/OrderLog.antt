@@ -20,7 +20,7 @@ use Rattle.section.specs.Valid.{Valid}
 use Rattle.section.proofs.Ranges.{opTurns}
 use Rattle.engine.specs.Cursor.{Cursor, on}
 use Rattle.engine.specs.Turn.{codeIn, spareAddr, spareVal, activeVal, switched, logged, opTurn, stored}
-use Rattle.engine.proofs.Standing.{sayable}
+use Rattle.engine.proofs.Placed.{sayable}
 use Rattle.claims.specs.Reference.{Given}
 use Rattle.claims.specs.Calls.{Traced, turns, Move, whole, play}
 use Rattle.claims.proofs.Fields.{spare-addr-other, spare-val-other, spare-val-now, next-value}

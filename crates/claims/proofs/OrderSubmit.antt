@@ -21,10 +21,12 @@ use Rattle.engine.specs.declared.Submitted.the-variants.{Taken}
 use Rattle.engine.specs.Cursor.{Cursor, idle, on, cursorAt}
 use Rattle.engine.specs.Turn.{codeIn}
 use Rattle.engine.specs.Submit.{submission, free, submitAnswer}
-use Rattle.engine.proofs.Standing.{placed-same, placed-other}
+use Rattle.engine.proofs.Placed.{placed-same, placed-other}
 use Rattle.engine.proofs.Submission.{submission-length, submission-valid}
 use Rattle.claims.specs.Reference.{Job, State, state, Given, given, start}
-use Rattle.claims.specs.Calls.{Traced, but, submits, Move, whole, call, move, lent, areWords}
+use Rattle.claims.specs.Events.{but}
+use Rattle.claims.specs.Calls.{Traced, submits, Move, whole, call, move, lent, areWords}
+use Rattle.claims.specs.Claims.{numbered}
 use Rattle.claims.proofs.AtStore.{memory-all}
 use Rattle.claims.proofs.LiveTurn.{but-same, but-other}
 use Rattle.claims.proofs.OrderTurn.{View, view-sized, view-few}
@@ -66,7 +68,7 @@ module _ (mark n D : ℕ) (w : Traced) (rd : Memory) (d : ℕ) (cur : ℕ → Cu
 
   pub submit-view :
       8 ≤ n → n ≤ 64 → length args ≡ 8
-      → View mark n D (move mark n (whole (submits d k args ws)) w) (updAll rd (submission n d k args ws)) d (on 0 0) cur (taken ++ (given d args ws ∷ []))
+      → View mark n D (move mark n (whole (submits d k args ws)) w) (updAll rd (submission n d k args ws)) d (on 0 0) cur (taken ++ (given d k args ws ∷ []))
   unfolding move call
   submit-view least most eight =
       let few = view-few mark n D w rd d idle cur taken view dl in
@@ -78,14 +80,15 @@ module _ (mark n D : ℕ) (w : Traced) (rd : Memory) (d : ℕ) (cur : ℕ → Cu
         memory = submit-memory least most eight;
         mine = placed-same (w .world .cursors) d (on 0 0) (view .full) (omega arith) (λ q. omega arith);
         others = λ e h. placed-other (w .world .cursors) d e (on 0 0) h ∙ view .others e h;
-        entered = ap (λ (l : List Given). l ++ (given d args ws ∷ [])) (view .entered);
+        entered = ap (λ (l : List Given). l ++ (given d k args ws ∷ [])) (view .entered);
       })
 
 -- the record after it
 laid-works :
-    (n : ℕ) (rd rd′ : Memory) (d k : ℕ) (g : Given) (gs : List Given) → 8 ≤ n → Fit n d g → Laid n rd rd′ d k (g .args) (g .code) → rd (field Intent d) ≡ 0 → rd (field Owned d) ≡ 0 → k + length gs < 2 ^ 64
+    (n : ℕ) (rd rd′ : Memory) (d k : ℕ) (g : Given) (gs : List Given) → 8 ≤ n → Fit n d g → Laid n rd rd′ d k (g .args) (g .code) → rd (field Intent d) ≡ 0
+    → rd (field Owned d) ≡ 0 → gs ≡ numbered k gs → k + length gs < 2 ^ 64
     → Works n rd′ d (on 0 0) (map (start n) (g ∷ gs)) gs
-laid-works n rd rd′ d k g gs least fit laid intent owned room =
+laid-works n rd rd′ d k g gs least fit laid intent owned numbers room =
     let parts = check-parts n (length (g .code)) (codeOf (g .code)) (fit .passed) in
     let l = parts .0 in
     let same : check n (length (g .code)) (codeIn n rd′ d) ≡ Pass = check-cong n (length (g .code)) (codeIn n rd′ d) (codeOf (g .code)) (laid .code-words) ∙ fit .passed in
@@ -103,6 +106,7 @@ laid-works n rd rd′ d k g gs least fit laid intent owned room =
       owned = laid .singles Owned refl refl ∙ (owned ∙ sym z);
       intent = laid .singles Intent refl refl ∙ (intent ∙ sym z);
       held = sym z;
+      numbers = rw (laid .number) numbers;
       room = rw (laid .number) room;
     }
 
@@ -122,6 +126,13 @@ module _
   abbrev laid-in : Memory
   laid-in = updAll rd (submission n d nextNumber (g .args) (g .code))
 
+  -- it is the section's own, and those behind it have the numbers that follow
+  next-numbers : (given (g .worker) nextNumber (g .args) (g .code) ≡ g) × (numbered nextNumber rest ≡ rest)
+  next-numbers =
+      let k = rd (field Finished d) in
+      let e : g ∷ rest ≡ numbered k (g ∷ rest) = subst (λ (l : List Given). l ≡ numbered k l) waits (idles .numbers) in
+      (cc, cc)
+
   pub next-room : nextNumber + length rest < 2 ^ 64
   next-room =
       let r : rd (field Finished d) + length (g ∷ rest) < 2 ^ 64 = subst (λ (l : List Given). rd (field Finished d) + length l < 2 ^ 64) waits (idles .room) in
@@ -129,7 +140,7 @@ module _
 
   pub next-view : View mark n D (move mark n submitNext w) laid-in d (on 0 0) (cursorAt (w .world .cursors)) (w .trace .taken ++ (g ∷ []))
   next-view =
-      let same : given d (g .args) (g .code) ≡ g = ap (λ (e : ℕ). given e (g .args) (g .code)) (sym (fit .by)) in
+      let same : given d nextNumber (g .args) (g .code) ≡ g = ap (λ (e : ℕ). given e nextNumber (g .args) (g .code)) (sym (fit .by)) ∙ next-numbers .0 in
       subst (λ (x : Given). View mark n D (move mark n submitNext w) laid-in d (on 0 0) (cursorAt (w .world .cursors)) (w .trace .taken ++ (x ∷ []))) same
       (submit-view mark n D w rd d (cursorAt (w .world .cursors)) (w .trace .taken) (even-view mark n D w s gs E d idle (idles .cursor)) dl nextNumber (g .args) (g .code)
       (idles .count) (idles .pc) (omega arith) (fit .passed) least most (fit .eight))
@@ -140,7 +151,7 @@ module _
   pub next-even : Even mark n D (move mark n submitNext w) s (but gs d rest)
   next-even =
       let laid = submission-laid n rd d nextNumber (g .args) (g .code) in
-      let works = laid-works n rd laid-in d nextNumber g rest least fit laid (idles .intent) (idles .owned) next-room in
+      let works = laid-works n rd laid-in d nextNumber g rest least fit laid (idles .intent) (idles .owned) (sym (next-numbers .1)) next-room in
       let q = getD (s .queues) d [] in
       subst (λ (qs : List (List Job)). Even mark n D (move mark n submitNext w) (state (s .cells) qs) (but gs d rest)) (set-getD (s .queues) d [])
       (even-after mark n D w s gs E d (move mark n submitNext w) laid-in (on 0 0) (w .trace .taken ++ (g ∷ [])) (but gs d rest) (s .cells) q next-view dl (λ e h. but-other gs d rest e h)

@@ -17,9 +17,9 @@ use Rattle.image.proofs.Stores.{header-store, workers-store}
 use Rattle.engine.specs.Cursor.{Cursor, cursorAt}
 use Rattle.engine.specs.Turn.{Outcome, stored, jumped, turnAt}
 use Rattle.engine.specs.World.{world, outcomeAt, outcome}
-use Rattle.engine.proofs.Standing.{Full, sayable, placed-same, placed-other}
+use Rattle.engine.proofs.Placed.{Full, sayable, placed-same, placed-other}
 use Rattle.claims.specs.Reference.{Given}
-use Rattle.claims.specs.Calls.{Trace, Traced, recorded, isPc, call, turns, whole, move, lent}
+use Rattle.claims.specs.Calls.{Trace, Traced, recording, isPc, call, turns, whole, move, lent}
 use Rattle.claims.proofs.AtStore.{memory-store}
 use Rattle.claims.proofs.Cursors.{full-set}
 
@@ -32,7 +32,7 @@ pub record View (mark n D : ℕ) (w : Traced) (rd : Memory) (d : ℕ) (c : Curso
   pub others : (e : ℕ) → e ≢ d → cursorAt (w .world .cursors) e ≡ cur e
   pub entered : w .trace .taken ≡ taken
 
-private-taken : (b : Bool) (g : Trace) (d : ℕ) (t : Bool) → cond b (recorded g d t) g .taken ≡ g .taken
+private-taken : (b : Bool) (g : Trace) (d : ℕ) (t : Bool) → cond b (recording g d t) g .taken ≡ g .taken
 private-taken true g d t = refl
 private-taken false g d t = refl
 

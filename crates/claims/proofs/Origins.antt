@@ -65,10 +65,11 @@ module _ (n : ℕ) (rd rd′ : Memory) (d : ℕ) (k : KeepsNamed n rd rd′ d) w
         logs = subst (λ (x : Op). logsHeld n rd′ d s x) (sym (op-kept s)) (private-logs s (opAt n rd d s) (m .logs));
       }
 
-  pub entered-kept : ((i : ℕ) → rd′ (own d i) ≡ rd (own d i)) → (g : Given) → Entered n rd d g → Entered n rd′ d g
-  entered-kept owns g h =
+  pub entered-kept : ((i : ℕ) → rd′ (own d i) ≡ rd (own d i)) → rd′ (field Number d) ≡ rd (field Number d) → (g : Given) → Entered n rd d g → Entered n rd′ d g
+  entered-kept owns number g h =
       record {
         by = h .by;
+        numbered = h .numbered ∙ sym number;
         code = λ i l. h .code i (rw (k .count) at l) ∙ sym (k .steps i);
         size = h .size;
         args = λ i l. h .args i l ∙ sym (owns i);
@@ -104,7 +105,7 @@ module _ (n : ℕ) (rd rd′ : Memory) (d : ℕ) (q : Quiet n rd rd′ d) where
   jumps-kept (leap j k a b r l o) = rw (words a) at (leap j k a b (jumps-kept r) (rw (q .keeps .count) l) (op-kept n rd rd′ d (q .keeps) k ∙ o))
 
   pub origin-kept : {g : Given} {k j : ℕ} → Origin n rd d g k j → Origin n rd′ d g k j
-  origin-kept {g} (began h p) = began (entered-kept n rd rd′ d (q .keeps) (q .owns) g h) (q .keeps .pc ∙ p)
+  origin-kept {g} (began h p) = began (entered-kept n rd rd′ d (q .keeps) (q .owns) (q .number) g h) (q .keeps .pc ∙ p)
   origin-kept {g} (after s k j m done r e) =
       let ks = q .keeps in
       after s k j (named-kept n rd rd′ d ks s m)
@@ -149,7 +150,7 @@ module _ (n : ℕ) (rd : Memory) (d : ℕ) (g : Given) where
   private-start k h locks (Release a) u e f = (omega arith, e, f, (λ m. absurd (omega arith)), (λ m. absurd (omega arith)))
   private-start k h locks (Assign a x) u e f = (omega arith, e, f, (λ m. absurd (omega arith)), (λ m. absurd (omega arith)))
   private-start k h locks (Jump a b) u e f = (refl, e, f)
-  private-start k h locks Finish u e f = (omega arith, e, f)
+  private-start k h locks Finish u e f = (omega arith, e, f, λ m. absurd (omega arith))
   private-start k h locks Unknown u e f = u refl
 
   -- and at its first turn

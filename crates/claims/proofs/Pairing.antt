@@ -14,7 +14,7 @@ use Rattle.image.specs.Place.{field, Memory, upd}
 use Rattle.image.specs.Image.{indexOf, at, put}
 use Rattle.engine.specs.Cursor.{Cursor, cursorAt, placed}
 use Rattle.engine.specs.Turn.{Outcome, stored, jumped, unheld, waiting, resting, refused, turnAt}
-use Rattle.engine.proofs.Standing.{placed-same, placed-other}
+use Rattle.engine.proofs.Placed.{placed-same, placed-other}
 use Rattle.claims.specs.Reference.{Given}
 use Rattle.claims.specs.Calls.{Traced, isPc, turnBy}
 use Rattle.claims.specs.Claims.{ofWorker}

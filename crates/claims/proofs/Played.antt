@@ -95,18 +95,18 @@ module _ (mark n D : ℕ) (cells : List ℕ) where
   plenty = 2 ^ 64 - 1
 
   submit-call : (w : Traced) (d k : ℕ) (args ws : List ℕ) → 8 ≤ n → n ≤ 64 → length args ≡ 8 → plenty ≤ w .world .left → Running mark n D cells w
-      → Running mark n D cells (traced (submitLeaves n (w .world) d k args ws (submitAnswer mark n (w .world) d k ws)) (submitTrace mark n (w .trace) (given d args ws) (submitAnswer mark n (w .world) d k ws)))
+      → Running mark n D cells (traced (submitLeaves n (w .world) d k args ws (submitAnswer mark n (w .world) d k ws)) (submitTrace mark n (w .trace) (given d k args ws) (submitAnswer mark n (w .world) d k ws)))
   submit-call w d k args ws wide narrow full l r = by (submitAnswer mark n (w .world) d k ws) refl
     where
-      by : (a : Submitted) → submitAnswer mark n (w .world) d k ws ≡ a → Running mark n D cells (traced (submitLeaves n (w .world) d k args ws a) (submitTrace mark n (w .trace) (given d args ws) a))
+      by : (a : Submitted) → submitAnswer mark n (w .world) d k ws ≡ a → Running mark n D cells (traced (submitLeaves n (w .world) d k args ws a) (submitTrace mark n (w .trace) (given d k args ws) a))
       by Taken e = submit-whole mark n D cells w d k args ws wide full r (taken-as mark n (w .world) d k ws e) (w .world .left) (omega arith)
       by (Refused x) e = r
 
   submit-cut-call : (w : Traced) (d k : ℕ) (args ws : List ℕ) → 8 ≤ n → length args ≡ 8 → Running mark n D cells w
-      → Worth (traced (submitLeaves n (w .world) d k args ws (submitAnswer mark n (w .world) d k ws)) (submitTrace mark n (w .trace) (given d args ws) (submitAnswer mark n (w .world) d k ws)))
+      → Worth (traced (submitLeaves n (w .world) d k args ws (submitAnswer mark n (w .world) d k ws)) (submitTrace mark n (w .trace) (given d k args ws) (submitAnswer mark n (w .world) d k ws)))
   submit-cut-call w d k args ws wide full r = by (submitAnswer mark n (w .world) d k ws) refl
     where
-      by : (a : Submitted) → submitAnswer mark n (w .world) d k ws ≡ a → Worth (traced (submitLeaves n (w .world) d k args ws a) (submitTrace mark n (w .trace) (given d args ws) a))
+      by : (a : Submitted) → submitAnswer mark n (w .world) d k ws ≡ a → Worth (traced (submitLeaves n (w .world) d k args ws a) (submitTrace mark n (w .trace) (given d k args ws) a))
       by Taken e = submit-cut mark n D cells w d k args ws wide full r (taken-as mark n (w .world) d k ws e) (w .world .left)
       by (Refused x) e = running-worth w r
 
@@ -143,7 +143,7 @@ module _ (mark n D : ℕ) (cells : List ℕ) where
   Good false w = Running mark n D cells w
   Good true w = Worth w
 
-  recovers-only : (b : Bool) (c : Call) → (not b || recovering c) ≡ true → b ≡ true → c ≡ recovers
+  pub recovers-only : (b : Bool) (c : Call) → (not b || recovering c) ≡ true → b ≡ true → c ≡ recovers
   recovers-only true (submits d k args ws) h e = absurd (false≢true h)
   recovers-only true (turns d) h e = absurd (false≢true h)
   recovers-only true (runs r) h e = absurd (false≢true h)
@@ -158,13 +158,13 @@ module _ (mark n D : ℕ) (cells : List ℕ) where
   unfolding call
   recovered-cut w k = recover-cut-call w k
 
-  whole-good : (b : Bool) (c : Call) (w : Traced) → 8 ≤ n → n ≤ 64 → callable c ≡ true → (not b || recovering c) ≡ true → Good b w → Running mark n D cells (move mark n (whole c) w)
+  pub whole-good : (b : Bool) (c : Call) (w : Traced) → 8 ≤ n → n ≤ 64 → callable c ≡ true → (not b || recovering c) ≡ true → Good b w → Running mark n D cells (move mark n (whole c) w)
   unfolding move
   whole-good false c w wide narrow h l g = whole-call c (lent mark n plenty w) wide narrow h (omega arith) (running-lent plenty w g)
   whole-good true c w wide narrow h l g = rw (recovers-only true c l refl) (recovered (lent mark n plenty w) (record { reached = g .reached; crashed = g .crashed }) (omega arith))
 
   -- what a cut leaves is worth what the image is
-  cut-good : (b : Bool) (k : ℕ) (c : Call) (w : Traced) → 8 ≤ n → callable c ≡ true → (not b || recovering c) ≡ true → Good b w → Worth (move mark n (cut k c) w)
+  pub cut-good : (b : Bool) (k : ℕ) (c : Call) (w : Traced) → 8 ≤ n → callable c ≡ true → (not b || recovering c) ≡ true → Good b w → Worth (move mark n (cut k c) w)
   unfolding move
   cut-good false k c w wide h l g = let x = cut-call c (lent mark n k w) wide h (running-lent k w g) in record { reached = x .reached; crashed = x .crashed }
   cut-good true k c w wide h l g =

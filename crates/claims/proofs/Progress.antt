@@ -20,7 +20,7 @@ use Rattle.section.specs.Op.{opOf}
 use Rattle.engine.specs.Cursor.{Cursor, idle, on, isIdle}
 use Rattle.engine.specs.Turn.{Outcome, stored, jumped, unheld, waiting, resting, refused, codeIn, logged, acquireTurn, finishTurn, opTurn, ready, turnAt}
 use Rattle.claims.specs.Reference.{Given}
-use Rattle.claims.specs.Calls.{but}
+use Rattle.claims.specs.Events.{but}
 use Rattle.claims.proofs.Invariant.{Phase, resting as atRest, fresh, due, unlocking, unlocked, between, ended, Live}
 use Rattle.claims.proofs.Turns.{Touches, inRecord, ownWord, ownCell, takes, frees, Stepped, Went}
 use Rattle.claims.proofs.LiveTurn.{but-same, but-other}

@@ -20,7 +20,7 @@ use Rattle.image.proofs.Lists.{at-all}
 use Rattle.section.specs.declared.Op.{Op}
 use Rattle.section.specs.declared.Op.the-variants.{Acquire, Release, Assign, Jump, Finish, Unknown}
 use Rattle.engine.specs.Cursor.{Cursor, idle, on, stepNo, turnNo, cursorAt}
-use Rattle.engine.proofs.Standing.{Full, sayable}
+use Rattle.engine.proofs.Placed.{Full, sayable}
 use Rattle.recovery.specs.Recovery.{plan, owed, intended, namedStep, namedOp, targetTurn, resumed, resumedAt, resumedAll}
 use Rattle.claims.specs.Reference.{Given}
 use Rattle.claims.proofs.Invariant.{Live, Crashed}

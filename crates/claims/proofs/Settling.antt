@@ -4,7 +4,7 @@ use Prim.Native.Nat.{ℕ, suc, zero, _+_, _<_, _≤_}
 use mathlib.Core.Path.{_≡_, refl, ap, subst, _∙_, sym}
 use mathlib.Core.Logic.{_⊎_, inl, inr, ⊎-elim}
 use mathlib.Core.Bool.{Bool, true, false, cond, true≢false, false≢true}
-use mathlib.Core.List.{List}
+use mathlib.Core.List.{List, [], _∷_}
 use native.Mathlib.Omega.{arith}
 use native.Mathlib.Decide.{decLt, ℕ-discrete}
 use Rattle.image.specs.Place.{Memory, upd}
@@ -13,9 +13,10 @@ use Rattle.engine.specs.Cursor.{Cursor, isIdle, cursorAt, placed}
 use Rattle.engine.specs.Turn.{Outcome, stored, jumped, unheld, waiting, resting, refused, turnAt}
 use Rattle.engine.specs.World.{world, outcomeAt}
 use Rattle.engine.specs.Run.{anyOpen}
-use Rattle.engine.proofs.Standing.{sayable}
+use Rattle.engine.proofs.Placed.{sayable}
 use Rattle.claims.specs.Reference.{Given}
-use Rattle.claims.specs.Calls.{Traced, but, turnBy, turnedAt, refuses, round, rounds}
+use Rattle.claims.specs.Events.{waited, but}
+use Rattle.claims.specs.Calls.{Traced, turnBy, turnedAt, refuses, round, rounds}
 use Rattle.claims.proofs.Invariant.{Live}
 use Rattle.claims.proofs.Turns.{Stepped, Went}
 use Rattle.claims.proofs.LiveTurn.{live-turn, but-same}
@@ -26,6 +27,7 @@ use Rattle.claims.proofs.Progress.{total-same, rankSum, SumFalls, sum-f
 use Rattle.claims.proofs.Held.{Running, running-sized, few, touches-valid, phase-sayable}
 use Rattle.claims.proofs.Turning.{running-turned, turned-left}
 use Rattle.claims.proofs.Cursors.{cursors-placed}
+use Rattle.claims.proofs.Moves.{Noted, noted-none}
 
 -- the ranks of all workers
 unfoldable pub sum : ℕ → ℕ → Traced → ℕ
@@ -45,10 +47,25 @@ some-rank n D rd cursor d resting m f = absurd (false≢true m)
 some-rank n D rd cursor d (refused x) m f = absurd (false≢true m)
 
 module _ (mark n D : ℕ) (cells : List ℕ) where
+  running-noted : (w v : Traced) → Noted w v → Running mark n D cells w → Running mark n D cells v
+  running-noted w v (es, e) r = rw e (record { reached = r .reached; full = r .full; locks = r .locks; live = r .live })
+
+  sum-noted : (w v : Traced) → Noted w v → sum n D v ≡ sum n D w
+  unfolding sum
+  sum-noted w v (es, e) = rw e
+
+  moves-noted : (e : ℕ) (w v : Traced) → Noted w v → isMoving (turnAt n (at n (w .world .image)) e (cursorAt (w .world .cursors) e)) ≡ true
+      → isMoving (turnAt n (at n (v .world .image)) e (cursorAt (v .world .cursors) e)) ≡ true
+  moves-noted e w v (es, q) m = rw q m
+
   -- running, with a store for each turn that any worker has to go
   pub record Spare (w : Traced) : Type 0 where
     pub running : Running mark n D cells w
     pub stores : sum n D w ≤ w .world .left
+
+  pub spare-noted : (w v : Traced) → Noted w v → Spare w → Spare v
+  spare-noted w v x s =
+      record { running = running-noted w v x (s .running); stores = let e = x .1 in rw (sum-noted w v x, e) (s .stores) }
 
   module _ (w : Traced) (d : ℕ) (r : Running mark n D cells w) (dl : d < D) where
     abbrev rd : Memory
@@ -83,14 +100,14 @@ module _ (mark n D : ℕ) (cells : List ℕ) where
     moved resting e g left m = absurd (false≢true m)
     moved (refused x) e g left m = absurd (false≢true m)
 
-    -- one that does not changes nothing
-    stays : (o : Outcome) → isMoving o ≡ false → turnBy mark n w d o ≡ w
+    -- one that does not leaves an event at most
+    stays : (o : Outcome) → isMoving o ≡ false → Noted w (turnBy mark n w d o)
     stays (stored p v c) m = absurd (true≢false m)
     stays (jumped c) m = absurd (true≢false m)
     stays (unheld c) m = absurd (true≢false m)
-    stays (waiting b) m = refl
-    stays resting m = refl
-    stays (refused x) m = refl
+    stays (waiting b) m = (waited d b ∷ [], refl)
+    stays resting m = noted-none w
+    stays (refused x) m = noted-none w
 
     went : Went n D rd (cursorAt (w .world .cursors)) (r .locks) (w .trace .jumps) (w .trace .last) d turn
     went = live-turn n D rd (cursorAt (w .world .cursors)) (r .locks) (w .trace .jumps) (w .trace .last) d turn (r .live) dl steps
@@ -99,17 +116,17 @@ module _ (mark n D : ℕ) (cells : List ℕ) where
     unfolding turnedAt outcomeAt
     moving-turn left m = moved turn refl went left m
 
-    still-turn : isMoving turn ≡ false → turnedAt mark n w d ≡ w
+    still-turn : isMoving turn ≡ false → Noted w (turnedAt mark n w d)
     unfolding turnedAt outcomeAt
     still-turn m = stays turn m
 
   -- ---- a turn, with a store for each rank
 
-  -- what a turn of worker d comes to: it lowers the sum, or nothing changes
+  -- what a turn of worker d comes to: it lowers the sum, or nothing changes but the events
   pub record Turn (w : Traced) (d : ℕ) : Type 0 where
     pub spare : Spare (turnedAt mark n w d)
     pub falls : isMoving (turnAt n (at n (w .world .image)) d (cursorAt (w .world .cursors) d)) ≡ true → sum n D (turnedAt mark n w d) < sum n D w
-    pub same : isMoving (turnAt n (at n (w .world .image)) d (cursorAt (w .world .cursors) d)) ≡ false → turnedAt mark n w d ≡ w
+    pub same : isMoving (turnAt n (at n (w .world .image)) d (cursorAt (w .world .cursors) d)) ≡ false → Noted w (turnedAt mark n w d)
 
   -- a worker that moves has a rank, so a store is left for it
   no-rank : (w : Traced) (d : ℕ) (s : Spare w) (dl : d < D) → isMoving (turn w d (s .running) dl) ≡ true → ¬_ (0 < w .world .left) → ⊥
@@ -135,7 +152,7 @@ module _ (mark n D : ℕ) (cells : List ℕ) where
       by true m (no l) = absurd (no-rank w d s dl m l)
       by false m l =
           let e = still-turn w d (s .running) dl m in
-          record { spare = subst Spare (sym e) s; falls = λ x. absurd (true≢false (sym x ∙ m)); same = λ x. e }
+          record { spare = spare-noted w (turnedAt mark n w d) e s; falls = λ x. absurd (true≢false (sym x ∙ m)); same = λ x. e }
 
   -- ---- a round
 
@@ -144,7 +161,7 @@ module _ (mark n D : ℕ) (cells : List ℕ) where
   swept zero d w = w
   swept (suc k) d w = swept k (d + 1) (turnedAt mark n w d)
 
-  never-refused : (w : Traced) (d : ℕ) → Running mark n D cells w → d < D → refuses mark n (outcomeAt n (w .world) d) ≡ false
+  pub never-refused : (w : Traced) (d : ℕ) → Running mark n D cells w → d < D → refuses mark n (outcomeAt n (w .world) d) ≡ false
   unfolding outcomeAt
   never-refused w d r dl = by (turn w d r dl) (steps w d r dl)
     where
@@ -168,12 +185,12 @@ module _ (mark n D : ℕ) (cells : List ℕ) where
   round-swept rest (suc k) d w l s =
       rw (never-refused w d (s .running) (omega arith)) (round-swept rest k (d + 1) (turnedAt mark n w d) (omega arith) (spare-turn w d s (omega arith) .spare))
 
-  sum-turn : (w : Traced) (d : ℕ) → Turn w d → sum n D (turnedAt mark n w d) ≤ sum n D w
+  pub sum-turn : (w : Traced) (d : ℕ) → Turn w d → sum n D (turnedAt mark n w d) ≤ sum n D w
   sum-turn w d t = by (isMoving (turnAt n (at n (w .world .image)) d (cursorAt (w .world .cursors) d))) refl
     where
       by : (b : Bool) → isMoving (turnAt n (at n (w .world .image)) d (cursorAt (w .world .cursors) d)) ≡ b → sum n D (turnedAt mark n w d) ≤ sum n D w
       by true m = let f = t .falls m in omega arith
-      by false m = rw (t .same m) (omega arith)
+      by false m = rw (sum-noted w (turnedAt mark n w d) (t .same m)) (omega arith)
 
   -- the sum never rises
   sum-swept : (k d : ℕ) (w : Traced) → d + k ≤ D → Spare w → sum n D (swept k d w) ≤ sum n D w
@@ -192,16 +209,17 @@ module _ (mark n D : ℕ) (cells : List ℕ) where
   unfolding swept
   sum-falls-swept zero d w l s e x y m = absurd (omega arith)
   sum-falls-swept (suc k) d w l s e x y m =
-      by (λ g. sum-falls-swept k (d + 1) w (omega arith) s e g (omega arith) m) (isMoving (turnAt n (at n (w .world .image)) d (cursorAt (w .world .cursors) d))) refl (ℕ-discrete e d)
+      by (λ g q. sum-falls-swept k (d + 1) (turnedAt mark n w d) (omega arith) (t .spare) e g (omega arith) (moves-noted e w (turnedAt mark n w d) q m))
+      (isMoving (turnAt n (at n (w .world .image)) d (cursorAt (w .world .cursors) d))) refl (ℕ-discrete e d)
     where
       t : Turn w d
       t = spare-turn w d s (omega arith)
 
-      by : (d + 1 ≤ e → sum n D (swept k (d + 1) w) < sum n D w) → (b : Bool) → isMoving (turnAt n (at n (w .world .image)) d (cursorAt (w .world .cursors) d)) ≡ b → Dec (e ≡ d)
-          → sum n D (swept k (d + 1) (turnedAt mark n w d)) < sum n D w
+      by : (d + 1 ≤ e → Noted w (turnedAt mark n w d) → sum n D (swept k (d + 1) (turnedAt mark n w d)) < sum n D (turnedAt mark n w d)) → (b : Bool)
+          → isMoving (turnAt n (at n (w .world .image)) d (cursorAt (w .world .cursors) d)) ≡ b → Dec (e ≡ d) → sum n D (swept k (d + 1) (turnedAt mark n w d)) < sum n D w
       by more true q i = let a = sum-swept k (d + 1) (turnedAt mark n w d) (omega arith) (t .spare) in let f = t .falls q in omega arith
       by more false q (yes i) = absurd (true≢false (sym m ∙ (ap (λ (z : ℕ). isMoving (turnAt n (at n (w .world .image)) z (cursorAt (w .world .cursors) z))) i ∙ q)))
-      by more false q (no i) = rw (t .same q) (more (omega arith))
+      by more false q (no i) = let a = more (omega arith) (t .same q) in let b = sum-noted w (turnedAt mark n w d) (t .same q) in omega arith
 
   -- ---- a run
 

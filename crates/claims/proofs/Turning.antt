@@ -25,21 +25,25 @@ module _ (mark n D : ℕ) (cells : List ℕ) where
   pub freezes : (w : Traced) → Running mark n D cells w → w .world .left ≡ 0 → Frozen mark n D cells w
   freezes w r e = record { reached = r .reached; crashed = live-crashed n D _ _ _ _ _ (r .live); spent = e }
 
-  still : (w : Traced) (d : ℕ) (p : Place) (v : ℕ) (c : Cursor) → w .world .left ≡ 0 → (turnTrace mark n w d (stored p v c) ≡ w .trace) × (leaves n (w .world) d (stored p v c) .image ≡ w .world .image)
-  still w d p v c e = (rw (eq-eqb (w .world .left) 0 e, and-false (isPc p)), rw e (put-none (w .world .image) (indexOf n p) v))
+  pub still :
+      (w : Traced) (d : ℕ) (p : Place) (v : ℕ) (c : Cursor) → w .world .left ≡ 0
+      → (turnTrace mark n w d (stored p v c) .begun ≡ w .trace .begun) × (turnTrace mark n w d (stored p v c) .order ≡ w .trace .order) × (leaves n (w .world) d (stored p v c) .image ≡ w .world .image)
+  still w d p v c e =
+      let none = eq-eqb (w .world .left) 0 e in
+      (rw (none, and-false (isPc p)), rw (none, and-false (isPc p)), rw e (put-none (w .world .image) (indexOf n p) v))
 
   pub frozen-turn : (w : Traced) (d : ℕ) (o : Outcome) → Frozen mark n D cells w → Frozen mark n D cells (turnBy mark n w d o)
   frozen-turn w d (stored p v c) f =
       let s = still w d p v c (f .spent) in
       let z = f .spent in
       record {
-        reached = rw (s .0, s .1) (f .reached);
-        crashed = rw (s .1) (f .crashed);
+        reached = rw (s .0, s .1, s .2) (f .reached);
+        crashed = rw (s .2) (f .crashed);
         spent = omega arith;
       }
   frozen-turn w d (jumped c) f = record { reached = f .reached; crashed = f .crashed; spent = f .spent }
   frozen-turn w d (unheld c) f = record { reached = f .reached; crashed = f .crashed; spent = f .spent }
-  frozen-turn w d (waiting b) f = f
+  frozen-turn w d (waiting b) f = record { reached = f .reached; crashed = f .crashed; spent = f .spent }
   frozen-turn w d resting f = f
   frozen-turn w d (refused r) f = f
 

@@ -10,7 +10,8 @@ use Rattle.image.specs.Place.{Place, cell, lock, field, own, Memory, upd}
 use Rattle.engine.specs.Cursor.{Cursor}
 use Rattle.engine.specs.Turn.{Outcome, stored, jumped, unheld, waiting, resting, refused}
 use Rattle.claims.specs.Reference.{Given}
-use Rattle.claims.specs.Calls.{isPc, but}
+use Rattle.claims.specs.Events.{but}
+use Rattle.claims.specs.Calls.{isPc}
 use Rattle.claims.proofs.Invariant.{Phase, Live}
 
 -- a store of worker d that has these locks: a word of its record, an own word, a cell whose lock it has, a free lock taken, a

@@ -12,58 +12,69 @@ use Rattle.image.specs.Image.{Image, at, workers, headerOk, putAll}
 use Rattle.engine.specs.declared.Cursors.{Cursors}
 use Rattle.engine.specs.declared.Submitted.{Submitted}
 use Rattle.engine.specs.declared.Submitted.the-variants.{Taken, Refused}
-use Rattle.engine.specs.Cursor.{allIdle}
+use Rattle.engine.specs.Cursor.{stepNo, cursorAt, allIdle}
 use Rattle.engine.specs.Turn.{Outcome, stored, jumped, unheld, waiting, resting, refused}
 use Rattle.engine.specs.World.{World, world, leaves, outcomeAt, outcome}
 use Rattle.engine.specs.Submit.{submitAnswer, submitLeaves}
 use Rattle.engine.specs.Run.{anyOpen}
 use Rattle.recovery.specs.Recovery.{Recovered, accepted, misshapen, unsoundRecord, wrongLock, recovery}
 use Rattle.claims.specs.Reference.{Given, given}
+use Rattle.claims.specs.Events.{Event, taken, moved, waited, recorded, ended, lost, but}
 
 -- What the claims speak of besides the calls' own effects; no call reads it. The section last taken from each worker, the
 -- sections taken and the sections begun so far, newest last, and the order of whole instructions so far: a worker is in it
 -- once for each instruction that counts. An instruction counts when the pc that names it is stored (finish: when the pc is
--- set to 0), and the jumps made since the last one count with it. `jumps` has these, for each worker.
+-- set to 0), and the jumps made since the last one count with it. `jumps` has these, for each worker. And the events.
 pub record Trace : Type 0 where
   pub last : ℕ → Given
   pub taken : List Given
   pub begun : List Given
   pub jumps : ℕ → ℕ
   pub order : List ℕ
+  pub events : List Event
 
 abbrev pub nothing : Given
-nothing = given 0 [] []
+nothing = given 0 0 [] []
 
 -- nothing traced yet
 abbrev pub blank : Trace
-blank = record { last = λ d. nothing; taken = []; begun = []; jumps = λ d. 0; order = [] }
+blank = record { last = λ d. nothing; taken = []; begun = []; jumps = λ d. 0; order = []; events = [] }
 
--- a function changed at one number
-abbrev pub but : {A : Type 0} → (ℕ → A) → ℕ → A → ℕ → A
-but f d x e = cond (eqb e d) x (f e)
+-- the same with more events
+abbrev pub noting : Trace → List Event → Trace
+noting g es = record { last = g .last; taken = g .taken; begun = g .begun; jumps = g .jumps; order = g .order; events = g .events ++ es }
 
 -- the jumps of cursors that are lost do not count
 abbrev pub forgetful : Trace → Trace
-forgetful g = record { last = g .last; taken = g .taken; begun = g .begun; jumps = λ d. 0; order = g .order }
+forgetful g = record { last = g .last; taken = g .taken; begun = g .begun; jumps = λ d. 0; order = g .order; events = g .events ++ (lost ∷ []) }
 
 -- worker d makes a jump
 abbrev pub jumping : Trace → ℕ → Trace
-jumping g d = record { last = g .last; taken = g .taken; begun = g .begun; jumps = but (g .jumps) d (suc (g .jumps d)); order = g .order }
+jumping g d = record { last = g .last; taken = g .taken; begun = g .begun; jumps = but (g .jumps) d (suc (g .jumps d)); order = g .order; events = g .events }
 
 -- worker d's pc is stored: it was 0, so that the section last taken is begun, or not
-abbrev pub recorded : Trace → ℕ → Bool → Trace
-recorded g d starts =
+abbrev pub recording : Trace → ℕ → Bool → Trace
+recording g d starts =
     record {
       last = g .last;
       taken = g .taken;
       begun = cond starts (g .begun ++ (g .last d ∷ [])) (g .begun);
       jumps = but (g .jumps) d 0;
       order = g .order ++ replicate (suc (g .jumps d)) d;
+      events = g .events;
     }
 
 -- a section is taken
 abbrev pub taking : Trace → Given → Trace
-taking g x = record { last = but (g .last) (x .worker) x; taken = g .taken ++ (x ∷ []); begun = g .begun; jumps = but (g .jumps) (x .worker) 0; order = g .order }
+taking g x =
+    record {
+      last = but (g .last) (x .worker) x;
+      taken = g .taken ++ (x ∷ []);
+      begun = g .begun;
+      jumps = but (g .jumps) (x .worker) 0;
+      order = g .order;
+      events = g .events ++ (taken x ∷ []);
+    }
 
 abbrev pub isPc : Place → Bool
 isPc (cell x) = false
@@ -106,13 +117,24 @@ pub data Move : Type 0 where
 
 -- mark: word 0 of an image; n: own words in a record
 module _ (mark n : ℕ) where
+  -- the step of worker d's cursor
+  abbrev pub stepOf : Traced → ℕ → ℕ
+  stepOf w d = stepNo (cursorAt (w .world .cursors) d)
+
+  -- the events of a store by worker d's turn: the turn, and what it makes of the pc
+  abbrev pub storeEvents : Traced → ℕ → Place → ℕ → List Event
+  storeEvents w d p v =
+      cond (eqb (w .world .left) 0) [] (moved d (stepOf w d) ∷ cond (isPc p) (cond (eqb v 0) (ended d) (recorded d (stepOf w d)) ∷ []) [])
+
   -- the trace after worker d's turn with an outcome; a store that is not made leaves none
   abbrev pub turnTrace : Traced → ℕ → Outcome → Trace
   turnTrace w d (stored p v c) =
-      cond (isPc p && not (eqb (w .world .left) 0)) (recorded (w .trace) d (eqb (at n (w .world .image) (field Pc d)) 0)) (w .trace)
-  turnTrace w d (jumped c) = jumping (w .trace) d
-  turnTrace w d (unheld c) = w .trace
-  turnTrace w d (waiting b) = w .trace
+      noting
+      (cond (isPc p && not (eqb (w .world .left) 0)) (recording (w .trace) d (eqb (at n (w .world .image) (field Pc d)) 0)) (w .trace))
+      (storeEvents w d p v)
+  turnTrace w d (jumped c) = noting (jumping (w .trace) d) (moved d (stepOf w d) ∷ [])
+  turnTrace w d (unheld c) = noting (w .trace) (moved d (stepOf w d) ∷ [])
+  turnTrace w d (waiting b) = noting (w .trace) (waited d b ∷ [])
   turnTrace w d resting = w .trace
   turnTrace w d (refused r) = w .trace
 
@@ -156,7 +178,7 @@ module _ (mark n : ℕ) where
   unfoldable pub call : Call → Traced → Traced
   call (submits d k args ws) w =
       let answer = submitAnswer mark n (w .world) d k ws in
-      traced (submitLeaves n (w .world) d k args ws answer) (submitTrace (w .trace) (given d args ws) answer)
+      traced (submitLeaves n (w .world) d k args ws answer) (submitTrace (w .trace) (given d k args ws) answer)
   call (turns d) w = turnBy w d (outcome mark n (w .world) d)
   call (runs r) w = ranBy w r
   call recovers w = recoveredBy w (recovery mark n (w .world .image))
@@ -165,13 +187,13 @@ module _ (mark n : ℕ) where
   lent k w = traced (world (w .world .image) (w .world .cursors) k) (w .trace)
 
   -- what a cut leaves: the image; the working record is lost
-  abbrev pub lost : Traced → Traced
-  lost w = traced (world (w .world .image) allIdle 0) (forgetful (w .trace))
+  abbrev pub afterCut : Traced → Traced
+  afterCut w = traced (world (w .world .image) allIdle 0) (forgetful (w .trace))
 
   -- an uncut call is given more stores than any call makes
   unfoldable pub move : Move → Traced → Traced
   move (whole c) w = call c (lent (2 ^ 64 - 1) w)
-  move (cut k c) w = lost (call c (lent k w))
+  move (cut k c) w = afterCut (call c (lent k w))
 
   unfoldable pub play : List Move → Traced → Traced
   play [] w = w

@@ -1,8 +1,8 @@
 -- What is claimed of lists of calls, from an image at rest: demands 2 and 3.
-use Prim.Native.Nat.{ℕ, suc, zero, _+_, _*_, _^_, _≤_, _<_}
+use Prim.Native.Nat.{ℕ, _+_, _-_, _*_, _^_, _≤_, _<_}
 use mathlib.Core.Path.{_≡_}
 use mathlib.Core.Option.{some}
-use mathlib.Core.List.{List, [], _∷_, map, _++_}
+use mathlib.Core.List.{List, [], _∷_, _++_}
 use mathlib.Core.Bool.{Bool, true, false, cond, _&&_}
 use lib.ListN.{length, getD, take}
 use lib.Dec.{ltb, eqb}
@@ -11,15 +11,39 @@ use Rattle.image.specs.Place.{lock, field, Store}
 use Rattle.image.specs.Image.{Image, at, cellsOf, headerOk, workers}
 use Rattle.section.specs.Check.{codeOf, check, passes}
 use Rattle.engine.specs.declared.Cursors.{Cursors}
-use Rattle.engine.specs.Cursor.{idle, cursorAt}
+use Rattle.engine.specs.declared.End.{End}
+use Rattle.engine.specs.declared.End.the-variants.{AllIdle, Spent, Halted}
+use Rattle.engine.specs.Cursor.{Cursor, idle, on, cursorAt}
+use Rattle.engine.specs.World.{outcome}
 use Rattle.engine.specs.Format.{formatted}
+use Rattle.engine.specs.Run.{runOf}
 use Rattle.recovery.specs.Recovery.{accepted, recovery}
-use Rattle.claims.specs.Reference.{Given, State, initial, follow, noneLeft}
-use Rattle.claims.specs.Calls.{Traced, Call, submits, turns, recovers, runs, Move, whole, cut, play, from, legal, endsCut, plain, machine, areWords}
+use Rattle.claims.specs.Reference.{Given, given, Job, State, initial, follow, noneLeft}
+use Rattle.claims.specs.Calls.{Traced, refuses, Call, submits, turns, recovers, runs, call, lent, Move, whole, cut, play, from, legal, endsCut, plain, machine, areWords}
 
-abbrev pub total : List ℕ → ℕ
-total [] = 0
-total (x ∷ xs) = x + total xs
+-- uncut runs and turns alone
+abbrev pub working : List Move → Bool
+working [] = true
+working (cut k c ∷ xs) = false
+working (whole (submits d k args ws) ∷ xs) = false
+working (whole (turns d) ∷ xs) = working xs
+working (whole (runs r) ∷ xs) = working xs
+working (whole recovers ∷ xs) = false
+
+-- a run was refused
+abbrev pub isHalted : End → Bool
+isHalted AllIdle = false
+isHalted Spent = false
+isHalted (Halted r) = true
+
+-- the rounds of the runs among them
+abbrev pub roundsIn : List Move → ℕ
+roundsIn [] = 0
+roundsIn (cut k c ∷ xs) = roundsIn xs
+roundsIn (whole (submits d k args ws) ∷ xs) = roundsIn xs
+roundsIn (whole (turns d) ∷ xs) = roundsIn xs
+roundsIn (whole (runs r) ∷ xs) = r + roundsIn xs
+roundsIn (whole recovers ∷ xs) = roundsIn xs
 
 abbrev pub concat : List (List Move) → List Move
 concat [] = []
@@ -29,6 +53,11 @@ abbrev pub ofWorker : ℕ → List Given → List Given
 ofWorker d [] = []
 ofWorker d (g ∷ gs) = cond (eqb (g .worker) d) (g ∷ ofWorker d gs) (ofWorker d gs)
 
+-- the sections of a list under the numbers that follow k
+abbrev pub numbered : ℕ → List Given → List Given
+numbered k [] = []
+numbered k (g ∷ gs) = given (g .worker) (k + 1) (g .args) (g .code) ∷ numbered (k + 1) gs
+
 -- uncut submits and turns of worker d alone
 abbrev pub callsOf : ℕ → List Move → Bool
 callsOf d [] = true
@@ -37,6 +66,11 @@ callsOf d (whole (submits e k args ws) ∷ xs) = eqb e d && callsOf d xs
 callsOf d (whole (turns e) ∷ xs) = eqb e d && callsOf d xs
 callsOf d (whole (runs r) ∷ xs) = false
 callsOf d (whole recovers ∷ xs) = false
+
+-- where a worker with this queue stands between two instructions: before its section's first it is idle
+abbrev pub cursorOf : List Job → Cursor
+cursorOf [] = idle
+cursorOf (j ∷ js) = cond (eqb (j .next) 0) idle (on (j .next) 0)
 
 -- from these cells, fed these sections, the reference machine follows this order to its end and leaves those cells
 pub record Gives (n D : ℕ) (before : List ℕ) (gs : List Given) (order : List ℕ) (after : List ℕ) : Type 0 where
@@ -63,21 +97,38 @@ module _ (mark n : ℕ) where
   abbrev pub Idle : ℕ → Cursors → Type 0
   Idle D c = (d : ℕ) → d < D → cursorAt c d ≡ idle
 
-  -- all workers idle, all locks free, the image at rest, and the cells those of the sections begun and of no other
+  -- sections that the engine takes: they pass the check
+  abbrev pub admissible : ℕ → List Given → Bool
+  admissible D [] = true
+  admissible D (g ∷ gs) =
+      ltb (g .worker) D && eqb (length (g .args)) 8 && areWords (g .args) && areWords (g .code) && passes (check n (length (g .code)) (codeOf (g .code))) && admissible D gs
+
+  -- all workers idle, all locks free, the image at rest, and the cells those of the sections begun, all of them admissible, and of
+  -- no other
   pub record Settled (m : Image) (w : Traced) : Type 0 where
     pub idles : Idle (workers m) (w .world .cursors)
     pub rests : Rested (w .world .image)
+    pub admits : admissible (workers m) (w .trace .begun) ≡ true
     pub gives : Gives n (workers m) (cellsOf m) (w .trace .begun) (w .trace .order) (cellsOf (w .world .image))
 
   -- with a recovery, if a cut ends the list
   abbrev pub mended : List Move → List Move
   mended xs = cond (endsCut false xs) (xs ++ (whole recovers ∷ [])) xs
 
+  -- what a run of r rounds made now, and lent enough, answers
+  abbrev pub runEnd : Traced → ℕ → End
+  runEnd w r = runOf mark n (lent mark n (2 ^ 64 - 1) w .world) r .end
+
   pub record Durable (m : Image) (xs : List Move) : Type 0 where
     -- a recovery made now would be accepted
     pub accepts : (ss : List Store) × (cs : Cursors) × (recovery mark n (after m xs .world .image) ≡ accepted ss cs)
-    -- and 384 rounds for each worker, in one run or several, settle it
-    pub settles : (rs : List ℕ) → 384 * workers m ≤ total rs → Settled m (after m (mended xs ++ map (λ r. whole (runs r)) rs))
+    -- the image has as many workers as before; unless a cut has just come, no turn of one of them and no run would be refused
+    pub as-many : workers (after m xs .world .image) ≡ workers m
+    pub turn-made : endsCut false xs ≡ false → (d : ℕ) → d < workers m → refuses mark n (outcome mark n (after m xs .world) d) ≡ false
+    pub run-made : endsCut false xs ≡ false → (r : ℕ) → isHalted (runEnd (after m xs) r) ≡ false
+    -- 384 rounds for each worker, in one run or several, with any turns among them, settle it, and the last run says so
+    pub settles : (ys : List Move) → working ys ≡ true → 384 * workers m ≤ roundsIn ys → Settled m (after m (mended xs ++ ys))
+    pub says-idle : (ys : List Move) (r : ℕ) → working ys ≡ true → 384 * workers m ≤ roundsIn ys + r → runEnd (after m (mended xs ++ ys)) r ≡ AllIdle
 
   -- demand 3
   unfoldable pub DurableAlways : Type 0
@@ -89,8 +140,18 @@ module _ (mark n : ℕ) where
       (m : Image) → Rested m → (xs : List Move) → machine xs ≡ true → plain xs ≡ true → Idle (workers m) (after m xs .world .cursors)
       → Gives n (workers m) (cellsOf m) (after m xs .trace .taken) (after m xs .trace .order) (cellsOf (after m xs .world .image))
 
+  -- a turn call after the other
+  unfoldable pub turnsBy : List ℕ → Traced → Traced
+  turnsBy [] w = w
+  turnsBy (d ∷ ds) w = turnsBy ds (call mark n (turns d) w)
+
+  -- a run is turns, each the one that a turn call makes, in any world
+  unfoldable pub RunsAreTurns : Type 0
+  RunsAreTurns = (r : ℕ) (w : Traced) → (ds : List ℕ) × (call mark n (runs r) w ≡ turnsBy ds w)
+
   -- demand 2, second half: for each entry of the order a block of that worker's turns, after a submit where it was idle;
-  -- after each block the cells are the reference machine's; in the end the sections given have been taken, and all is idle
+  -- after each block the cells are the reference machine's, and every worker stands before the machine's next step of its section;
+  -- in the end the sections given have been taken, numbered one after the other, and all is idle
   pub record Had (m : Image) (gs : List Given) (order : List ℕ) : Type 0 where
     pub blocks : List (List Move)
     pub one-each : length blocks ≡ length order
@@ -99,18 +160,15 @@ module _ (mark n : ℕ) where
     pub follows :
         (i : ℕ) → i ≤ length order → (s : State) → follow (initial n (workers m) (cellsOf m) gs) (take i order) ≡ some s
         → cellsOf (after m (concat (take i blocks)) .world .image) ≡ s .cells
-    pub entered : (d : ℕ) → d < workers m → ofWorker d (after m (concat blocks) .trace .taken) ≡ ofWorker d gs
+    pub stands :
+        (i : ℕ) → i ≤ length order → (s : State) → follow (initial n (workers m) (cellsOf m) gs) (take i order) ≡ some s
+        → (d : ℕ) → d < workers m → cursorAt (after m (concat (take i blocks)) .world .cursors) d ≡ cursorOf (getD (s .queues) d [])
+    pub entered : (d : ℕ) → d < workers m → ofWorker d (after m (concat blocks) .trace .taken) ≡ numbered (at n m (field Finished d)) (ofWorker d gs)
     pub rests : Idle (workers m) (after m (concat blocks) .world .cursors)
-
-  -- sections that the engine takes: they pass the check
-  abbrev pub admissible : ℕ → List Given → Bool
-  admissible D [] = true
-  admissible D (g ∷ gs) =
-      ltb (g .worker) D && eqb (length (g .args)) 8 && areWords (g .args) && areWords (g .code) && passes (check n (length (g .code)) (codeOf (g .code))) && admissible D gs
 
   unfoldable pub EveryOrderHad : Type 0
   EveryOrderHad =
       (m : Image) → Rested m → (gs : List Given) → admissible (workers m) gs ≡ true
-      → ((d : ℕ) → d < workers m → at n m (field Finished d) + length gs < 2 ^ 64)
+      → ((d : ℕ) → d < workers m → at n m (field Finished d) + length (ofWorker d gs) < 2 ^ 64)
       → (order : List ℕ) (final : State) → follow (initial n (workers m) (cellsOf m) gs) order ≡ some final → noneLeft (final .queues) ≡ true
       → Had m gs order

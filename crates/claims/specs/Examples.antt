@@ -1,10 +1,10 @@
 -- Document 01's worked rows ("Cuts of that ticket, and edges") that are to be proved, as one table: a section submitted on a
 -- formatted image of one worker, cut after some of its turns or not, recovered, and run to its end.
 use Prim.Native.Nat.{ℕ, suc, zero, _+_, _*_, _^_}
-use mathlib.Core.List.{List, [], _∷_, map}
-use mathlib.Core.Bool.{Bool, true, false, cond}
+use mathlib.Core.List.{List, [], _∷_, _++_}
 use lib.ListN.{replicate}
-use Rattle.image.specs.Place.{cell}
+use Rattle.image.specs.declared.Field.the-variants.{Count}
+use Rattle.image.specs.Place.{cell, field}
 use Rattle.image.specs.Image.{at}
 use Rattle.engine.specs.declared.Submitted.{Submitted}
 use Rattle.engine.specs.declared.Submitted.the-variants.{Taken, Refused}
@@ -49,16 +49,21 @@ pub record Row : Type 0 where
 abbrev pub row : List ℕ → Cut → Row
 row ws p = record { steps = ws; power = p }
 
--- what is seen: the cause of a refused submit (0: taken), the turns to the end, counted from the recovery where there was a cut,
--- which of them passed (0: none), and what cell 24 then holds
+-- what is seen. Turns are counted from the recovery where there was a cut, else from the submit
 pub record Seen : Type 0 where
+  -- why a turn was refused, or else the submit; 0: neither was
   pub cause : ℕ
+  -- the count word of the worker's record before the first of the turns: 0 where it has no section, as when it was withdrawn
+  pub count : ℕ
+  -- how many turns were made before one answered idle
   pub turns : ℕ
-  pub passed : ℕ
+  -- which of them passed, the first turn being 1
+  pub passed : List ℕ
+  -- what cell 24 then holds
   pub cell24 : ℕ
 
-abbrev pub seen : ℕ → ℕ → ℕ → ℕ → Seen
-seen c t p x = record { cause = c; turns = t; passed = p; cell24 = x }
+abbrev pub seen : ℕ → ℕ → ℕ → List ℕ → ℕ → Seen
+seen c n t ps x = record { cause = c; count = n; turns = t; passed = ps; cell24 = x }
 
 -- document 01's rows
 abbrev pub rows : List Row
@@ -79,17 +84,17 @@ rows =
 -- and what it says of them
 abbrev pub expected : List Seen
 expected =
-    seen 0 19 0 5
-    ∷ seen 0 0 0 0
-    ∷ seen 0 14 0 5
-    ∷ seen 0 6 2 5
-    ∷ seen 4 0 0 0
-    ∷ seen 0 15 0 0
-    ∷ seen 0 15 0 0
-    ∷ seen 5 0 0 0
-    ∷ seen 7 0 0 0
-    ∷ seen 8 0 0 0
-    ∷ seen 9 0 0 0
+    seen 0 4 19 [] 5
+    ∷ seen 0 0 0 [] 0
+    ∷ seen 0 4 14 [] 5
+    ∷ seen 0 4 6 (2 ∷ []) 5
+    ∷ seen 4 0 0 [] 0
+    ∷ seen 0 3 15 [] 0
+    ∷ seen 0 3 15 [] 0
+    ∷ seen 5 0 0 [] 0
+    ∷ seen 7 0 0 [] 0
+    ∷ seen 8 0 0 [] 0
+    ∷ seen 9 0 0 [] 0
     ∷ []
 
 -- ---- playing a row
@@ -106,26 +111,34 @@ abbrev pub powered : Cut → Traced → Traced
 powered never w = w
 powered (after k) w = move mark ownWords (whole recovers) (move mark ownWords (cut 0 (turns 0)) (many k w))
 
--- what follows a turn with this outcome, t turns having been made and turn p of them the last that passed
-abbrev next : Outcome → ℕ → ℕ → Seen → (ℕ → ℕ → Seen) → Seen
-next (stored q v c) t p now more = more (suc t) p
-next (jumped c) t p now more = more (suc t) (suc t)
-next (unheld c) t p now more = more (suc t) (suc t)
-next (waiting b) t p now more = more (suc t) p
-next resting t p now more = now
-next (refused r) t p now more = now
+-- what follows a turn with this outcome, t turns having been made before it, of which those of ps passed: the end, with the cause
+-- c or the turn's, or more turns
+abbrev next : Outcome → ℕ → ℕ → List ℕ → (ℕ → Seen) → (ℕ → List ℕ → Seen) → Seen
+next (stored q v x) c t ps end more = more (suc t) ps
+next (jumped x) c t ps end more = more (suc t) (ps ++ (suc t ∷ []))
+next (unheld x) c t ps end more = more (suc t) (ps ++ (suc t ∷ []))
+next (waiting b) c t ps end more = more (suc t) ps
+next resting c t ps end more = end c
+next (refused r) c t ps end more = end (causeOf r)
 
--- turns until one answers idle, at most k
-abbrev pub ends : ℕ → ℕ → ℕ → Traced → Seen
-ends zero t p w = seen 0 t p (at ownWords (w .world .image) (cell 24))
-ends (suc k) t p w = next (outcome mark ownWords (w .world) 0) t p (seen 0 t p (at ownWords (w .world .image) (cell 24))) (λ u q. ends k u q (turn w))
+-- turns until one answers idle or is refused, at most k; c and n are the row's cause and count before them
+abbrev ends : ℕ → ℕ → ℕ → ℕ → List ℕ → Traced → Seen
+ends c n zero t ps w = seen c n t ps (at ownWords (w .world .image) (cell 24))
+ends c n (suc k) t ps w =
+    next (outcome mark ownWords (w .world) 0) c t ps (λ e. seen e n t ps (at ownWords (w .world .image) (cell 24))) (λ u qs. ends c n k u qs (turn w))
+
+-- the turns of a row, from the world in which they begin; no row has 40
+abbrev pub watched : ℕ → Traced → Seen
+watched c w = ends c (at ownWords (w .world .image) (field Count 0)) 40 0 [] w
 
 abbrev pub board : Traced
 board = from (formatted mark ownWords 1)
 
-abbrev pub byAnswer : Row → Submitted → Seen
-byAnswer r Taken = ends 40 0 0 (powered (r .power) (move mark ownWords (whole (submits 0 1 (replicate 8 0) (r .steps))) board))
-byAnswer r (Refused x) = seen (causeOf x) 0 0 0
+abbrev pub causeIn : Submitted → ℕ
+causeIn Taken = 0
+causeIn (Refused x) = causeOf x
 
 abbrev pub seenIn : Row → Seen
-seenIn r = byAnswer r (submitAnswer mark ownWords (board .world) 0 1 (r .steps))
+seenIn r =
+    watched (causeIn (submitAnswer mark ownWords (board .world) 0 1 (r .steps)))
+    (powered (r .power) (move mark ownWords (whole (submits 0 1 (replicate 8 0) (r .steps))) board))

@@ -85,14 +85,15 @@ noneLeft [] = true
 noneLeft ([] ∷ qs) = noneLeft qs
 noneLeft ((j ∷ js) ∷ qs) = false
 
--- a section submitted: by which worker, with which arguments and instruction words
+-- a section submitted: by which worker, under which number, with which arguments and instruction words. The machine reads no number
 pub record Given : Type 0 where
   pub worker : ℕ
+  pub number : ℕ
   pub args : List ℕ
   pub code : List ℕ
 
-abbrev pub given : ℕ → List ℕ → List ℕ → Given
-given d args ws = record { worker = d; args = args; code = ws }
+abbrev pub given : ℕ → ℕ → List ℕ → List ℕ → Given
+given d k args ws = record { worker = d; number = k; args = args; code = ws }
 
 -- with n own words, of which the first are the arguments and the others 0
 abbrev pub start : ℕ → Given → Job
