@@ -80,12 +80,8 @@ module _ (n f : ℕ) (bs : List ℕ) (rd : Memory) (d : ℕ) (t : TellsAt n f bs
   pub under-way-begun : pc ≢ 0 → among number bs ≡ true
   under-way-begun p = let (before, e, fin) = t .numbers .works p in rw e (among-last before number)
 
-  stands-finished : (k : ℕ) → k ≤ finished → standingIn rd d k ≡ Finished
+  pub stands-finished : (k : ℕ) → k ≤ finished → standingIn rd d k ≡ Finished
   stands-finished k l = rw (le-leb k finished l)
-
-  -- the answer, by its two tests
-  stands-by : (k : ℕ) (a b : Bool) → leb k finished ≡ a → (not (eqb pc 0) && eqb number k) ≡ b → standingIn rd d k ≡ cond a Finished (cond b Begun NotBegun)
-  stands-by k a b p q = rw (p, q)
 
   pub stands-either : (k : ℕ) → among k bs ≡ true → (standingIn rd d k ≡ Begun) ⊎ (standingIn rd d k ≡ Finished)
   stands-either k a = by (leb k finished) refl (ℕ-discrete pc 0) (ℕ-discrete number k)

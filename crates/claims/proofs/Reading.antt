@@ -75,10 +75,10 @@ begun-snoc : (es : List Event) (e : Event) → begunIn (es ++ (e ∷ [])) ≡ le
 begun-snoc es e = ap (λ (z : Reading). z .begun) (read-snoc es e)
 
 -- what a store of the pc keeps of the trace
-abbrev behindStore : Trace → ℕ → Bool → Bool → Trace
+abbrev pub behindStore : Trace → ℕ → Bool → Bool → Trace
 behindStore g d pc starts = cond pc (recording g d starts) g
 
-store-keeps : (g : Trace) (d : ℕ) (pc starts : Bool) → (behindStore g d pc starts .taken ≡ g .taken) × (behindStore g d pc starts .last ≡ g .last) × (behindStore g d pc starts .events ≡ g .events)
+pub store-keeps : (g : Trace) (d : ℕ) (pc starts : Bool) → (behindStore g d pc starts .taken ≡ g .taken) × (behindStore g d pc starts .last ≡ g .last) × (behindStore g d pc starts .events ≡ g .events)
 store-keeps g d true starts = (refl, refl, refl)
 store-keeps g d false starts = (refl, refl, refl)
 

@@ -59,7 +59,7 @@ turn-begun mark n w d p v c l = by (isPc p)
     by true = rw left-over
     by false = refl
 
-begun-own : (d : ℕ) (begun : List Given) (g : Given) (b : Bool) (pc : ℕ) → (b ≡ true → pc ≡ 0 → g .worker ≡ d)
+pub begun-own : (d : ℕ) (begun : List Given) (g : Given) (b : Bool) (pc : ℕ) → (b ≡ true → pc ≡ 0 → g .worker ≡ d)
     → numbersOf d (begunThen begun g b (eqb pc 0)) ≡ begunBehind (numbersOf d begun) pc (g .number) b
 begun-own d begun g false pc mine = refl
 begun-own d begun g true pc mine = by (eqb pc 0) refl
@@ -68,7 +68,7 @@ begun-own d begun g true pc mine = by (eqb pc 0) refl
     by true e = numbers-same d begun g (mine refl (eqb-true pc 0 e))
     by false e = refl
 
-begun-other : (e : ℕ) (begun : List Given) (g : Given) (b : Bool) (pc : ℕ) → (b ≡ true → pc ≡ 0 → g .worker ≢ e) → numbersOf e (begunThen begun g b (eqb pc 0)) ≡ numbersOf e begun
+pub begun-other : (e : ℕ) (begun : List Given) (g : Given) (b : Bool) (pc : ℕ) → (b ≡ true → pc ≡ 0 → g .worker ≢ e) → numbersOf e (begunThen begun g b (eqb pc 0)) ≡ numbersOf e begun
 begun-other e begun g false pc apart = refl
 begun-other e begun g true pc apart = by (eqb pc 0) refl
   where
@@ -103,7 +103,7 @@ pub pc-writes : (n : ℕ) (rd : Memory) (d : ℕ) (g : Given) (p : Place) (v : �
 pc-writes n rd d g p v s h = subst (λ (q : Place). Writes n rd d g q v) (pc-place n rd d g p v s h) s .1
 
 -- the section that it begins is the worker's
-begins-own : (n : ℕ) (rd : Memory) (d : ℕ) (g : Given) (p : Place) (v : ℕ) → Writes n rd d g p v → isPc p ≡ true → rd (field Pc d) ≡ 0 → g .worker ≡ d
+pub begins-own : (n : ℕ) (rd : Memory) (d : ℕ) (g : Given) (p : Place) (v : ℕ) → Writes n rd d g p v → isPc p ≡ true → rd (field Pc d) ≡ 0 → g .worker ≡ d
 begins-own n rd d g p v s h z = pc-writes n rd d g p v s h .0 z .1
 
 -- where a recovery puts a worker its section is begun, or it has none

@@ -18,11 +18,11 @@ use Rattle.image.specs.Image.{Image, at, workers, cellsOf}
 use Rattle.engine.specs.declared.Submitted.the-variants.{Taken}
 use Rattle.engine.specs.Cursor.{Cursor, idle, on, cursorAt}
 use Rattle.engine.specs.Turn.{Outcome, stored, jumped, unheld, waiting, resting, refused}
-use Rattle.engine.specs.Submit.{submitAnswer}
+use Rattle.engine.specs.Submit.{submitAnswer, free}
 use Rattle.engine.specs.declared.Standing.the-variants.{Finished}
 use Rattle.claims.specs.Reference.{Given, given}
 use Rattle.claims.specs.Events.{but}
-use Rattle.claims.specs.Calls.{Traced, recording, isPc, turnBy, Call, submits, turns, runs, recovers, Move, whole, cut, call, lent, move, play, from, recovering, legal, endsCut, plain, callable, machine}
+use Rattle.claims.specs.Calls.{Traced, recording, isPc, turnBy, Call, submits, turns, runs, recovers, Move, whole, cut, call, lent, move, play, from, recovering, legal, endsCut, plain, callable, machine, ofMove}
 use Rattle.claims.specs.Claims.{Rested, ofWorker, after, mended, working, roundsIn}
 use Rattle.claims.specs.Once.{numbersOf, among, Among, begunBy, standing, BegunFinishes, ThroughAlways}
 use Rattle.claims.proofs.LiveTurn.{but-same, but-other}
@@ -31,13 +31,18 @@ use Rattle.claims.proofs.Writes.{Writes, Says, turn-writes}
 use Rattle.claims.proofs.Held.{Running}
 use Rattle.claims.proofs.Turning.{still}
 use Rattle.claims.proofs.Called.{TakenAs, taken-as, accepts}
-use Rattle.claims.proofs.Played.{plenty, Worth, Good, play-good, whole-good}
+use Rattle.claims.proofs.Played.{plenty, Worth, running-lent, Good, play-good, whole-good}
 use Rattle.claims.proofs.Resting.{rested-running}
 use Rattle.claims.proofs.Moves.{play-append, args-full}
 use Rattle.claims.proofs.Keeping.{nextTurn, Fed, submitted, recovered, Sorted, Keeps, Kept, play-keeps, working-keeps}
 use Rattle.claims.proofs.FromRest.{Any, settled-from, settled-pcs}
 use Rattle.claims.proofs.Once.{finished-others, tells-settled}
-use Rattle.claims.proofs.Telling.{begunThen, turn-begun}
+use Rattle.claims.proofs.Telling.{begunThen, turn-begun, pending}
+use Rattle.claims.proofs.Recorded.{tellingOf, aside-of}
+use Rattle.claims.proofs.Reading.{store-keeps}
+use Rattle.claims.proofs.Entries.{apart-of}
+use Rattle.claims.proofs.Behind.{turnMemory, turnCursor, turned-memory, turned-cursors, submitted-aside, submitted-cursors}
+use Rattle.engine.proofs.Planned.{idle-is}
 use Rattle.claims.proofs.Feeding.{of-append}
 
 -- ---- the sections begun become more
@@ -125,3 +130,271 @@ module _ (mark n : ℕ) (wide : 8 ≤ n) (narrow : n ≤ 64) where
       let more : among j (begunBy mark n v d) ≡ true = rw (ext .1, numbers-append d gs (ext .0)) (among-front j (numbersOf d gs) (numbersOf d (ext .0)) a) in
       let pc = settled-pcs mark n wide narrow m rest xs ys h l y k d dl .1 in
       rw (le-leb j _ (finished-others n _ _ (at n (v .world .image)) d t j more (inl pc)))
+
+-- ---- a section that is taken and not cut off
+
+-- uncut, and no recovery
+abbrev Plain : Move → Image → Type 0
+Plain (whole c) m = not (recovering c) ≡ true
+Plain (cut k c) m = ⊥
+
+plain-sorted : (mark n : ℕ) (xs : List Move) (w : Traced) → plain xs ≡ true → Sorted mark n Plain xs w
+unfolding plain
+plain-sorted mark n [] w h = tt
+plain-sorted mark n (whole c ∷ xs) w h = (and-left (not (recovering c)) (plain xs) h, plain-sorted mark n xs _ (and-right (not (recovering c)) (plain xs) h))
+plain-sorted mark n (cut k c ∷ xs) w h = absurd (false≢true h)
+
+among-more : (g : Given) (gs : List Given) (x : Given) (a b : Bool) → Among g gs → Among g (begunThen gs x a b)
+among-more g gs x false b h = h
+among-more g gs x true false h = h
+among-more g gs x true true (before, behind, e) = (before, behind ++ (x ∷ []), rw e (append-assoc before (g ∷ behind) (x ∷ [])))
+
+module _ (mark n D : ℕ) (cells : List ℕ) (d : ℕ) (dl : d < D) (g : Given) where
+  -- it is begun, or the one that worker d has pending
+  abbrev Follows : Traced → Type 0
+  Follows w = Among g (w .trace .begun) ⊎ ((pending mark n D cells w d ≡ true) × (w .trace .last d ≡ g))
+
+  abbrev Nothing : Traced → Type 0
+  Nothing w = Unit {0}
+
+  module _ (w : Traced) (e : ℕ) (r : Running mark n D cells w) (el : e < D) (x : Follows w) where
+    abbrev rd : Memory
+    rd = at n (w .world .image)
+
+    abbrev cursor : Cursor
+    cursor = cursorAt (w .world .cursors) e
+
+    -- what is pending and its pc stay, for another worker's turn or its own
+    waits-on : (w′ : Traced) (c : Cursor) → w′ .trace .last d ≡ w .trace .last d → at n (w′ .world .image) (field Pc d) ≡ rd (field Pc d)
+        → cursorAt (w′ .world .cursors) d ≡ but (cursorAt (w .world .cursors)) e c d → (d ≡ e → pend (rd (field Pc e)) cursor ≡ pend (rd (field Pc e)) c)
+        → (pending mark n D cells w d ≡ true) × (w .trace .last d ≡ g) → (pending mark n D cells w′ d ≡ true) × (w′ .trace .last d ≡ g)
+    waits-on w′ c t p cs q (h, k) = (rw (p, cs) (by (ℕ-discrete d e)), t ∙ k)
+      where
+        by : Dec (d ≡ e) → pend (rd (field Pc d)) (but (cursorAt (w .world .cursors)) e c d) ≡ true
+        by (yes i) = let a : pend (rd (field Pc e)) cursor ≡ true = rw i at h in rw (i, but-same (cursorAt (w .world .cursors)) e c) (sym (q i) ∙ a)
+        by (no i) = rw (but-other (cursorAt (w .world .cursors)) e c d i) h
+
+    -- a turn, by its outcome
+    outcome-follows :
+        (o : Outcome) → Says n rd e (w .trace .last e) o → Pends (rd (field Pc e)) cursor o → Fed w o → at n (turnBy mark n w e o .world .image) ≡ turnMemory rd o
+        → ((f : ℕ) → f < D → cursorAt (turnBy mark n w e o .world .cursors) f ≡ but (cursorAt (w .world .cursors)) e (turnCursor cursor o) f) → Follows (turnBy mark n w e o)
+    outcome-follows (stored p v c) y ps fed m cs = by x (isPc p) refl ps (ℕ-discrete d e)
+      where
+        behind : Traced
+        behind = turnBy mark n w e (stored p v c)
+
+        begins : behind .trace .begun ≡ begunThen (w .trace .begun) (w .trace .last e) (isPc p) (eqb (rd (field Pc e)) 0)
+        begins = turn-begun mark n w e p v c (fed refl)
+
+        lasts : behind .trace .last ≡ w .trace .last
+        lasts = store-keeps (w .trace) e (isPc p && not (eqb (w .world .left) 0)) (eqb (rd (field Pc e)) 0) .1
+
+        by : Follows w → (b : Bool) → isPc p ≡ b → Passes (rd (field Pc e)) cursor v c b → Dec (d ≡ e) → Follows behind
+        by (inl h) b i k q = inl (rw begins (among-more g (w .trace .begun) (w .trace .last e) (isPc p) (eqb (rd (field Pc e)) 0) h))
+        by (inr h) false i k q =
+            inr (waits-on behind c (ap (λ (f : ℕ → Given). f d) lasts) (rw (m, apart-of isPc (field Pc d) p refl i)) (cs d dl) (λ z. k) h)
+        by (inr h) true i k (no q) =
+            let a = aside-of n rd e (w .trace .last e) d q p v y in
+            inr (waits-on behind c (ap (λ (f : ℕ → Given). f d) lasts) (rw (m, apart-of (tellingOf d) (field Pc d) p (eq-eqb d d refl) a)) (cs d dl) (λ z. absurd (q z)) h)
+        by (inr (h, t)) true i k (yes q) =
+            let z : eqb (rd (field Pc e)) 0 ≡ true = sym (k .0) ∙ (rw q at h) in
+            let last : w .trace .last e ≡ g = rw q at t in
+            inl (w .trace .begun, [], begins ∙ rw (i, z, last))
+    outcome-follows (jumped c) y ps fed m cs = ⊎-elim inl (λ h. inr (waits-on (turnBy mark n w e (jumped c)) c refl refl (cs d dl) (λ z. ps) h)) x
+    outcome-follows (unheld c) y ps fed m cs = ⊎-elim inl (λ h. inr (waits-on (turnBy mark n w e (unheld c)) c refl refl (cs d dl) (λ z. ps) h)) x
+    outcome-follows (waiting b) y ps fed m cs = x
+    outcome-follows resting y ps fed m cs = x
+    outcome-follows (refused q) y ps fed m cs = x
+
+    turn-follows : Fed w (nextTurn n w e) → Follows (turnBy mark n w e (nextTurn n w e))
+    turn-follows fed =
+        let ph = r .live .phase e el in
+        outcome-follows (nextTurn n w e) (turn-writes n rd e (w .trace .last e) cursor (r .locks e) (w .trace .jumps e) ph)
+        (pends-turn n rd e (w .trace .last e) cursor (r .locks e) (w .trace .jumps e) ph) fed (turned-memory mark n D cells w e r el fed) (turned-cursors mark n D cells w e r el)
+
+  -- a submission of another worker; the worker's own is refused while one is pending
+  submit-follows :
+      8 ≤ n → (w : Traced) (e k : ℕ) (args ws : List ℕ) → length args ≡ 8 → Running mark n D cells w → TakenAs mark n (w .world) e k ws → Follows w → Follows (submitted mark n w e k args ws Taken)
+  submit-follows wide w e k args ws eight r t (inl h) = inl h
+  submit-follows wide w e k args ws eight r t (inr (h, last)) = by (ℕ-discrete d e)
+    where
+      by : Dec (d ≡ e) → Follows (submitted mark n w e k args ws Taken)
+      by (yes i) =
+          let q : pend (at n (w .world .image) (field Pc e)) (cursorAt (w .world .cursors) e) ≡ true = rw i at h in
+          absurd (false≢true (sym (pend-idle (at n (w .world .image) (field Pc e))) ∙ (rw (idle-is (cursorAt (w .world .cursors) e) (t .idles)) at q)))
+      by (no i) =
+          let pcs = submitted-aside mark n D cells w e k args ws wide eight r t (field Pc d) refl in
+          inr (
+            rw (pcs, submitted-cursors mark n D cells w e k args ws wide eight r t d dl, but-other (cursorAt (w .world .cursors)) e (on 0 0) d i) h,
+            but-other (w .trace .last) e (given e k args ws) d i ∙ last,
+          )
+
+  follows-keeps : 8 ≤ n → Keeps mark n D cells Follows Nothing Plain
+  follows-keeps wide =
+      record {
+        turn = λ w e r l fed x. turn-follows w e r l x fed;
+        still = λ w e o z x. tt;
+        worth = λ w x. tt;
+        lend = λ k w x. x;
+        lend-cut = λ k w x. tt;
+        submit = λ w e k args ws r h t left a x. submit-follows wide w e k args ws (args-full e k args ws h) r t x;
+        submit-cut = λ w j e k args ws r h t a x. tt;
+        recover = λ w k left a x. absurd (false≢true a);
+        recover-cut = λ w j k a x. tt;
+        cut-off = λ w x. tt;
+      }
+
+-- ---- lists one behind the other
+
+machine-parts : (xs ys : List Move) → machine (xs ++ ys) ≡ true → (machine xs ≡ true) × (machine ys ≡ true)
+unfolding machine
+machine-parts [] ys h = (refl, h)
+machine-parts (x ∷ xs) ys h =
+    let c = callable (ofMove x) in
+    let p = machine-parts xs ys (and-right c (machine (xs ++ ys)) h) in
+    (and-both c (machine xs) (and-left c (machine (xs ++ ys)) h) (p .0), p .1)
+
+legal-parts : (b : Bool) (xs ys : List Move) → legal b (xs ++ ys) ≡ true → (legal b xs ≡ true) × (legal (endsCut b xs) ys ≡ true)
+unfolding legal endsCut
+legal-parts b [] ys h = (refl, h)
+legal-parts b (whole c ∷ xs) ys h =
+    let o = not b || recovering c in
+    let p = legal-parts false xs ys (and-right o (legal false (xs ++ ys)) h) in
+    (and-both o (legal false xs) (and-left o (legal false (xs ++ ys)) h) (p .0), p .1)
+legal-parts b (cut k c ∷ xs) ys h =
+    let o = not b || recovering c in
+    let p = legal-parts true xs ys (and-right o (legal true (xs ++ ys)) h) in
+    (and-both o (legal true xs) (and-left o (legal true (xs ++ ys)) h) (p .0), p .1)
+
+ends-append : (b : Bool) (xs ys : List Move) → endsCut b (xs ++ ys) ≡ endsCut (endsCut b xs) ys
+unfolding endsCut
+ends-append b [] ys = refl
+ends-append b (whole c ∷ xs) ys = ends-append false xs ys
+ends-append b (cut k c ∷ xs) ys = ends-append true xs ys
+
+plain-uncut : (xs : List Move) → plain xs ≡ true → endsCut false xs ≡ false
+unfolding plain endsCut
+plain-uncut [] h = refl
+plain-uncut (whole c ∷ xs) h = plain-uncut xs (and-right (not (recovering c)) (plain xs) h)
+plain-uncut (cut k c ∷ xs) h = absurd (false≢true h)
+
+-- a submit is not made where a recovery is owing
+submit-legal : (b : Bool) (d k : ℕ) (args ws : List ℕ) (ys : List Move) → legal b (whole (submits d k args ws) ∷ ys) ≡ true → (b ≡ false) × (legal false ys ≡ true)
+unfolding legal
+submit-legal false d k args ws ys h = (refl, h)
+submit-legal true d k args ws ys h = absurd (false≢true h)
+
+among-behind : (k : ℕ) (xs ys : List ℕ) → among k (xs ++ (k ∷ ys)) ≡ true
+among-behind k [] ys = rw (eq-eqb k k refl)
+among-behind k (x ∷ xs) ys = by (eqb x k) (among-behind k xs ys)
+  where
+    by : (b : Bool) → among k (xs ++ (k ∷ ys)) ≡ true → (b || among k (xs ++ (k ∷ ys))) ≡ true
+    by true h = refl
+    by false h = h
+
+among-number : (d : ℕ) (g : Given) (gs : List Given) → g .worker ≡ d → Among g gs → among (g .number) (numbersOf d gs) ≡ true
+among-number d g gs i (before, behind, e) =
+    rw (e, numbers-append d before (g ∷ behind), eq-eqb (g .worker) d i) (among-behind (g .number) (numbersOf d before) (numbersOf d behind))
+
+-- ---- the theorem
+
+module _ (mark n : ℕ) (wide : 8 ≤ n) (narrow : n ≤ 64) (m : Image) (rest : Rested mark n m) (xs ys : List Move) (d k : ℕ) (args ws : List ℕ) where
+  abbrev handed : List Move
+  handed = xs ++ (whole (submits d k args ws) ∷ ys)
+
+  abbrev section : Given
+  section = given d k args ws
+
+  module _ (h : machine handed ≡ true) (l : legal false handed ≡ true) (p : plain ys ≡ true) (t : submitAnswer mark n (after mark n m xs .world) d k ws ≡ Taken) where
+    abbrev D : ℕ
+    D = workers m
+
+    abbrev cells : List ℕ
+    cells = cellsOf m
+
+    abbrev w : Traced
+    w = after mark n m xs
+
+    uncut : endsCut false xs ≡ false
+    uncut = submit-legal (endsCut false xs) d k args ws ys (legal-parts false xs (whole (submits d k args ws) ∷ ys) l .1) .0
+
+    running : Running mark n D cells w
+    running =
+        subst (λ (b : Bool). Good mark n D cells b w) uncut
+        (play-good mark n D cells false xs (from m) wide narrow (machine-parts xs (whole (submits d k args ws) ∷ ys) h .0) (legal-parts false xs (whole (submits d k args ws) ∷ ys) l .0) (rested-running mark n m rest))
+
+    parts : (callable (submits d k args ws) ≡ true) × (machine ys ≡ true)
+    unfolding machine
+    parts =
+        let q = machine-parts xs (whole (submits d k args ws) ∷ ys) h .1 in
+        (and-left (callable (submits d k args ws)) (machine ys) q, and-right (callable (submits d k args ws)) (machine ys) q)
+
+    abbrev lends : Traced
+    lends = lent mark n (plenty mark n D cells) w
+
+    taken-lent : submitAnswer mark n (lends .world) d k ws ≡ Taken
+    unfolding submitAnswer free
+    taken-lent = t
+
+    taken-as-lent : TakenAs mark n (lends .world) d k ws
+    taken-as-lent = taken-as mark n (lends .world) d k ws taken-lent
+
+    below : d < D
+    below = subst (λ (e : ℕ). d < e) (running .reached .many) (taken-as-lent .below)
+
+    -- behind the submit it is pending
+    abbrev behind : Traced
+    behind = move mark n (whole (submits d k args ws)) w
+
+    behind-is : behind ≡ submitted mark n lends d k args ws Taken
+    unfolding move call
+    behind-is = rw taken-lent
+
+    submitted-follows : Follows mark n D cells d below section behind
+    submitted-follows =
+        let eight = args-full d k args ws (parts .0) in
+        let r = running-lent mark n D cells (plenty mark n D cells) w running in
+        let pcs = submitted-aside mark n D cells lends d k args ws wide eight r taken-as-lent (field Pc d) refl in
+        rw behind-is
+        (inr (
+          rw (pcs, submitted-cursors mark n D cells lends d k args ws wide eight r taken-as-lent d below, but-same (cursorAt (w .world .cursors)) d (on 0 0)) (pend-start _ 0 (taken-as-lent .pc)),
+          but-same (w .trace .last) d section,
+        ))
+
+    behind-running : Running mark n D cells behind
+    behind-running = whole-good mark n D cells false (submits d k args ws) w wide narrow (parts .0) refl running
+
+    -- and behind the calls after it begun or pending
+    list-follows : Running mark n D cells (after mark n m handed) × Follows mark n D cells d below section (after mark n m handed)
+    unfolding play
+    list-follows =
+        let legals = submit-legal (endsCut false xs) d k args ws ys (legal-parts false xs (whole (submits d k args ws) ∷ ys) l .1) .1 in
+        let K = follows-keeps mark n D cells d below section wide in
+        let kept = play-keeps mark n D cells (Follows mark n D cells d below section) (Nothing mark n D cells d below section) Plain K false ys behind wide narrow (parts .1) legals (plain-sorted mark n ys behind p) (behind-running, submitted-follows) in
+        rw (play-append mark n xs (whole (submits d k args ws) ∷ ys) (from m))
+        (subst (λ (b : Bool). Kept mark n D cells (Follows mark n D cells d below section) (Nothing mark n D cells d below section) Plain K b (play mark n ys behind)) (plain-uncut ys p) kept)
+
+    mended-same : mended mark n handed ≡ handed
+    unfolding endsCut
+    mended-same = rw (ends-append false xs (whole (submits d k args ws) ∷ ys), plain-uncut ys p)
+
+    -- with all workers idle nothing is pending
+    list-through :
+        (zs : List Move) → working zs ≡ true → 384 * D ≤ roundsIn zs
+        → Among section (after mark n m (handed ++ zs) .trace .begun) × (standing mark n (after mark n m (handed ++ zs)) d k ≡ Finished)
+    list-through zs y rounds =
+        let v = after mark n m (handed ++ zs) in
+        let f : Follows mark n D cells d below section v =
+        rw (play-append mark n handed zs (from m))
+        (working-keeps mark n D cells (Follows mark n D cells d below section) (Nothing mark n D cells d below section) Plain (follows-keeps mark n D cells d below section wide) zs (after mark n m handed) y (list-follows .0) (list-follows .1))
+        in
+        let e = mended-same in
+        let (cursor, pc) = rw e at (settled-pcs mark n wide narrow m rest handed zs h l y rounds d below) in
+        let none : pending mark n D cells v d ≡ false = rw cursor (pend-idle (at n (v .world .image) (field Pc d))) in
+        let begun : Among section (v .trace .begun) = ⊎-elim (λ a. a) (λ a. absurd (false≢true (sym none ∙ a .0))) f in
+        let tells = rw e at (tells-settled mark n wide narrow m rest handed h l zs y d below) in
+        (begun, rw (le-leb k _ (finished-others n _ _ (at n (v .world .image)) d tells k (among-number d section (v .trace .begun) refl begun) (inl pc))))
+
+pub through-always : (mark n : ℕ) → 8 ≤ n → n ≤ 64 → ThroughAlways mark n
+unfolding ThroughAlways
+through-always mark n wide narrow m rest xs ys d k args ws h l p t zs y rounds = list-through mark n wide narrow m rest xs ys d k args ws h l p t zs y rounds

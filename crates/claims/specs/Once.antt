@@ -59,6 +59,17 @@ Within [] ys = Unit {0}
 Within (x ∷ xs) [] = ⊥
 Within (x ∷ xs) (y ∷ ys) = ((x ≡ y) × Within xs ys) ⊎ Within (x ∷ xs) ys
 
+-- a submit to worker d is of this section, and so is every one of a list
+abbrev pub OnlyCall : ℕ → Given → Call → Type 0
+OnlyCall d g (submits e k args ws) = e ≡ d → given e k args ws ≡ g
+OnlyCall d g (turns e) = Unit {0}
+OnlyCall d g (runs r) = Unit {0}
+OnlyCall d g recovers = Unit {0}
+
+abbrev pub Only : ℕ → Given → List Move → Type 0
+Only d g [] = Unit {0}
+Only d g (x ∷ xs) = OnlyCall d g (ofMove x) × Only d g xs
+
 -- mark: word 0 of an image; n: own words in a record
 module _ (mark n : ℕ) where
   -- of worker d in a world: its pc, the number of its section, its last finished number, and what it answers about number k
@@ -169,17 +180,6 @@ module _ (mark n : ℕ) where
   RetriedAlways =
       (m : Image) → Rested mark n m → (xs : List Move) → machine xs ≡ true → legal false xs ≡ true → (d : ℕ) → d < workers m → inTurn d xs (after mark n m []) ≡ true
       → Retried m (after mark n m xs) d
-
-  -- every submit to worker d is this one
-  abbrev pub Only : ℕ → Given → List Move → Type 0
-  Only d g [] = Unit {0}
-  Only d g (x ∷ xs) = OnlyCall (ofMove x) × Only d g xs
-    where
-      OnlyCall : Call → Type 0
-      OnlyCall (submits e k args ws) = e ≡ d → given e k args ws ≡ g
-      OnlyCall (turns e) = Unit {0}
-      OnlyCall (runs r) = Unit {0}
-      OnlyCall recovers = Unit {0}
 
   -- the client's protocol: one section, handed in again and again under the same number, is begun once when the answer is 3
   unfoldable pub ExactlyOnce : Type 0
