@@ -2,15 +2,15 @@
 -- behind a turn (`turned-memory`, `turned-cursors`), the words that a submission leaves (`submitted-aside`), and those that a recovery
 -- does, with the cursors behind it (`recovered-fixed`, `recovered-cursors`).
 use Prim.Native.Nat.{ℕ, _^_, _-_, _<_, _≤_}
-use mathlib.Core.Path.{_≡_, refl, ap, subst, sym, _∙_}
-use mathlib.Core.Bool.{true, false}
+use mathlib.Core.Path.{_≡_, refl, sym}
+use mathlib.Core.Bool.{true}
 use mathlib.Core.List.{List}
-use lib.ListN.{length, take}
+use lib.ListN.{length}
 use lib.Seq.{take-all}
 use native.Mathlib.Omega.{arith}
 use Rattle.image.specs.declared.Field.the-variants.{Number}
-use Rattle.image.specs.Place.{Place, field, Memory, upd, updAll}
-use Rattle.image.specs.Image.{Image, at, workers}
+use Rattle.image.specs.Place.{Place, field, Memory, upd}
+use Rattle.image.specs.Image.{at, workers}
 use Rattle.section.specs.Check.{codeOf}
 use Rattle.section.proofs.Facts.{check-parts}
 use Rattle.engine.specs.declared.Submitted.the-variants.{Taken}
@@ -19,15 +19,14 @@ use Rattle.engine.specs.Turn.{Outcome, stored, jumped, unheld, waiting, resting
 use Rattle.engine.specs.Submit.{submission}
 use Rattle.engine.proofs.Placed.{sayable}
 use Rattle.engine.proofs.Submission.{submission-length}
-use Rattle.recovery.specs.Recovery.{plan, resumed, resumedAll, recovery}
+use Rattle.recovery.specs.Recovery.{resumed}
 use Rattle.claims.specs.Events.{but}
 use Rattle.claims.specs.Calls.{Traced, turnBy}
-use Rattle.claims.proofs.Invariant.{Phase, Crashed}
 use Rattle.claims.proofs.Turns.{Stepped}
 use Rattle.claims.proofs.AtStore.{memory-store}
 use Rattle.claims.proofs.LiveTurn.{but-self}
 use Rattle.claims.proofs.Covers.{crashed-parts}
-use Rattle.claims.proofs.Stages.{stays, Kept, plan-kept}
+use Rattle.claims.proofs.Stages.{stays, plan-kept}
 use Rattle.claims.proofs.Submission.{Aside, submission-aside}
 use Rattle.claims.proofs.Laid.{submission-laid}
 use Rattle.claims.proofs.RecoveryImage.{resumed-cursor, recovery-at}

@@ -3,7 +3,7 @@
 use Prim.Native.Nat.{ℕ, _+_, _-_, _<_, _≤_}
 use mathlib.Core.Path.{_≡_, ap, subst, _∙_, sym}
 use mathlib.Core.Bool.{true, _&&_}
-use mathlib.Core.List.{List, []}
+use mathlib.Core.List.{List}
 use lib.ListN.{length, take}
 use lib.Seq.{take-all}
 use lib.Dec.{eqb}
@@ -11,7 +11,7 @@ use borrow.Author.Tests.{eqb-true}
 use native.Mathlib.Omega.{arith}
 use Rattle.base.proofs.Bools.{and-left, and-right}
 use Rattle.image.specs.declared.Field.the-variants.{Count, Pc, Finished}
-use Rattle.image.specs.Place.{Place, field, Memory, updAll}
+use Rattle.image.specs.Place.{field, Memory, updAll}
 use Rattle.image.specs.Image.{Image, at, workers, headerOk, putAll}
 use Rattle.image.proofs.Lists.{header-all, workers-all}
 use Rattle.section.specs.declared.Verdict.the-variants.{Pass}

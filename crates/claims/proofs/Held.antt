@@ -4,7 +4,7 @@ use Prim.Native.Nat.{ℕ, suc, _<_, _≤_}
 use mathlib.Core.Path.{_≡_, refl, subst, _∙_, sym, fun-ext}
 use mathlib.Core.Bool.{Bool, true, false, cond, _&&_, not}
 use mathlib.Core.Option.{some}
-use mathlib.Core.List.{List, []}
+use mathlib.Core.List.{List}
 use lib.Dec.{eqb, ltb}
 use borrow.Author.Tests.{lt-ltb, ne-eqb}
 use native.Mathlib.Omega.{arith}
@@ -18,7 +18,7 @@ use Rattle.section.specs.declared.Op.{Op}
 use Rattle.section.specs.declared.Op.the-variants.{Acquire, Release, Assign, Jump, Finish, Unknown}
 use Rattle.engine.specs.Cursor.{Cursor, cursorAt, placed}
 use Rattle.engine.specs.Turn.{Outcome, stored, jumped, unheld, waiting, resting as rests, refused, turnAt}
-use Rattle.engine.specs.World.{world, leaves}
+use Rattle.engine.specs.World.{leaves}
 use Rattle.engine.proofs.Placed.{Full, sayable}
 use Rattle.recovery.specs.Recovery.{targetTurn}
 use Rattle.claims.specs.Reference.{Given, State, follow, initial}

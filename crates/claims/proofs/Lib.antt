@@ -81,6 +81,7 @@ pub mod Admitted
 pub mod Reading
 pub mod FromRest
 pub mod Once
+pub mod Finishes
 pub mod Through
 pub mod Retry
 -- Demand 2, second half: every order that the reference machine follows to its end is had, entry by entry, each by a block of

@@ -22,7 +22,7 @@ use Rattle.section.specs.Op.{eval}
 use Rattle.section.specs.Valid.{Valid}
 use Rattle.section.proofs.Facts.{acquire-above}
 use Rattle.section.proofs.Held.{after-acquire, after-release, after-jump}
-use Rattle.section.proofs.Ranges.{acquire-range, opTurns}
+use Rattle.section.proofs.Ranges.{acquire-range}
 use Rattle.engine.specs.Cursor.{on}
 use Rattle.engine.specs.Turn.{operand, codeIn, wordIn, spareAddr, spareVal, switched, opTurn, turnAt, stored, waiting}
 use Rattle.recovery.specs.Recovery.{targetOf, targetTurn}
@@ -31,7 +31,7 @@ use Rattle.claims.proofs.Invariant.{opAt, heldAt, Sectioned, logsHeld, 
 use Rattle.claims.proofs.Turns.{inRecord, takes, Stepped}
 use Rattle.claims.proofs.Fields.{quiet-intent, quiet-finished, quiet-lock, quiet-spare-addr, quiet-spare-val, spare-addr-other, spare-val-other, spare-addr-now, spare-val-now, spare-val-addr, next-step, next-address, next-value}
 use Rattle.claims.proofs.Ready.{turn-op, step-behind, finish-free}
-use Rattle.claims.proofs.Origins.{Origin, began, after, reads-kept, Before, before-kept, near, arrive}
+use Rattle.claims.proofs.Origins.{Origin, began, after, reads-kept, Before, before-kept, near, arrive, near-ready}
 use Rattle.claims.proofs.Entries.{addr-no-pc, val-no-pc}
 
 -- a jump is never first, so that there is a step that is over
@@ -221,16 +221,8 @@ module _ (n : ℕ) (rd : Memory) (d : ℕ) (g : Given) (k j locks : ℕ) (b : Be
   near-op t Finish o r = finish-turn o t r
   near-op t Unknown o r = absurd r
 
-  near-ready : (t : ℕ) (x : Op) → Nearing n rd d k t (heldAt n rd d k) locks x → t < opTurns x
-  near-ready t (Acquire a) r = let l = r .0 in omega arith
-  near-ready t (Release a) r = let l = r .0 in omega arith
-  near-ready t (Assign a e) r = let l = r .0 in omega arith
-  near-ready t (Jump a c) r = let l = r .0 in omega arith
-  near-ready t Finish r = let l = r .0 in omega arith
-  near-ready t Unknown r = absurd r
-
   -- a turn on the way to the pc
   pub near-turn : (t : ℕ) → Nearing n rd d k t (heldAt n rd d k) locks (opAt n rd d k) → Stepped n rd d g locks j (turnAt n rd d (on k t))
   near-turn t r =
       let x = opAt n rd d k in
-      rw (turn-op n rd d k t x (b .sectioned .valid) (b .below) refl (near-ready t x r)) (near-op t x refl r)
+      rw (turn-op n rd d k t x (b .sectioned .valid) (b .below) refl (near-ready n rd d k t (heldAt n rd d k) locks x r)) (near-op t x refl r)

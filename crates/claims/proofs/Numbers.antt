@@ -1,19 +1,18 @@
 -- Lists of numbers that rise, and what a worker's record says of the numbers that it has begun (`RecordedAt`): with the pc 0 the
 -- finished number is the last of them; else the record's number is, and finished is that one or the one before. Then what each store
 -- of a pc, a number or a finished number makes of it.
-use Prim.Native.Nat.{ℕ, suc, _+_, _<_, _≤_}
-use mathlib.Core.Path.{_≡_, refl, sym, ap, subst, _∙_}
-use mathlib.Core.Logic.{_≢_, _⊎_, inl, inr, ⊎-elim}
-use mathlib.Core.Bool.{Bool, true, false, cond, _&&_, _||_, true≢false, false≢true}
+use Prim.Native.Nat.{ℕ, _+_, _<_, _≤_}
+use mathlib.Core.Path.{_≡_, refl, sym, ap, _∙_}
+use mathlib.Core.Logic.{_≢_, _⊎_, inl, inr}
+use mathlib.Core.Bool.{Bool, true, false, _||_, false≢true}
 use mathlib.Core.List.{List, [], _∷_, _++_, map}
-use lib.ListN.{length}
 use lib.Dec.{eqb, ltb}
-use borrow.Author.Tests.{ltb-true, lt-ltb, eqb-true, eq-eqb, ne-eqb}
+use borrow.Author.Tests.{ltb-true, lt-ltb, eqb-true, eq-eqb}
 use native.Mathlib.Omega.{arith}
 use Rattle.base.proofs.Bools.{and-left, and-right, and-both}
 use Rattle.claims.specs.Reference.{Given}
 use Rattle.claims.specs.Claims.{ofWorker}
-use Rattle.claims.specs.Once.{numbersOf, rising, lastOr, upFrom, among}
+use Rattle.claims.specs.Once.{numbersOf, rising, lastOr, among}
 use Rattle.claims.proofs.Feeding.{of-snoc-same, of-snoc-other}
 
 -- ---- rising lists

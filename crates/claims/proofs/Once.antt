@@ -4,33 +4,31 @@
 use Prim.Native.Nat.{ℕ, suc, _<_, _≤_}
 use mathlib.Core.Path.{_≡_, refl, sym, ap, subst, _∙_}
 use mathlib.Core.Logic.{_≢_, _⊎_, inl, inr, ⊎-elim}
-use mathlib.Core.Bool.{Bool, true, false, cond, _&&_, not, false≢true, true≢false}
+use mathlib.Core.Bool.{Bool, true, false, false≢true}
 use mathlib.Core.List.{List, [], _∷_, _++_}
 use mathlib.Core.Option.{some}
-use lib.ListN.{length, getD}
-use lib.Dec.{eqb, leb}
-use borrow.Author.Tests.{eq-eqb, ne-eqb, eqb-true, eqb-false, le-leb, leb-true, lt-leb}
+use lib.ListN.{getD}
+use lib.Dec.{leb}
+use borrow.Author.Tests.{eq-eqb, ne-eqb, le-leb}
 use native.Mathlib.Omega.{arith}
-use native.Mathlib.Decide.{ℕ-discrete, decLe}
+use native.Mathlib.Decide.{ℕ-discrete}
 use Rattle.image.specs.declared.Field.the-variants.{Count, Pc, Number, Finished as FinishedField}
-use Rattle.image.specs.Place.{field, step, Memory}
+use Rattle.image.specs.Place.{field, Memory}
 use Rattle.image.specs.Image.{Image, at, workers, cellsOf}
 use Rattle.section.specs.declared.Op.{Op}
 use Rattle.section.specs.declared.Op.the-variants.{Acquire, Release, Assign, Jump, Finish, Unknown}
 use Rattle.section.specs.Op.{opOf}
 use Rattle.section.proofs.Steps.{ends}
-use Rattle.engine.specs.Cursor.{cursorAt, allIdle}
 use Rattle.engine.specs.Turn.{codeIn}
 use Rattle.recovery.specs.Recovery.{namedStep, sectionOk, entryOk, pcOk}
-use Rattle.engine.specs.declared.Standing.{Standing}
 use Rattle.engine.specs.declared.Standing.the-variants.{NotBegun, Begun, Finished}
 use Rattle.engine.specs.Asking.{standingIn}
-use Rattle.claims.specs.Reference.{Given, Job, State, follow, initial}
-use Rattle.claims.specs.Events.{readOff, reading, readFrom}
+use Rattle.claims.specs.Reference.{Job, State, follow, initial}
+use Rattle.claims.specs.Events.{readFrom}
 use Rattle.claims.specs.Calls.{Traced, Move, from, legal, machine}
-use Rattle.claims.specs.Claims.{Rested, ofWorker, after, mended, working, roundsIn}
-use Rattle.claims.specs.Once.{rising, lastOr, among, Once, Told, Asked, OnceAlways, ToldAlways, AskedAlways, BegunFinishes, begunBy, standing, startedAt, pcOf, numberOf, finishedOf}
-use Rattle.claims.proofs.Invariant.{opAt, JobOf}
+use Rattle.claims.specs.Claims.{Rested, after, mended, working}
+use Rattle.claims.specs.Once.{rising, lastOr, among, OnceAlways, ToldAlways, AskedAlways, begunBy, startedAt, pcOf, numberOf, finishedOf}
+use Rattle.claims.proofs.Invariant.{opAt}
 use Rattle.claims.proofs.Ready.{step-behind}
 use Rattle.claims.proofs.Covers.{crashed-parts}
 use Rattle.claims.proofs.Settled.{ok-sectioned, ok-named}
@@ -42,10 +40,10 @@ use Rattle.claims.proofs.Durable.{Admitted}
 use Rattle.claims.proofs.Admitted.{begun-admitted}
 use Rattle.claims.proofs.Keeping.{Keeps}
 use Rattle.claims.proofs.FromRest.{Any, kept-list, kept-settled}
-use Rattle.claims.proofs.Numbers.{RecordedAt, last-snoc, rising-front, rising-snoc, last-above, among-bounds, among-snoc, among-last, rising-last}
+use Rattle.claims.proofs.Numbers.{last-snoc, rising-front, among-bounds, among-snoc, among-last, rising-last}
 use Rattle.claims.proofs.Recorded.{TellsAt}
 use Rattle.claims.proofs.Telling.{pending, Tells, Telling, telling-keeps}
-use Rattle.claims.proofs.Events.{begun-within, read-none}
+use Rattle.claims.proofs.Events.{begun-within}
 use Rattle.claims.proofs.Reading.{ReadOff, ReadsOff, reading-keeps}
 
 -- ---- one worker's answers, by what its record tells

@@ -8,13 +8,12 @@ use mathlib.Core.List.{List, [], _∷_, map}
 use lib.ListN.{length, getD, set, length-set}
 use lib.Seq.{getD-set-same, getD-set-other}
 use lib.Dec.{eqb, ltb}
-use borrow.Author.Tests.{lt-ltb, eq-eqb, ne-eqb, ltb-true, ltb-false}
+use borrow.Author.Tests.{eq-eqb, ne-eqb, ltb-true, ltb-false}
 use native.Mathlib.Omega.{arith}
 use native.Mathlib.Numerals.{add-one}
 use native.Mathlib.Decide.{ℕ-discrete}
-use Rattle.base.proofs.Bools.{and-both}
 use Rattle.image.specs.declared.Field.the-variants.{Count}
-use Rattle.image.specs.Place.{Place, cell, field, own, step, valid, Memory, upd}
+use Rattle.image.specs.Place.{Place, cell, field, own, step, Memory, upd}
 use Rattle.image.specs.Image.{at}
 use Rattle.section.specs.declared.Expr.{Expr}
 use Rattle.section.specs.declared.Op.the-variants.{Assign}

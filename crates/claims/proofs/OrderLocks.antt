@@ -14,7 +14,7 @@ use Rattle.base.proofs.Bools.{or-left, or-right}
 use Rattle.mask.specs.Mask.{has, with, without}
 use Rattle.mask.proofs.Laws.{has-none}
 use Rattle.image.specs.declared.Field.the-variants.{Count, Intent, Owned}
-use Rattle.image.specs.Place.{lock, field, own, step, valid, Memory, upd}
+use Rattle.image.specs.Place.{lock, field, step, Memory, upd}
 use Rattle.image.specs.Image.{at}
 use Rattle.image.proofs.Places.{upd-same}
 use Rattle.section.specs.declared.Op.the-variants.{Acquire, Release}

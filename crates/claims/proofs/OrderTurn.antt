@@ -16,7 +16,7 @@ use Rattle.image.proofs.Header.{Sized, header-sized, header-workers}
 use Rattle.image.proofs.Stores.{header-store, workers-store}
 use Rattle.engine.specs.Cursor.{Cursor, cursorAt}
 use Rattle.engine.specs.Turn.{Outcome, stored, jumped, turnAt}
-use Rattle.engine.specs.World.{world, outcomeAt, outcome}
+use Rattle.engine.specs.World.{outcomeAt, outcome}
 use Rattle.engine.proofs.Placed.{Full, sayable, placed-same, placed-other}
 use Rattle.claims.specs.Reference.{Given}
 use Rattle.claims.specs.Calls.{Trace, Traced, recording, isPc, call, turns, whole, move, lent}

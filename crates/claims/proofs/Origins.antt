@@ -14,7 +14,7 @@ use Rattle.section.specs.Op.{opOf}
 use Rattle.section.specs.Check.{Code, heldBefore}
 use Rattle.section.specs.Valid.{Valid}
 use Rattle.section.proofs.Held.{held-zero}
-use Rattle.section.proofs.Ranges.{known}
+use Rattle.section.proofs.Ranges.{known, opTurns}
 use Rattle.engine.specs.Cursor.{on}
 use Rattle.engine.specs.Turn.{operand, codeIn, wordIn, activeAddr, activeVal}
 use Rattle.recovery.specs.Recovery.{targetOf}
@@ -158,3 +158,12 @@ module _ (n : ℕ) (rd : Memory) (d : ℕ) (g : Given) where
   arrive k j locks b e f =
       let x = opAt n rd d k in
       near k j 0 locks x b refl (private-start k (heldAt n rd d k) locks x (known n (codeIn n rd d k) (b .sectioned .valid .ranges k (b .below))) e f)
+
+-- a step that has come so far has the turn
+pub near-ready : (n : ℕ) (rd : Memory) (d k t h locks : ℕ) (x : Op) → Nearing n rd d k t h locks x → t < opTurns x
+near-ready n rd d k t h locks (Acquire a) r = let l = r .0 in omega arith
+near-ready n rd d k t h locks (Release a) r = let l = r .0 in omega arith
+near-ready n rd d k t h locks (Assign a e) r = let l = r .0 in omega arith
+near-ready n rd d k t h locks (Jump a b) r = let l = r .0 in omega arith
+near-ready n rd d k t h locks Finish r = let l = r .0 in omega arith
+near-ready n rd d k t h locks Unknown r = absurd r

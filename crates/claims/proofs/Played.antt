@@ -16,7 +16,7 @@ use Rattle.engine.specs.declared.Submitted.{Submitted}
 use Rattle.engine.specs.declared.Submitted.the-variants.{Taken, Refused}
 use Rattle.engine.specs.Cursor.{cursorAt}
 use Rattle.engine.specs.Turn.{refused, turnAt}
-use Rattle.engine.specs.World.{world, outcomeAt, outcome}
+use Rattle.engine.specs.World.{outcomeAt, outcome}
 use Rattle.engine.specs.Submit.{submitAnswer, submitLeaves}
 use Rattle.recovery.specs.Recovery.{recovery}
 use Rattle.claims.specs.Reference.{given}

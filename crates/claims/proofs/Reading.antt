@@ -1,27 +1,25 @@
 -- The sections taken and begun are what the events say (`ReadOff`), of each worker the pending one too, and every section taken is
 -- admissible: kept by every call, cut or not (`reading-keeps`). A store of the pc that names a step begins what is pending, one that is 0
 -- ends what was begun; a cut and a recovery leave nothing pending.
-use Prim.Native.Nat.{ℕ, _<_, _≤_, _^_}
-use mathlib.Core.Path.{_≡_, refl, sym, ap, subst, _∙_}
+use Prim.Native.Nat.{ℕ, _<_, _≤_}
+use mathlib.Core.Path.{_≡_, refl, sym, ap, _∙_}
 use mathlib.Core.Logic.{_≢_}
 use mathlib.Core.Bool.{Bool, true, false, cond, _&&_, not, and-false}
 use mathlib.Core.List.{List, [], _∷_, _++_, append-nil}
-use lib.ListN.{length}
-use lib.Dec.{eqb, ltb}
-use borrow.Author.Tests.{ne-eqb, eq-eqb, eqb-true, lt-ltb}
+use lib.Dec.{eqb}
+use borrow.Author.Tests.{ne-eqb, eq-eqb}
 use native.Mathlib.Omega.{arith}
 use native.Mathlib.Decide.{ℕ-discrete}
-use Rattle.base.proofs.Bools.{and-left, and-right, and-both}
 use Rattle.image.specs.declared.Field.the-variants.{Pc}
 use Rattle.image.specs.Place.{Place, field, Memory, upd}
 use Rattle.image.specs.Image.{Image, at}
-use Rattle.section.specs.Check.{codeOf, check, passes}
+use Rattle.section.specs.Check.{passes}
 use Rattle.engine.specs.declared.Submitted.the-variants.{Taken}
-use Rattle.engine.specs.Cursor.{Cursor, on, stepNo, cursorAt}
+use Rattle.engine.specs.Cursor.{Cursor, on, cursorAt}
 use Rattle.engine.specs.Turn.{Outcome, stored, jumped, unheld, waiting, resting, refused}
 use Rattle.claims.specs.Reference.{Given, given}
-use Rattle.claims.specs.Events.{Event, taken, moved, waited, recorded, ended, lost, but, takenIn, Reading, reading, learn, readFrom, readOff, begunIn}
-use Rattle.claims.specs.Calls.{Trace, Traced, recording, isPc, stepOf, storeEvents, turnBy, submits, Move, callable, areWords}
+use Rattle.claims.specs.Events.{Event, taken, moved, waited, recorded, ended, lost, but, takenIn, Reading, learn, readFrom, readOff, begunIn}
+use Rattle.claims.specs.Calls.{Trace, Traced, recording, isPc, stepOf, storeEvents, turnBy, submits, Move, callable}
 use Rattle.claims.specs.Claims.{admissible}
 use Rattle.claims.proofs.LiveTurn.{but-same, but-other}
 use Rattle.claims.proofs.Entries.{apart-of}
@@ -30,7 +28,7 @@ use Rattle.claims.proofs.Pending.{pend, pend-start, Passes, Pends, pend
 use Rattle.claims.proofs.Held.{Running}
 use Rattle.claims.proofs.Turning.{still}
 use Rattle.claims.proofs.Called.{TakenAs, accepts, dl}
-use Rattle.claims.proofs.Played.{plenty, Worth}
+use Rattle.claims.proofs.Played.{Worth}
 use Rattle.claims.proofs.Moves.{args-full}
 use Rattle.claims.proofs.Keeping.{nextTurn, Fed, submitted, recovered, Keeps}
 use Rattle.claims.proofs.Behind.{turnMemory, turnCursor, turned-memory, turned-cursors, submitted-aside, submitted-cursors}

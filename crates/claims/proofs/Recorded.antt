@@ -1,34 +1,25 @@
 -- Each worker's record tells the numbers that it has begun (`RecordedAt`), and a section that is said to be finished while its pc is not
 -- 0 has only its finish left (`Closing`): kept by every call, cut or not (`recorded-keeps`). What a store makes of it is known from
 -- where the worker stands (`Writes`); a section that is not begun has a number above the finished one.
-use Prim.Native.Nat.{ℕ, suc, _<_, _≤_}
-use mathlib.Core.Path.{_≡_, refl, sym, ap, subst, _∙_}
-use mathlib.Core.Logic.{_≢_, inl, inr}
-use mathlib.Core.Bool.{Bool, true, false, cond, _&&_, not, false≢true, true≢false, and-false}
+use Prim.Native.Nat.{ℕ, suc, _<_}
+use mathlib.Core.Path.{_≡_, refl, sym, ap, _∙_}
+use mathlib.Core.Logic.{_≢_}
+use mathlib.Core.Bool.{Bool, true, false, cond, true≢false}
 use mathlib.Core.List.{List, [], _∷_, _++_}
-use lib.ListN.{length}
 use lib.Dec.{eqb}
 use borrow.Author.Tests.{ne-eqb, eq-eqb, eqb-true}
 use native.Mathlib.Omega.{arith}
 use native.Mathlib.Decide.{ℕ-discrete}
-use Rattle.image.specs.declared.Field.{Field}
 use Rattle.image.specs.declared.Field.the-variants.{Count, Pc, Addr0, Val0, Addr1, Val1, Intent, Owned, Number, Finished}
-use Rattle.image.specs.Place.{Place, cell, lock, field, own, step, same, Memory, upd}
-use Rattle.image.specs.Image.{Image, at}
+use Rattle.image.specs.Place.{Place, cell, lock, field, own, step, Memory, upd}
 use Rattle.image.proofs.Places.{upd-same}
 use Rattle.section.specs.Op.{opOf}
-use Rattle.section.specs.declared.Op.{Op}
-use Rattle.section.specs.declared.Op.the-variants.{Finish}
-use Rattle.engine.specs.Cursor.{Cursor, on, cursorAt}
-use Rattle.engine.specs.Turn.{Outcome, stored, jumped, unheld, waiting, resting, refused}
-use Rattle.recovery.specs.Recovery.{namedStep, resumed}
+use Rattle.recovery.specs.Recovery.{namedStep}
 use Rattle.claims.specs.Reference.{Given}
-use Rattle.claims.specs.Calls.{Traced, isPc, turnBy, Move}
-use Rattle.claims.specs.Once.{numbersOf}
-use Rattle.claims.proofs.Invariant.{opAt}
+use Rattle.claims.specs.Calls.{isPc}
 use Rattle.claims.proofs.Entries.{apart-of, named-cong}
-use Rattle.claims.proofs.Writes.{FinishNext, Writes, Says, turn-writes}
-use Rattle.claims.proofs.Numbers.{RecordedAt, recorded-begins, recorded-moves, recorded-finishes, recorded-ends, recorded-numbered, numbers-same, numbers-other}
+use Rattle.claims.proofs.Writes.{FinishNext, Writes}
+use Rattle.claims.proofs.Numbers.{RecordedAt, recorded-begins, recorded-moves, recorded-finishes, recorded-ends}
 
 -- ---- one worker, one store
 

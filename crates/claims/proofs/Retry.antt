@@ -4,11 +4,11 @@
 use Prim.Native.Nat.{ℕ, zero, suc, _+_, _<_, _≤_}
 use mathlib.Core.Path.{_≡_, refl, sym, ap, ap₂, subst, _∙_}
 use mathlib.Core.Logic.{_≢_, _⊎_, inl, inr, ⊎-elim}
-use mathlib.Core.Bool.{Bool, true, false, cond, _&&_, _||_, not, false≢true, true≢false}
+use mathlib.Core.Bool.{Bool, true, false, _&&_, _||_, not}
 use mathlib.Core.List.{List, [], _∷_, _++_, map}
 use lib.ListN.{length}
 use lib.Dec.{eqb, ltb, leb}
-use borrow.Author.Tests.{eq-eqb, ne-eqb, eqb-true, le-leb, leb-true, ltb-true, ltb-false}
+use borrow.Author.Tests.{eq-eqb, ne-eqb, eqb-true, leb-true, ltb-true, ltb-false}
 use native.Mathlib.Omega.{arith}
 use native.Mathlib.Decide.{ℕ-discrete}
 use Rattle.base.proofs.Bools.{and-left, and-right}
@@ -19,7 +19,7 @@ use Rattle.section.specs.declared.Verdict.{Verdict}
 use Rattle.section.specs.declared.Verdict.the-variants.{Pass, Length, Malformed, Unbracketed, Unordered, Unguarded, Unlevel}
 use Rattle.section.specs.Check.{codeOf, check}
 use Rattle.engine.specs.declared.Refusal.the-variants.{Number as NumberRefused}
-use Rattle.engine.specs.declared.Submitted.the-variants.{Taken, Refused}
+use Rattle.engine.specs.declared.Submitted.the-variants.{Refused}
 use Rattle.engine.specs.declared.Standing.the-variants.{NotBegun, Begun, Finished}
 use Rattle.engine.specs.Asking.{standingIn}
 use Rattle.engine.specs.Cursor.{Cursor, cursorAt}
@@ -27,8 +27,8 @@ use Rattle.engine.specs.Turn.{Outcome, stored, jumped, unheld, waiting, resting
 use Rattle.engine.specs.World.{World}
 use Rattle.engine.specs.Submit.{submitAnswer, verdictAnswer, free}
 use Rattle.claims.specs.Reference.{Given, given}
-use Rattle.claims.specs.Calls.{Traced, isPc, turnBy, Call, submits, turns, runs, recovers, Move, whole, cut, move, from, ofMove, legal, machine}
-use Rattle.claims.specs.Claims.{Rested, ofWorker, after}
+use Rattle.claims.specs.Calls.{Traced, isPc, turnBy, Call, submits, turns, runs, recovers, Move, move, from, ofMove}
+use Rattle.claims.specs.Claims.{ofWorker, after}
 use Rattle.claims.specs.Once.{numbersOf, rising, lastOr, upFrom, among, Within, OnlyCall, Only, begunBy, startedAt, nextNumber, inTurn, OnceAlways, ToldAlways, RetriedAlways, ExactlyOnce}
 use Rattle.claims.proofs.Pending.{Passes, Pends, pends-turn}
 use Rattle.claims.proofs.Writes.{Writes, Says, turn-writes}

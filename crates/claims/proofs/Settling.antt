@@ -11,7 +11,7 @@ use Rattle.image.specs.Place.{Memory, upd}
 use Rattle.image.specs.Image.{at}
 use Rattle.engine.specs.Cursor.{Cursor, isIdle, cursorAt, placed}
 use Rattle.engine.specs.Turn.{Outcome, stored, jumped, unheld, waiting, resting, refused, turnAt}
-use Rattle.engine.specs.World.{world, outcomeAt}
+use Rattle.engine.specs.World.{outcomeAt}
 use Rattle.engine.specs.Run.{anyOpen}
 use Rattle.engine.proofs.Placed.{sayable}
 use Rattle.claims.specs.Reference.{Given}

@@ -3,11 +3,11 @@
 use Prim.Native.Nat.{ℕ, _<_, _≤_}
 use mathlib.Core.Path.{_≡_, refl, sym, ap, subst, _∙_}
 use mathlib.Core.Logic.{_≢_}
-use mathlib.Core.Bool.{Bool, true, false, cond, _&&_, not, false≢true, true≢false, and-false}
+use mathlib.Core.Bool.{Bool, true, false, cond, _&&_, not, false≢true}
 use mathlib.Core.List.{List, [], _∷_, _++_}
 use lib.ListN.{length}
 use lib.Dec.{eqb}
-use borrow.Author.Tests.{ne-eqb, eq-eqb, eqb-true, eqb-false}
+use borrow.Author.Tests.{ne-eqb, eq-eqb, eqb-true}
 use native.Mathlib.Omega.{arith}
 use native.Mathlib.Decide.{ℕ-discrete}
 use Rattle.image.specs.declared.Field.{Field}
@@ -16,13 +16,12 @@ use Rattle.image.specs.Place.{Place, cell, lock, field, own, step, Memory, upd}
 use Rattle.image.specs.Image.{Image, at}
 use Rattle.image.proofs.Places.{upd-same}
 use Rattle.engine.specs.declared.Submitted.the-variants.{Taken}
-use Rattle.engine.specs.Cursor.{Cursor, idle, on, cursorAt}
-use Rattle.engine.specs.Turn.{Outcome, stored, jumped, unheld, waiting, resting, refused, turnAt}
-use Rattle.engine.specs.World.{leaves}
+use Rattle.engine.specs.Cursor.{Cursor, on, cursorAt}
+use Rattle.engine.specs.Turn.{Outcome, stored, jumped, unheld, waiting, resting, refused}
 use Rattle.recovery.specs.Recovery.{resumed}
 use Rattle.claims.specs.Reference.{Given}
 use Rattle.claims.specs.Events.{but}
-use Rattle.claims.specs.Calls.{Traced, isPc, turnTrace, turnBy, recording, noting, submits, Move, whole, cut, callable}
+use Rattle.claims.specs.Calls.{Traced, isPc, turnBy, recording, submits, Move, whole}
 use Rattle.claims.specs.Once.{numbersOf}
 use Rattle.claims.proofs.LiveTurn.{but-same, but-other}
 use Rattle.claims.proofs.Writes.{WritesPc, Writes, Says, turn-writes}

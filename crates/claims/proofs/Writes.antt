@@ -12,7 +12,6 @@ use Rattle.image.specs.declared.Field.the-variants.{Count, Pc, Addr0, Val0, Add
 use Rattle.image.specs.Place.{Place, cell, lock, field, own, step, Memory}
 use Rattle.section.specs.declared.Op.{Op}
 use Rattle.section.specs.declared.Op.the-variants.{Acquire, Release, Assign, Jump, Finish, Unknown}
-use Rattle.section.proofs.Ranges.{opTurns}
 use Rattle.section.proofs.Steps.{ends}
 use Rattle.engine.specs.Cursor.{Cursor, on}
 use Rattle.engine.specs.Turn.{Outcome, stored, jumped, unheld, waiting, resting as rests, refused, operand, codeIn, second, spareAddr, spareVal, switched, logged, lockTurn, unlockTurn, opTurn, turnAt}
@@ -20,6 +19,7 @@ use Rattle.recovery.specs.Recovery.{namedStep, targetTurn}
 use Rattle.claims.specs.Reference.{Given}
 use Rattle.claims.proofs.Invariant.{opAt, heldAt, Sectioned, Named, Nearing, Due, Jumps, stay, leap, Entered, Phase, resting, fresh, due, unlocking, unlocked, between, ended}
 use Rattle.claims.proofs.Entries.{named-pc, named-step}
+use Rattle.claims.proofs.Origins.{near-ready}
 use Rattle.claims.proofs.Frame.{jumps-held}
 use Rattle.claims.proofs.Ready.{turn-op, finish-free, step-behind}
 use Rattle.claims.proofs.Switching.{switched-some}
@@ -197,14 +197,6 @@ module _ (n : ℕ) (rd : Memory) (d : ℕ) (g : Given) where
   between-says s k t locks j sec named js l h Finish o r = finish-says s k t j sec named js l h o (r .0) (r .3)
   between-says s k t locks j sec named js l h Unknown o r = absurd r
 
-  near-ready : (k t locks h : ℕ) (x : Op) → Nearing n rd d k t h locks x → t < opTurns x
-  near-ready k t locks h (Acquire a) r = let l = r .0 in omega arith
-  near-ready k t locks h (Release a) r = let l = r .0 in omega arith
-  near-ready k t locks h (Assign a e) r = let l = r .0 in omega arith
-  near-ready k t locks h (Jump a c) r = let l = r .0 in omega arith
-  near-ready k t locks h Finish r = let l = r .0 in omega arith
-  near-ready k t locks h Unknown r = absurd r
-
   due-says : (s locks : ℕ) → Sectioned n rd d → Named n rd d s → (x : Op) → opAt n rd d s ≡ x → Due n rd d s locks x → Says (turnAt n rd d (on s (targetTurn n rd d x)))
   due-says s locks sec m (Acquire a) o u = rw (turn-op n rd d s 5 (Acquire a) (sec .valid) (m .below) o (omega arith)) (refl, tt)
   due-says s locks sec m (Release a) o u = rw (turn-op n rd d s 3 (Release a) (sec .valid) (m .below) o (omega arith)) (refl, tt)
@@ -223,6 +215,6 @@ module _ (n : ℕ) (rd : Memory) (d : ℕ) (g : Given) where
   turn-writes _ _ _ (unlocking s a locks sec m o w i q) = rw (turn-op n rd d s 4 (Release a) (sec .valid) (m .below) o (omega arith)) (unlock-says a s)
   turn-writes _ _ _ (unlocked s a locks sec m o w i q) = rw (turn-op n rd d s 5 (Release a) (sec .valid) (m .below) o (omega arith)) (refl, tt)
   turn-writes _ _ _ (between s k t locks j sec m f js l w h r) =
-      rw (turn-op n rd d k t (opAt n rd d k) (sec .valid) l refl (near-ready k t locks (heldAt n rd d k) (opAt n rd d k) r))
+      rw (turn-op n rd d k t (opAt n rd d k) (sec .valid) l refl (near-ready n rd d k t (heldAt n rd d k) locks (opAt n rd d k) r))
       (between-says s k t locks j sec m js l h (opAt n rd d k) refl r)
   turn-writes _ _ _ (ended s sec p w i l o) = rw (turn-op n rd d s 2 Finish (sec .valid) l o (omega arith)) (refl, tt)

@@ -3,13 +3,12 @@
 use Prim.Native.Nat.{ℕ, suc, zero, _+_, _-_, _^_}
 use mathlib.Core.List.{List, [], _∷_, _++_}
 use mathlib.Core.Bool.{Bool, true, false, cond, _&&_, _||_, not}
-use lib.ListN.{length, getD, set, replicate}
+use lib.ListN.{length, replicate}
 use lib.Dec.{ltb, eqb}
 use Rattle.image.specs.declared.Field.the-variants.{Count, Pc, Addr0, Val0, Addr1, Val1, Intent, Owned, Number, Finished}
 use Rattle.image.specs.declared.Field.{Field}
 use Rattle.image.specs.Place.{Place, cell, lock, field, own, step}
 use Rattle.image.specs.Image.{Image, at, workers, headerOk, putAll}
-use Rattle.engine.specs.declared.Cursors.{Cursors}
 use Rattle.engine.specs.declared.Submitted.{Submitted}
 use Rattle.engine.specs.declared.Submitted.the-variants.{Taken, Refused}
 use Rattle.engine.specs.Cursor.{stepNo, cursorAt, allIdle}

@@ -19,7 +19,7 @@ use Rattle.engine.specs.Format.{formatted}
 use Rattle.engine.specs.Run.{runOf}
 use Rattle.recovery.specs.Recovery.{accepted, recovery}
 use Rattle.claims.specs.Reference.{Given, given, Job, State, initial, follow, noneLeft}
-use Rattle.claims.specs.Calls.{Traced, refuses, Call, submits, turns, recovers, runs, call, lent, Move, whole, cut, play, from, legal, endsCut, plain, machine, areWords}
+use Rattle.claims.specs.Calls.{Traced, refuses, submits, turns, recovers, runs, call, lent, Move, whole, cut, play, from, legal, endsCut, plain, machine, areWords}
 
 -- uncut runs and turns alone
 abbrev pub working : List Move → Bool

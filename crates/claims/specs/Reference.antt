@@ -1,5 +1,5 @@
 -- The reference machine: whole instructions, one at a time. (Document 01 calls it the plain machine.)
-use Prim.Native.Nat.{ℕ, suc, zero, _-_}
+use Prim.Native.Nat.{ℕ, suc, _-_}
 use mathlib.Core.List.{List, [], _∷_, _++_}
 use mathlib.Core.Bool.{Bool, true, false, cond, _||_}
 use mathlib.Core.Option.{Option, some, none}
