@@ -27,7 +27,6 @@ pub mod Counting
 pub mod Jumping
 pub mod PcTurn
 pub mod MirrorTurn
-pub mod Writes
 -- Cuts and recovery: a memory that keeps the invariant is one that a recovery accepts, so is one after any prefix of a recovery's
 -- stores, and after all of them the invariant holds.
 pub mod Covers
@@ -45,7 +44,8 @@ pub mod Submitting
 pub mod Submission
 pub mod SubmissionImage
 pub mod Unseen
--- Calls and lists of calls: each keeps the invariant of the whole world, cut or not; its two ends, images at rest.
+-- Calls and lists of calls: each keeps the invariant of the whole world, cut or not; its two ends, images at rest. An uncut call may
+-- be lent any number of stores that suffices.
 pub mod AtStore
 pub mod Cursors
 pub mod Held
@@ -53,13 +53,10 @@ pub mod Turning
 pub mod Called
 pub mod Moves
 pub mod Played
-pub mod Enough
 pub mod Resting
-pub mod Keeping
-pub mod Untouched
-pub mod Behind
+pub mod Enough
 -- Ranks and rounds: each turn that stores or moves brings its worker nearer to its end, some open worker's turn always does, and
--- so rounds enough leave every worker idle.
+-- so rounds enough leave every worker idle, in whatever runs and with whatever turns among them; what a turn and a run answer.
 pub mod Rank
 pub mod Progress
 pub mod Settling
@@ -67,19 +64,26 @@ pub mod Working
 pub mod Answers
 -- Demand 3: after any calls and cuts a recovery is accepted, and runs of 384 rounds a worker leave all at rest.
 pub mod Durable
--- Demand 2, first half: with no cut the cells are those that the reference machine gives for the sections taken.
+-- Demand 2, first half: with no cut the cells are those that the reference machine gives for the sections taken. A run is its turns.
 pub mod Pending
 pub mod Pairing
 pub mod Linear
 pub mod RunTurns
--- What a planner may be told: which numbers a worker has begun, by its record, after any calls and cuts.
+-- Whatever else lists of calls keep, by one induction; what a store writes of a record, and what stands behind a call.
+pub mod Writes
+pub mod Keeping
+pub mod Behind
+pub mod FromRest
+-- Who may change a cell, at every turn of a list.
+pub mod Untouched
+-- What a planner may be told: which sections are begun, by the events and by the records, after any calls and cuts; that they are
+-- finished in the end; and what a client has that numbers its sections one after the other, or hands one in again and again.
 pub mod Numbers
 pub mod Recorded
 pub mod Telling
 pub mod Events
 pub mod Admitted
 pub mod Reading
-pub mod FromRest
 pub mod Once
 pub mod Finishes
 pub mod Through

@@ -19,7 +19,8 @@ use Rattle.engine.specs.Format.{formatted}
 use Rattle.engine.specs.Run.{runOf}
 use Rattle.recovery.specs.Recovery.{accepted, recovery}
 use Rattle.claims.specs.Reference.{Given, given, Job, State, initial, follow, noneLeft}
-use Rattle.claims.specs.Calls.{Traced, refuses, submits, turns, recovers, runs, call, lent, Move, whole, cut, play, from, legal, endsCut, plain, machine, areWords}
+use Rattle.claims.specs.Calls.{Traced, refuses, call, lent, play, from}
+use Rattle.claims.specs.Calls.{submits, turns, recovers, runs, Move, whole, cut, legal, endsCut, plain, machine, areWords}
 
 -- uncut runs and turns alone
 abbrev pub working : List Move → Bool
@@ -85,7 +86,9 @@ module _ (mark n : ℕ) where
   pub record Rested (m : Image) : Type 0 where
     pub header : headerOk mark n m ≡ true
     pub free : (b : ℕ) → b < 64 → at n m (lock b) ≡ 0
-    pub empty : (d : ℕ) → d < workers m → (at n m (field Count d) ≡ 0) × (at n m (field Pc d) ≡ 0) × (at n m (field Intent d) ≡ 0) × (at n m (field Owned d) ≡ 0)
+    pub empty :
+        (d : ℕ) → d < workers m
+        → (at n m (field Count d) ≡ 0) × (at n m (field Pc d) ≡ 0) × (at n m (field Intent d) ≡ 0) × (at n m (field Owned d) ≡ 0)
 
   unfoldable pub FormattedRests : Type 0
   FormattedRests = (D : ℕ) → 1 ≤ D → D ≤ 8 → Rested (formatted mark n D)
@@ -101,7 +104,9 @@ module _ (mark n : ℕ) where
   abbrev pub admissible : ℕ → List Given → Bool
   admissible D [] = true
   admissible D (g ∷ gs) =
-      ltb (g .worker) D && eqb (length (g .args)) 8 && areWords (g .args) && areWords (g .code) && passes (check n (length (g .code)) (codeOf (g .code))) && admissible D gs
+      ltb (g .worker) D && eqb (length (g .args)) 8 && areWords (g .args) && areWords (g .code)
+      && passes (check n (length (g .code)) (codeOf (g .code)))
+      && admissible D gs
 
   -- all workers idle, all locks free, the image at rest, and the cells those of the sections begun, all of them admissible, and of
   -- no other
@@ -130,9 +135,13 @@ module _ (mark n : ℕ) where
     pub settles : (ys : List Move) → working ys ≡ true → 384 * workers m ≤ roundsIn ys → Settled m (after m (mended xs ++ ys))
     pub says-idle : (ys : List Move) (r : ℕ) → working ys ≡ true → 384 * workers m ≤ roundsIn ys + r → runEnd (after m (mended xs ++ ys)) r ≡ AllIdle
 
+  -- from any image at rest, after any list of calls and cuts with a recovery after each cut
+  abbrev pub Always : (Image → List Move → Type 0) → Type 0
+  Always P = (m : Image) → Rested m → (xs : List Move) → machine xs ≡ true → legal false xs ≡ true → P m xs
+
   -- demand 3
   unfoldable pub DurableAlways : Type 0
-  DurableAlways = (m : Image) → Rested m → (xs : List Move) → machine xs ≡ true → legal false xs ≡ true → Durable m xs
+  DurableAlways = Always Durable
 
   -- demand 2, first half: with no cut and no recovery, and all workers idle, the cells are those of the sections taken
   unfoldable pub Linearizable : Type 0

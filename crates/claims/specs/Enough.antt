@@ -15,4 +15,6 @@ module _ (mark n : ℕ) where
   makes c w = 2 ^ 64 - 1 - wholly c w .world .left
 
   unfoldable pub EnoughIsWhole : Type 0
-  EnoughIsWhole = (c : Call) → callable c ≡ true → (w : Traced) (k : ℕ) → makes c w ≤ k → call mark n c (lent mark n k w) ≡ lent mark n (k - makes c w) (wholly c w)
+  EnoughIsWhole =
+      (c : Call) → callable c ≡ true → (w : Traced) (k : ℕ) → makes c w ≤ k
+      → call mark n c (lent mark n k w) ≡ lent mark n (k - makes c w) (wholly c w)

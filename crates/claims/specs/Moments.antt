@@ -11,8 +11,8 @@ use Rattle.engine.specs.Cursor.{Cursor}
 use Rattle.engine.specs.Turn.{stored}
 use Rattle.engine.specs.World.{outcomeAt, outcome}
 use Rattle.engine.specs.Run.{anyOpen}
-use Rattle.claims.specs.Calls.{Traced, Call, submits, turns, runs, recovers, Move, whole, cut, call, move, lent, turnedAt, refuses, from, legal, machine}
-use Rattle.claims.specs.Claims.{Rested}
+use Rattle.claims.specs.Calls.{Traced, Call, submits, turns, runs, recovers, Move, whole, cut, call, move, lent, turnedAt, refuses, from}
+use Rattle.claims.specs.Claims.{Always}
 
 -- a world, and the worker whose turn is next
 pub record Moment : Type 0 where
@@ -70,4 +70,4 @@ module _ (mark n : ℕ) where
     pub others : (c : Call) → turnless c ≡ true → (w : Traced) → cellsOf (call mark n c w .world .image) ≡ cellsOf (w .world .image)
 
   unfoldable pub UntouchedAlways : Type 0
-  UntouchedAlways = (m : Image) → Rested mark n m → (xs : List Move) → machine xs ≡ true → legal false xs ≡ true → Untouched m xs
+  UntouchedAlways = Always mark n Untouched

@@ -22,8 +22,8 @@ use Rattle.engine.specs.declared.Standing.the-variants.{NotBegun, Begun, Finish
 use Rattle.engine.specs.Asking.{standingIn}
 use Rattle.claims.specs.Reference.{Given, given, Job, State, initial, follow}
 use Rattle.claims.specs.Events.{takenIn, begunIn}
-use Rattle.claims.specs.Calls.{Traced, Call, submits, turns, runs, recovers, Move, whole, move, ofMove, legal, plain, machine}
-use Rattle.claims.specs.Claims.{ofWorker, Rested, after, mended, working, roundsIn}
+use Rattle.claims.specs.Calls.{Traced, Call, submits, turns, runs, recovers, Move, whole, move, ofMove, from, legal, plain, machine}
+use Rattle.claims.specs.Claims.{ofWorker, Rested, after, Always, mended, working, roundsIn}
 
 -- ---- lists of numbers and of sections
 
@@ -127,33 +127,30 @@ module _ (mark n : ℕ) where
 
   -- demand 3, to a planner: after any list of calls and cuts, also right after a cut
   unfoldable pub OnceAlways : Type 0
-  OnceAlways = (m : Image) → Rested mark n m → (xs : List Move) → machine xs ≡ true → legal false xs ≡ true → Once m (after mark n m xs)
+  OnceAlways = Always mark n (λ m xs. Once m (after mark n m xs))
 
   unfoldable pub ToldAlways : Type 0
-  ToldAlways =
-      (m : Image) → Rested mark n m → (xs : List Move) → machine xs ≡ true → legal false xs ≡ true → (d : ℕ) → d < workers m → Told m (after mark n m xs) d
+  ToldAlways = Always mark n (λ m xs. (d : ℕ) → d < workers m → Told m (after mark n m xs) d)
 
   unfoldable pub AskedAlways : Type 0
-  AskedAlways =
-      (m : Image) → Rested mark n m → (xs : List Move) → machine xs ≡ true → legal false xs ≡ true → (d k : ℕ) → d < workers m → Asked m (after mark n m xs) d k
+  AskedAlways = Always mark n (λ m xs. (d k : ℕ) → d < workers m → Asked m (after mark n m xs) d k)
 
   -- what is begun by then will be finished
   unfoldable pub BegunFinishes : Type 0
   BegunFinishes =
-      (m : Image) → Rested mark n m → (xs : List Move) → machine xs ≡ true → legal false xs ≡ true
-      → (ys : List Move) → working ys ≡ true → 384 * workers m ≤ roundsIn ys
-      → (d k : ℕ) → d < workers m → among k (begunBy (after mark n m xs) d) ≡ true → standing (after mark n m (mended mark n xs ++ ys)) d k ≡ Finished
+      Always mark n (λ m xs.
+      (ys : List Move) → working ys ≡ true → 384 * workers m ≤ roundsIn ys
+      → (d k : ℕ) → d < workers m → among k (begunBy (after mark n m xs) d) ≡ true → standing (after mark n m (mended mark n xs ++ ys)) d k ≡ Finished)
 
   -- ---- through: a section taken by an uncut submit, with no cut and no recovery behind it, is begun and finished
 
   unfoldable pub ThroughAlways : Type 0
   ThroughAlways =
       (m : Image) → Rested mark n m → (xs ys : List Move) (d k : ℕ) (args ws : List ℕ)
-      → machine (xs ++ (whole (submits d k args ws) ∷ ys)) ≡ true → legal false (xs ++ (whole (submits d k args ws) ∷ ys)) ≡ true → plain ys ≡ true
-      → submitAnswer mark n (after mark n m xs .world) d k ws ≡ Taken
+      → let all = xs ++ (whole (submits d k args ws) ∷ ys) in
+      machine all ≡ true → legal false all ≡ true → plain ys ≡ true → submitAnswer mark n (after mark n m xs .world) d k ws ≡ Taken
       → (zs : List Move) → working zs ≡ true → 384 * workers m ≤ roundsIn zs
-      → Among (given d k args ws) (after mark n m ((xs ++ (whole (submits d k args ws) ∷ ys)) ++ zs) .trace .begun)
-      × (standing (after mark n m ((xs ++ (whole (submits d k args ws) ∷ ys)) ++ zs)) d k ≡ Finished)
+      → Among (given d k args ws) (after mark n m (all ++ zs) .trace .begun) × (standing (after mark n m (all ++ zs)) d k ≡ Finished)
 
   -- ---- retried
 
@@ -177,13 +174,12 @@ module _ (mark n : ℕ) where
     pub ended : (k : ℕ) → among k (begunBy w d) ≡ true → (pcOf w d ≡ 0) ⊎ (numberOf w d ≢ k) → standing w d k ≡ Finished
 
   unfoldable pub RetriedAlways : Type 0
-  RetriedAlways =
-      (m : Image) → Rested mark n m → (xs : List Move) → machine xs ≡ true → legal false xs ≡ true → (d : ℕ) → d < workers m → inTurn d xs (after mark n m []) ≡ true
-      → Retried m (after mark n m xs) d
+  RetriedAlways = Always mark n (λ m xs. (d : ℕ) → d < workers m → inTurn d xs (from m) ≡ true → Retried m (after mark n m xs) d)
 
   -- the client's protocol: one section, handed in again and again under the same number, is begun once when the answer is 3
   unfoldable pub ExactlyOnce : Type 0
   ExactlyOnce =
-      (m : Image) → Rested mark n m → (xs : List Move) → machine xs ≡ true → legal false xs ≡ true → (d : ℕ) → d < workers m → (g : Given) → startedAt m d < g .number
-      → Only d g xs → submitAnswer mark n (after mark n m xs .world) d (g .number) (g .code) ≡ Refused NumberRefused
-      → ofWorker d (after mark n m xs .trace .begun) ≡ g ∷ []
+      Always mark n (λ m xs.
+      (d : ℕ) → d < workers m → (g : Given) → startedAt m d < g .number → Only d g xs
+      → submitAnswer mark n (after mark n m xs .world) d (g .number) (g .code) ≡ Refused NumberRefused
+      → ofWorker d (after mark n m xs .trace .begun) ≡ g ∷ [])
