@@ -2,7 +2,7 @@
 -- taken is admissible (`admitted-taken`), and what is begun is of what is taken, by the events (`begun-admitted`).
 use Prim.Native.Nat.{ℕ, _<_, _^_}
 use mathlib.Core.Path.{_≡_, refl}
-use mathlib.Core.Bool.{true, _&&_}
+use mathlib.Core.Bool.{Bool, true, _&&_}
 use mathlib.Core.List.{List, [], _∷_, _++_}
 use lib.ListN.{length}
 use lib.Dec.{eqb, ltb}
@@ -19,13 +19,20 @@ module _ (mark n D : ℕ) where
   abbrev Good : List Given → Type 0
   Good gs = admissible mark n D gs ≡ true
 
+  -- what is tested of one section
+  abbrev fits : Given → Bool
+  fits x =
+      ltb (x .worker) D && eqb (length (x .args)) 8 && areWords (x .args) && areWords (x .code) && passes (check n (length (x .code)) (codeOf (x .code)))
+
   pub admitted-append : (xs ys : List Given) → Good xs → Good ys → Good (xs ++ ys)
   admitted-append [] ys a b = b
   admitted-append (x ∷ xs) ys a b =
-      let t = ltb (x .worker) D && eqb (length (x .args)) 8 && areWords (x .args) && areWords (x .code) && passes (check n (length (x .code)) (codeOf (x .code))) in
-      and-both t (admissible mark n D (xs ++ ys)) (and-left t (admissible mark n D xs) a) (admitted-append xs ys (and-right t (admissible mark n D xs) a) b)
+      and-both (fits x) (admissible mark n D (xs ++ ys)) (and-left (fits x) (admissible mark n D xs) a)
+      (admitted-append xs ys (and-right (fits x) (admissible mark n D xs) a) b)
 
-  pub admitted-taken : (d k : ℕ) (args ws : List ℕ) → d < D → callable (submits d k args ws) ≡ true → passes (check n (length ws) (codeOf ws)) ≡ true → Good (given d k args ws ∷ [])
+  pub admitted-taken :
+      (d k : ℕ) (args ws : List ℕ) → d < D → callable (submits d k args ws) ≡ true → passes (check n (length ws) (codeOf ws)) ≡ true
+      → Good (given d k args ws ∷ [])
   admitted-taken d k args ws l h p =
       let a = ltb d (2 ^ 64) && ltb k (2 ^ 64) in
       let e = eqb (length args) 8 in
@@ -35,8 +42,7 @@ module _ (mark n D : ℕ) where
 
   first-good : (x : Given) (xs : List Given) → Good (x ∷ xs) → Good (x ∷ []) × Good xs
   first-good x xs a =
-      let t = ltb (x .worker) D && eqb (length (x .args)) 8 && areWords (x .args) && areWords (x .code) && passes (check n (length (x .code)) (codeOf (x .code))) in
-      (and-both t true (and-left t (admissible mark n D xs) a) refl, and-right t (admissible mark n D xs) a)
+      (and-both (fits x) true (and-left (fits x) (admissible mark n D xs) a) refl, and-right (fits x) (admissible mark n D xs) a)
 
   private-read : (r : Reading) (es : List Event) → Good (r .begun) → ((d : ℕ) → Good (r .pending d)) → Good (takenIn es) → Good (readFrom r es .begun)
   unfolding readFrom takenIn

@@ -11,10 +11,11 @@ use native.Mathlib.Omega.{arith}
 use Rattle.image.specs.declared.Field.the-variants.{Number}
 use Rattle.image.specs.Place.{Place, field, Memory, upd}
 use Rattle.image.specs.Image.{at, workers}
+use Rattle.image.proofs.Header.{header-workers}
 use Rattle.section.specs.Check.{codeOf}
 use Rattle.section.proofs.Facts.{check-parts}
 use Rattle.engine.specs.declared.Submitted.the-variants.{Taken}
-use Rattle.engine.specs.Cursor.{Cursor, on, cursorAt}
+use Rattle.engine.specs.Cursor.{Cursor, on, cursorAt, placed}
 use Rattle.engine.specs.Turn.{Outcome, stored, jumped, unheld, waiting, resting, refused}
 use Rattle.engine.specs.Submit.{submission}
 use Rattle.engine.proofs.Placed.{sayable}
@@ -60,9 +61,15 @@ module _ (mark n D : ℕ) (cells : List ℕ) (w : Traced) (d : ℕ) (r : Running
   abbrev rd : Memory
   rd = at n (w .world .image)
 
-  memory-by : (o : Outcome) → Stepped n rd d (w .trace .last d) (r .locks d) (w .trace .jumps d) o → Fed w o → at n (turnBy mark n w d o .world .image) ≡ turnMemory rd o
+  abbrev cursors : ℕ → Cursor
+  cursors = cursorAt (w .world .cursors)
+
+  memory-by :
+      (o : Outcome) → Stepped n rd d (w .trace .last d) (r .locks d) (w .trace .jumps d) o → Fed w o
+      → at n (turnBy mark n w d o .world .image) ≡ turnMemory rd o
   memory-by (stored p v c) (l, t, ph) fed =
-      memory-store n D (w .world .image) (running-sized mark n D cells w (r .reached)) (w .world .left) p v (touches-valid n D rd d (r .locks d) p v l dl t) (fed refl)
+      memory-store n D (w .world .image) (running-sized mark n D cells w (r .reached)) (w .world .left) p v
+      (touches-valid n D rd d (r .locks d) p v l dl t) (fed refl)
   memory-by (jumped c) s fed = refl
   memory-by (unheld c) s fed = refl
   memory-by (waiting b) s fed = refl
@@ -72,22 +79,22 @@ module _ (mark n D : ℕ) (cells : List ℕ) (w : Traced) (d : ℕ) (r : Running
   pub turned-memory : Fed w (nextTurn n w d) → at n (turnBy mark n w d (nextTurn n w d) .world .image) ≡ turnMemory rd (nextTurn n w d)
   turned-memory fed = memory-by (nextTurn n w d) (steps mark n D cells w d r dl) fed
 
-  placed-by : (c : Cursor) → sayable c → (e : ℕ) → e < D → cursorAt (Rattle.engine.specs.Cursor.placed (w .world .cursors) d c) e ≡ but (cursorAt (w .world .cursors)) d c e
+  placed-by : (c : Cursor) → sayable c → (e : ℕ) → e < D → cursorAt (placed (w .world .cursors) d c) e ≡ but cursors d c e
   placed-by c say e l = sym (cursors-placed D (w .world .cursors) d c (r .full) (few mark n D cells w (r .reached)) dl say e l)
 
   cursors-by :
       (o : Outcome) → Stepped n rd d (w .trace .last d) (r .locks d) (w .trace .jumps d) o → (e : ℕ) → e < D
-      → cursorAt (turnBy mark n w d o .world .cursors) e ≡ but (cursorAt (w .world .cursors)) d (turnCursor (cursorAt (w .world .cursors) d) o) e
+      → cursorAt (turnBy mark n w d o .world .cursors) e ≡ but cursors d (turnCursor (cursors d) o) e
   cursors-by (stored p v c) (l, t, ph) = placed-by c (phase-sayable n (upd rd p v) d (w .trace .last d) c l _ ph)
   cursors-by (jumped c) ph = placed-by c (phase-sayable n rd d (w .trace .last d) c (r .locks d) _ ph)
   cursors-by (unheld c) ph = placed-by c (phase-sayable n rd d (w .trace .last d) c (r .locks d) _ ph)
-  cursors-by (waiting b) s = λ e l. sym (but-self (cursorAt (w .world .cursors)) d e)
-  cursors-by resting s = λ e l. sym (but-self (cursorAt (w .world .cursors)) d e)
-  cursors-by (refused x) s = λ e l. sym (but-self (cursorAt (w .world .cursors)) d e)
+  cursors-by (waiting b) s = λ e l. sym (but-self cursors d e)
+  cursors-by resting s = λ e l. sym (but-self cursors d e)
+  cursors-by (refused x) s = λ e l. sym (but-self cursors d e)
 
   pub turned-cursors :
       (e : ℕ) → e < D
-      → cursorAt (turnBy mark n w d (nextTurn n w d) .world .cursors) e ≡ but (cursorAt (w .world .cursors)) d (turnCursor (cursorAt (w .world .cursors) d) (nextTurn n w d)) e
+      → cursorAt (turnBy mark n w d (nextTurn n w d) .world .cursors) e ≡ but cursors d (turnCursor (cursors d) (nextTurn n w d)) e
   turned-cursors = cursors-by (nextTurn n w d) (steps mark n D cells w d r dl)
 
 -- ---- a submission, of any number of stores
@@ -110,12 +117,14 @@ module _
   submitted-number narrow l =
       let c = check-parts n (length ws) (codeOf ws) (t .passes) .1 in
       let z = submission-length n d k args ws eight wide in
-      rw (submitted-at mark n D cells w d k args ws wide eight r t (w .world .left), take-all (w .world .left) (submission n d k args ws) (omega arith)) (submission-laid n before d k args ws .number)
+      rw (submitted-at mark n D cells w d k args ws wide eight r t (w .world .left), take-all (w .world .left) (submission n d k args ws) (omega arith))
+      (submission-laid n before d k args ws .number)
 
   pub submitted-cursors :
       (e : ℕ) → e < D → cursorAt (submitted mark n w d k args ws Taken .world .cursors) e ≡ but (cursorAt (w .world .cursors)) d (on 0 0) e
   submitted-cursors e l =
-      sym (cursors-placed D (w .world .cursors) d (on 0 0) (r .full) (few mark n D cells w (r .reached)) (dl mark n D cells w d k args ws wide eight r t) (λ z. omega arith) e l)
+      let below = dl mark n D cells w d k args ws wide eight r t in
+      sym (cursors-placed D (w .world .cursors) d (on 0 0) (r .full) (few mark n D cells w (r .reached)) below (λ z. omega arith) e l)
 
 -- ---- a recovery, of any number of stores
 
@@ -125,11 +134,11 @@ module _ (mark n D : ℕ) (cells : List ℕ) (w : Traced) (k : Worth mark n D ce
   recovered-fixed q h =
       let m = w .world .image in
       let c = crash mark n D cells m _ _ k in
-      rw (accepts mark n D cells m _ _ k, recovery-at mark n m (k .reached .header) (w .world .left)) (plan-kept n (workers m) (at n m) (crashed-parts n (workers m) (at n m) c) (w .world .left) .fixed q h)
+      rw (accepts mark n D cells m _ _ k, recovery-at mark n m (k .reached .header) (w .world .left))
+      (plan-kept n (workers m) (at n m) (crashed-parts n (workers m) (at n m) c) (w .world .left) .fixed q h)
 
   pub recovered-cursors : (d : ℕ) → d < D → cursorAt (recovered mark n w .world .cursors) d ≡ resumed n (at n (w .world .image)) d
   recovered-cursors d l =
       let m = w .world .image in
-      let many = k .reached .many in
-      let most = Rattle.image.proofs.Header.header-workers mark n m (k .reached .header) .1 in
+      let most = header-workers mark n m (k .reached .header) .1 in
       rw (accepts mark n D cells m _ _ k) (resumed-cursor n (at n m) (workers m) d (omega arith) most)

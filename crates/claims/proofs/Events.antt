@@ -1,6 +1,5 @@
--- Laws of what is read off events: one list after the other (`read-append`, `taken-append`); of each worker the sections begun are those
--- taken with some left out (`begun-within`); and what every section taken is, every section begun is (`begun-each`). By induction on
--- the events, with what is pending counted in.
+-- Laws of what is read off events: one list after the other (`read-append`, `taken-append`), and of each worker the sections begun are
+-- those taken with some left out (`begun-within`). By induction on the events, with what is pending counted in.
 use Prim.Native.Nat.{ℕ}
 use mathlib.Core.Path.{_≡_, refl, sym, ap, _∙_}
 use mathlib.Core.Logic.{_≢_, inl, inr}

@@ -1,20 +1,19 @@
 -- What is begun is finished: the sections begun only become more (`extends-keeps`), and in the end the finished number is not below that
 -- of any (`begun-finishes`).
-use Prim.Native.Nat.{ℕ, _+_, _≤_}
-use mathlib.Core.Path.{_≡_, refl, sym, ap}
-use mathlib.Core.Logic.{_≢_, inl}
-use mathlib.Core.Bool.{Bool, true, false, _||_, false≢true}
-use mathlib.Core.List.{List, [], _∷_, _++_, map, append-nil, append-assoc}
+use Prim.Native.Nat.{ℕ, _≤_}
+use mathlib.Core.Path.{_≡_, refl, sym}
+use mathlib.Core.Logic.{inl}
+use mathlib.Core.Bool.{Bool, true, false}
+use mathlib.Core.List.{List, [], _∷_, _++_, append-nil, append-assoc}
 use lib.Dec.{eqb}
 use borrow.Author.Tests.{le-leb}
-use native.Mathlib.Omega.{arith}
 use Rattle.image.specs.declared.Field.the-variants.{Pc}
 use Rattle.image.specs.Place.{field}
 use Rattle.image.specs.Image.{Image, at, workers, cellsOf}
 use Rattle.engine.specs.Turn.{Outcome, stored, jumped, unheld, waiting, resting, refused}
 use Rattle.claims.specs.Reference.{Given}
 use Rattle.claims.specs.Calls.{Traced, isPc, turnBy, from, endsCut}
-use Rattle.claims.specs.Claims.{ofWorker, after, mended}
+use Rattle.claims.specs.Claims.{after, mended}
 use Rattle.claims.specs.Once.{numbersOf, among, begunBy, BegunFinishes}
 use Rattle.claims.proofs.Turning.{still}
 use Rattle.claims.proofs.Called.{accepts}
@@ -24,22 +23,27 @@ use Rattle.claims.proofs.Keeping.{nextTurn, Fed, recovered, Keeps, Kept
 use Rattle.claims.proofs.FromRest.{Any, settled-from, settled-pcs}
 use Rattle.claims.proofs.Once.{finished-others, tells-settled}
 use Rattle.claims.proofs.Telling.{begunThen, turn-begun}
-use Rattle.claims.proofs.Feeding.{of-append}
+use Rattle.claims.proofs.Numbers.{among-front, numbers-append}
 
 -- ---- the sections begun become more
 
 module _ (mark n D : ℕ) (cells : List ℕ) (first : List Given) where
   -- first: the sections begun at some moment
-  abbrev pub Extends : Traced → Type 0
-  Extends w = (more : List Given) × (w .trace .begun ≡ first ++ more)
+  abbrev Longer : List Given → Type 0
+  Longer begun = (more : List Given) × (begun ≡ first ++ more)
 
-  more-then : (begun : List Given) (g : Given) (a b : Bool) → (more : List Given) × (begun ≡ first ++ more) → (more : List Given) × (begunThen begun g a b ≡ first ++ more)
+  abbrev Extends : Traced → Type 0
+  Extends w = Longer (w .trace .begun)
+
+  more-then : (begun : List Given) (g : Given) (a b : Bool) → Longer begun → Longer (begunThen begun g a b)
   more-then begun g false b x = x
   more-then begun g true false x = x
   more-then begun g true true (more, e) = (more ++ (g ∷ []), rw e (append-assoc first more (g ∷ [])))
 
   turn-extends : (w : Traced) (d : ℕ) (o : Outcome) → Fed w o → Extends w → Extends (turnBy mark n w d o)
-  turn-extends w d (stored p v c) fed x = rw (turn-begun mark n w d p v c (fed refl)) (more-then (w .trace .begun) (w .trace .last d) (isPc p) (eqb (at n (w .world .image) (field Pc d)) 0) x)
+  turn-extends w d (stored p v c) fed x =
+      rw (turn-begun mark n w d p v c (fed refl))
+      (more-then (w .trace .begun) (w .trace .last d) (isPc p) (eqb (at n (w .world .image) (field Pc d)) 0) x)
   turn-extends w d (jumped c) fed x = x
   turn-extends w d (unheld c) fed x = x
   turn-extends w d (waiting b) fed x = x
@@ -57,7 +61,7 @@ module _ (mark n D : ℕ) (cells : List ℕ) (first : List Given) where
   recovered-extends : (w : Traced) → Worth mark n D cells w → Extends w → Extends (recovered mark n w)
   recovered-extends w k x = rw (accepts mark n D cells (w .world .image) _ _ k) x
 
-  pub extends-keeps : Keeps mark n D cells Extends Extends Any
+  extends-keeps : Keeps mark n D cells Extends Extends Any
   extends-keeps =
       record {
         turn = λ w d r l fed x. turn-extends w d (nextTurn n w d) fed x;
@@ -74,27 +78,17 @@ module _ (mark n D : ℕ) (cells : List ℕ) (first : List Given) where
 
 -- ---- what is begun is finished
 
-among-front : (k : ℕ) (xs ys : List ℕ) → among k xs ≡ true → among k (xs ++ ys) ≡ true
-among-front k [] ys h = absurd (false≢true h)
-among-front k (x ∷ xs) ys h = by (among-front k xs ys) (eqb x k) refl
-  where
-    by : (among k xs ≡ true → among k (xs ++ ys) ≡ true) → (b : Bool) → eqb x k ≡ b → (b || among k (xs ++ ys)) ≡ true
-    by more true e = refl
-    by more false e = more (rw e at h)
-
-map-append : (xs ys : List Given) → map (λ (g : Given). g .number) (xs ++ ys) ≡ map (λ (g : Given). g .number) xs ++ map (λ (g : Given). g .number) ys
-map-append [] ys = refl
-map-append (x ∷ xs) ys = ap (λ (l : List ℕ). x .number ∷ l) (map-append xs ys)
-
-pub numbers-append : (d : ℕ) (gs hs : List Given) → numbersOf d (gs ++ hs) ≡ numbersOf d gs ++ numbersOf d hs
-numbers-append d gs hs = rw (of-append d gs hs) (map-append (ofWorker d gs) (ofWorker d hs))
-
 module _ (mark n : ℕ) (wide : 8 ≤ n) (narrow : n ≤ 64) where
-  -- the good worlds are those that keep it
-  good-kept : (m : Image) (gs : List Given) (b : Bool) (w : Traced) → Good mark n (workers m) (cellsOf m) b w → Extends mark n (workers m) (cellsOf m) gs w
-      → Kept mark n (workers m) (cellsOf m) (Extends mark n (workers m) (cellsOf m) gs) (Extends mark n (workers m) (cellsOf m) gs) Any (extends-keeps mark n (workers m) (cellsOf m) gs) b w
-  good-kept m gs false w g x = (g, x)
-  good-kept m gs true w g x = (g, x)
+  module _ (m : Image) (gs : List Given) where
+    abbrev More : Traced → Type 0
+    More = Extends mark n (workers m) (cellsOf m) gs
+
+    -- the good worlds are those that keep it
+    good-kept :
+        (b : Bool) (w : Traced) → Good mark n (workers m) (cellsOf m) b w → More w
+        → Kept mark n (workers m) (cellsOf m) More More Any (extends-keeps mark n (workers m) (cellsOf m) gs) b w
+    good-kept false w g x = (g, x)
+    good-kept true w g x = (g, x)
 
   pub begun-finishes : BegunFinishes mark n
   unfolding BegunFinishes
@@ -104,10 +98,11 @@ module _ (mark n : ℕ) (wide : 8 ≤ n) (narrow : n ≤ 64) where
       let gs = w .trace .begun in
       let g = play-good mark n D (cellsOf m) false xs (from m) wide narrow h l (rested-running mark n m rest) in
       let v = after mark n m (mended mark n xs ++ ys) in
-      let ext =
-      settled-from mark n wide narrow m rest _ _ (extends-keeps mark n D (cellsOf m) gs) xs (good-kept m gs (endsCut false xs) w g ([], sym (append-nil gs))) ys y .1
-      in
+      let kept = good-kept m gs (endsCut false xs) w g ([], sym (append-nil gs)) in
+      let ext = settled-from mark n wide narrow m rest _ _ (extends-keeps mark n D (cellsOf m) gs) xs kept ys y .1 in
       let t = tells-settled mark n wide narrow m rest xs h l ys y d dl in
-      let more : among j (begunBy mark n v d) ≡ true = rw (ext .1, numbers-append d gs (ext .0)) (among-front j (numbersOf d gs) (numbersOf d (ext .0)) a) in
+      let more : among j (begunBy mark n v d) ≡ true =
+      rw (ext .1, numbers-append d gs (ext .0)) (among-front j (numbersOf d gs) (numbersOf d (ext .0)) a)
+      in
       let pc = settled-pcs mark n wide narrow m rest xs ys h l y k d dl .1 in
       rw (le-leb j _ (finished-others n _ _ (at n (v .world .image)) d t j more (inl pc)))

@@ -1,7 +1,7 @@
 -- What lists of calls keep, from an image at rest: behind any legal list, cut or not (`kept-list`), behind a recovery where a cut ends it
 -- (`mended-from`), and behind uncut runs and turns after that (`settled-from`, `kept-settled`), which leave every pc 0 (`settled-pcs`).
 use Prim.Native.Nat.{ℕ, _*_, _<_, _≤_}
-use mathlib.Core.Path.{_≡_, refl, subst}
+use mathlib.Core.Path.{_≡_, refl}
 use mathlib.Core.Bool.{Bool, true, false, cond}
 use mathlib.Core.List.{List, [], _∷_, _++_}
 use native.Mathlib.Omega.{arith}
@@ -24,7 +24,7 @@ use Rattle.claims.proofs.Keeping.{Sorted, Keeps, Kept, play-keeps, work
 abbrev pub Any : Move → Image → Type 0
 Any x m = Unit {0}
 
-pub any-sorted : (mark n : ℕ) (xs : List Move) (w : Traced) → Sorted mark n Any xs w
+any-sorted : (mark n : ℕ) (xs : List Move) (w : Traced) → Sorted mark n Any xs w
 any-sorted mark n [] w = tt
 any-sorted mark n (x ∷ xs) w = (tt, any-sorted mark n xs _)
 
@@ -36,7 +36,9 @@ module _ (mark n : ℕ) (wide : 8 ≤ n) (narrow : n ≤ 64) (m : Image) (rest :
   cells = cellsOf m
 
   -- behind a list whose moves are of a sort
-  module _ (A : Move → Image → Type 0) (K : Keeps mark n D cells R C A) (start : R (from m)) (xs : List Move) (h : machine xs ≡ true) (l : legal false xs ≡ true) (s : Sorted mark n A xs (from m)) where
+  module _
+      (A : Move → Image → Type 0) (K : Keeps mark n D cells R C A) (start : R (from m)) (xs : List Move) (h : machine xs ≡ true)
+      (l : legal false xs ≡ true) (s : Sorted mark n A xs (from m)) where
     kept : Kept mark n D cells R C A K (endsCut false xs) (after mark n m xs)
     kept = play-keeps mark n D cells R C A K false xs (from m) wide narrow h l s (rested-running mark n m rest, start)
 
@@ -47,12 +49,10 @@ module _ (mark n : ℕ) (wide : 8 ≤ n) (narrow : n ≤ 64) (m : Image) (rest :
     pub kept-sorted : Worth mark n D cells (after mark n m xs) × C (after mark n m xs)
     kept-sorted = by-end (endsCut false xs) kept
 
-    pub kept-uncut : endsCut false xs ≡ false → Running mark n D cells (after mark n m xs) × R (after mark n m xs)
-    kept-uncut e = subst (λ (b : Bool). Kept mark n D cells R C A K b (after mark n m xs)) e kept
-
   -- behind a recovery, where a cut ends a list, and then behind uncut runs and turns
   module _ (K : Keeps mark n D cells R C Any) (xs : List Move) (k : Kept mark n D cells R C Any K (endsCut false xs) (after mark n m xs)) where
-    private-mended : (b : Bool) → Kept mark n D cells R C Any K b (after mark n m xs)
+    private-mended :
+        (b : Bool) → Kept mark n D cells R C Any K b (after mark n m xs)
         → Running mark n D cells (after mark n m (cond b (xs ++ (whole recovers ∷ [])) xs)) × R (after mark n m (cond b (xs ++ (whole recovers ∷ [])) xs))
     unfolding legal machine endsCut
     private-mended true k =
@@ -60,7 +60,7 @@ module _ (mark n : ℕ) (wide : 8 ≤ n) (narrow : n ≤ 64) (m : Image) (rest :
         (play-keeps mark n D cells R C Any K true (whole recovers ∷ []) (after mark n m xs) wide narrow refl refl (tt, tt) k)
     private-mended false k = k
 
-    pub mended-from : Running mark n D cells (after mark n m (mended mark n xs)) × R (after mark n m (mended mark n xs))
+    mended-from : Running mark n D cells (after mark n m (mended mark n xs)) × R (after mark n m (mended mark n xs))
     mended-from = private-mended (endsCut false xs) k
 
     pub settled-from :
@@ -84,8 +84,10 @@ module _ (mark n : ℕ) (wide : 8 ≤ n) (narrow : n ≤ 64) (m : Image) (rest :
 
 -- uncut runs and turns of 384 rounds a worker leave every pc 0
 pub settled-pcs :
-    (mark n : ℕ) (wide : 8 ≤ n) (narrow : n ≤ 64) (m : Image) → Rested mark n m → (xs ys : List Move) → machine xs ≡ true → legal false xs ≡ true → working ys ≡ true → 384 * workers m ≤ roundsIn ys
-    → (d : ℕ) → d < workers m → (cursorAt (after mark n m (mended mark n xs ++ ys) .world .cursors) d ≡ idle) × (at n (after mark n m (mended mark n xs ++ ys) .world .image) (field Pc d) ≡ 0)
+    (mark n : ℕ) (wide : 8 ≤ n) (narrow : n ≤ 64) (m : Image) → Rested mark n m → (xs ys : List Move) → machine xs ≡ true → legal false xs ≡ true
+    → working ys ≡ true → 384 * workers m ≤ roundsIn ys → (d : ℕ) → d < workers m
+    → (cursorAt (after mark n m (mended mark n xs ++ ys) .world .cursors) d ≡ idle)
+    × (at n (after mark n m (mended mark n xs ++ ys) .world .image) (field Pc d) ≡ 0)
 settled-pcs mark n wide narrow m rest xs ys h l y k d dl =
     let D = workers m in
     let g = play-good mark n D (cellsOf m) false xs (from m) wide narrow h l (rested-running mark n m rest) in

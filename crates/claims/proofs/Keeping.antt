@@ -20,7 +20,8 @@ use Rattle.engine.specs.World.{outcomeAt, outcome}
 use Rattle.engine.specs.Submit.{submitAnswer, submitLeaves}
 use Rattle.recovery.specs.Recovery.{recovery}
 use Rattle.claims.specs.Reference.{given}
-use Rattle.claims.specs.Calls.{Traced, traced, turnBy, turnedAt, rounds, ranBy, submitTrace, recoveredBy, Call, submits, turns, runs, recovers, Move, whole, cut, call, lent, afterCut, move, play, recovering, legal, endsCut, callable, machine}
+use Rattle.claims.specs.Calls.{Traced, traced, turnBy, turnedAt, rounds, ranBy, submitTrace, recoveredBy, Call, submits, turns, runs, recovers}
+use Rattle.claims.specs.Calls.{Move, whole, cut, call, lent, afterCut, move, play, recovering, legal, endsCut, callable, machine}
 use Rattle.claims.specs.Claims.{working}
 use Rattle.claims.proofs.Progress.{isMoving}
 use Rattle.claims.proofs.Held.{Running, running-turn}
@@ -28,7 +29,8 @@ use Rattle.claims.proofs.Turning.{rounds-keep}
 use Rattle.claims.proofs.Settling.{Spare, spare-turn}
 use Rattle.claims.proofs.Working.{working-running}
 use Rattle.claims.proofs.Called.{TakenAs, taken-as}
-use Rattle.claims.proofs.Played.{plenty, Worth, running-worth, running-lent, spare-lent, ran-is, outcome-below, outcome-above, recovers-only, whole-good, cut-good, Good}
+use Rattle.claims.proofs.Played.{plenty, Worth, running-worth, running-lent, spare-lent, ran-is, outcome-below, outcome-above}
+use Rattle.claims.proofs.Played.{recovers-only, whole-good, cut-good, Good}
 
 -- worker d's turn in a world that runs
 abbrev pub nextTurn : ℕ → Traced → ℕ → Outcome
@@ -132,7 +134,6 @@ module _ (mark n D : ℕ) (cells : List ℕ) (R C : Traced → Type 0) (A : Move
     both-turned : (w : Traced) (d : ℕ) → d < D → Both w → Both (turnedAt mark n w d)
     both-turned w d l b =
         let t = spare-turn mark n D cells w d (b .spare) l in
-        let k = b .spare .stores in
         record { spare = t .spare; kept = turned w d (b .spare .running) l (λ m. let f = t .falls m in omega arith) (b .kept) }
 
     run-whole : (w : Traced) (r : ℕ) → Running mark n D cells w → plenty mark n D cells ≤ w .world .left → R w → R (ranBy mark n w r)
@@ -164,7 +165,9 @@ module _ (mark n D : ℕ) (cells : List ℕ) (R C : Traced → Type 0) (A : Move
         by Taken e = K .submit-cut w j d k args ws r h (taken-as mark n (w .world) d k ws e) a x
         by (Refused q) e = K .worth w x
 
-    call-whole : (c : Call) (w : Traced) → Running mark n D cells w → callable c ≡ true → plenty mark n D cells ≤ w .world .left → A (whole c) (w .world .image) → R w → R (call mark n c w)
+    call-whole :
+        (c : Call) (w : Traced) → Running mark n D cells w → callable c ≡ true → plenty mark n D cells ≤ w .world .left
+        → A (whole c) (w .world .image) → R w → R (call mark n c w)
     unfolding call
     call-whole (submits d k args ws) w r h l a x = submit-whole w d k args ws r h l a x
     call-whole (turns d) w r h l a x = turn-whole w d r (omega arith) x
@@ -190,7 +193,9 @@ module _ (mark n D : ℕ) (cells : List ℕ) (R C : Traced → Type 0) (A : Move
     good true w k = k .0
 
     -- a recovery that is owing
-    recovery-whole : (w : Traced) → Worth mark n D cells w → plenty mark n D cells ≤ w .world .left → A (whole recovers) (w .world .image) → C w → R (call mark n recovers w)
+    recovery-whole :
+        (w : Traced) → Worth mark n D cells w → plenty mark n D cells ≤ w .world .left → A (whole recovers) (w .world .image) → C w
+        → R (call mark n recovers w)
     unfolding call
     recovery-whole w k l a c = K .recover w k l a c
 
@@ -201,17 +206,22 @@ module _ (mark n D : ℕ) (cells : List ℕ) (R C : Traced → Type 0) (A : Move
     worth-lent : (k : ℕ) (w : Traced) → Worth mark n D cells w → Worth mark n D cells (lent mark n k w)
     worth-lent k w x = record { reached = x .reached; crashed = x .crashed }
 
-    move-whole : (b : Bool) (c : Call) (w : Traced) → callable c ≡ true → (not b || recovering c) ≡ true → A (whole c) (w .world .image) → Kept b w → R (move mark n (whole c) w)
+    move-whole :
+        (b : Bool) (c : Call) (w : Traced) → callable c ≡ true → (not b || recovering c) ≡ true → A (whole c) (w .world .image) → Kept b w
+        → R (move mark n (whole c) w)
     unfolding move
     move-whole false c w h o a (r, x) =
-        call-whole c (lent mark n (plenty mark n D cells) w) (running-lent mark n D cells (plenty mark n D cells) w r) h (omega arith) a (K .lend (plenty mark n D cells) w x)
-    move-whole true c w h o a (k, x) =
+        let k = plenty mark n D cells in
+        call-whole c (lent mark n k w) (running-lent mark n D cells k w r) h (omega arith) a (K .lend k w x)
+    move-whole true c w h o a (g, x) =
+        let k = plenty mark n D cells in
         let e = recovers-only mark n D cells true c o refl in
-        rw e
-        (recovery-whole (lent mark n (plenty mark n D cells) w) (worth-lent (plenty mark n D cells) w k) (omega arith)
-        (subst (λ (q : Call). A (whole q) (w .world .image)) e a) (K .lend-cut (plenty mark n D cells) w x))
+        let sort = subst (λ (q : Call). A (whole q) (w .world .image)) e a in
+        rw e (recovery-whole (lent mark n k w) (worth-lent k w g) (omega arith) sort (K .lend-cut k w x))
 
-    move-cut : (b : Bool) (j : ℕ) (c : Call) (w : Traced) → callable c ≡ true → (not b || recovering c) ≡ true → A (cut j c) (w .world .image) → Kept b w → C (move mark n (cut j c) w)
+    move-cut :
+        (b : Bool) (j : ℕ) (c : Call) (w : Traced) → callable c ≡ true → (not b || recovering c) ≡ true → A (cut j c) (w .world .image) → Kept b w
+        → C (move mark n (cut j c) w)
     unfolding move
     move-cut false j c w h o a (r, x) = K .cut-off _ (call-cut j c (lent mark n j w) (running-lent mark n D cells j w r) h a (K .lend j w x))
     move-cut true j c w h o a (k, x) =
@@ -226,13 +236,17 @@ module _ (mark n D : ℕ) (cells : List ℕ) (R C : Traced → Type 0) (A : Move
     play-keeps b [] w wide narrow h l s k = k
     play-keeps b (whole c ∷ xs) w wide narrow h l (a, s) k =
         let p = and-left (callable c) (machine xs) h in
+        let ps = and-right (callable c) (machine xs) h in
         let q = and-left (not b || recovering c) (legal false xs) l in
-        play-keeps false xs (move mark n (whole c) w) wide narrow (and-right (callable c) (machine xs) h) (and-right (not b || recovering c) (legal false xs) l) s
+        let qs = and-right (not b || recovering c) (legal false xs) l in
+        play-keeps false xs (move mark n (whole c) w) wide narrow ps qs s
         (whole-good mark n D cells b c w wide narrow p q (good b w k), move-whole b c w p q a k)
     play-keeps b (cut j c ∷ xs) w wide narrow h l (a, s) k =
         let p = and-left (callable c) (machine xs) h in
+        let ps = and-right (callable c) (machine xs) h in
         let q = and-left (not b || recovering c) (legal true xs) l in
-        play-keeps true xs (move mark n (cut j c) w) wide narrow (and-right (callable c) (machine xs) h) (and-right (not b || recovering c) (legal true xs) l) s
+        let qs = and-right (not b || recovering c) (legal true xs) l in
+        play-keeps true xs (move mark n (cut j c) w) wide narrow ps qs s
         (cut-good mark n D cells b j c w wide p q (good b w k), move-cut b j c w p q a k)
 
     -- ---- uncut runs and turns, of any number of rounds and of any worker
@@ -258,6 +272,8 @@ module _ (mark n D : ℕ) (cells : List ℕ) (R C : Traced → Type 0) (A : Move
     working-keeps [] w h r x = x
     working-keeps (cut k c ∷ ys) w h r x = absurd (false≢true h)
     working-keeps (whole (submits d k args ws) ∷ ys) w h r x = absurd (false≢true h)
-    working-keeps (whole (turns d) ∷ ys) w h r x = working-keeps ys (move mark n (whole (turns d)) w) h (running-move (whole (turns d)) w refl r) (move-turn d w r x)
-    working-keeps (whole (runs t) ∷ ys) w h r x = working-keeps ys (move mark n (whole (runs t)) w) h (running-move (whole (runs t)) w refl r) (move-run t w r x)
+    working-keeps (whole (turns d) ∷ ys) w h r x =
+        working-keeps ys (move mark n (whole (turns d)) w) h (running-move (whole (turns d)) w refl r) (move-turn d w r x)
+    working-keeps (whole (runs t) ∷ ys) w h r x =
+        working-keeps ys (move mark n (whole (runs t)) w) h (running-move (whole (runs t)) w refl r) (move-run t w r x)
     working-keeps (whole recovers ∷ ys) w h r x = absurd (false≢true h)

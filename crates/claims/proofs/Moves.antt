@@ -1,6 +1,6 @@
--- Calls and lists of moves: what is played one list after the other (`play-append`), by induction on the first; a
--- world that differs from another in its events alone (`Noted`); and the eight
--- arguments of a submission that can be called (`args-full`), by the parts of that test.
+-- Calls and lists of moves: what is played one list after the other (`play-append`), by induction on the first; a world that differs
+-- from another in its events alone (`Noted`); the eight arguments of a submission that can be called (`args-full`), by the parts of
+-- that test; and what two lists one behind the other being legal says of each (`machine-parts`, `legal-parts`, `ends-append`).
 use Prim.Native.Nat.{ℕ, _^_}
 use mathlib.Core.Path.{_≡_, refl}
 use mathlib.Core.List.{List, [], _∷_, _++_, append-nil}
@@ -10,7 +10,8 @@ use lib.Dec.{eqb, ltb}
 use borrow.Author.Tests.{eqb-true}
 use Rattle.base.proofs.Bools.{and-left, and-right, and-both}
 use Rattle.claims.specs.Events.{Event}
-use Rattle.claims.specs.Calls.{Traced, traced, noting, Move, move, play, whole, cut, recovering, legal, endsCut, plain, callable, machine, ofMove, submits, areWords}
+use Rattle.claims.specs.Calls.{Traced, traced, noting, submits, areWords, callable}
+use Rattle.claims.specs.Calls.{Move, whole, cut, move, play, ofMove, recovering, legal, endsCut, plain, machine}
 
 pub play-append : (mark n : ℕ) (xs ys : List Move) (w : Traced) → play mark n (xs ++ ys) w ≡ play mark n ys (play mark n xs w)
 unfolding play
@@ -66,7 +67,9 @@ plain-uncut (whole c ∷ xs) h = plain-uncut xs (and-right (not (recovering c)) 
 plain-uncut (cut k c ∷ xs) h = absurd (false≢true h)
 
 -- a submit is not made where a recovery is owing
-pub submit-legal : (b : Bool) (d k : ℕ) (args ws : List ℕ) (ys : List Move) → legal b (whole (submits d k args ws) ∷ ys) ≡ true → (b ≡ false) × (legal false ys ≡ true)
+pub submit-legal :
+    (b : Bool) (d k : ℕ) (args ws : List ℕ) (ys : List Move) → legal b (whole (submits d k args ws) ∷ ys) ≡ true
+    → (b ≡ false) × (legal false ys ≡ true)
 unfolding legal
 submit-legal false d k args ws ys h = (refl, h)
 submit-legal true d k args ws ys h = absurd (false≢true h)

@@ -1,7 +1,7 @@
 -- Lists of numbers that rise, and what a worker's record says of the numbers that it has begun (`RecordedAt`): with the pc 0 the
 -- finished number is the last of them; else the record's number is, and finished is that one or the one before. Then what each store
 -- of a pc, a number or a finished number makes of it.
-use Prim.Native.Nat.{ℕ, _+_, _<_, _≤_}
+use Prim.Native.Nat.{ℕ, _<_, _≤_}
 use mathlib.Core.Path.{_≡_, refl, sym, ap, _∙_}
 use mathlib.Core.Logic.{_≢_, _⊎_, inl, inr}
 use mathlib.Core.Bool.{Bool, true, false, _||_, false≢true}
@@ -12,8 +12,8 @@ use native.Mathlib.Omega.{arith}
 use Rattle.base.proofs.Bools.{and-left, and-right, and-both}
 use Rattle.claims.specs.Reference.{Given}
 use Rattle.claims.specs.Claims.{ofWorker}
-use Rattle.claims.specs.Once.{numbersOf, rising, lastOr, among}
-use Rattle.claims.proofs.Feeding.{of-snoc-same, of-snoc-other}
+use Rattle.claims.specs.Once.{numbersOf, rising, lastOr, among, Among}
+use Rattle.claims.proofs.Feeding.{of-append, of-snoc-same, of-snoc-other}
 
 -- ---- rising lists
 
@@ -21,7 +21,7 @@ pub last-snoc : (k : ℕ) (xs : List ℕ) (x : ℕ) → lastOr k (xs ++ (x ∷ [
 last-snoc k [] x = refl
 last-snoc k (y ∷ ys) x = last-snoc y ys x
 
-pub rising-snoc : (k : ℕ) (xs : List ℕ) (x : ℕ) → rising k xs ≡ true → lastOr k xs < x → rising k (xs ++ (x ∷ [])) ≡ true
+rising-snoc : (k : ℕ) (xs : List ℕ) (x : ℕ) → rising k xs ≡ true → lastOr k xs < x → rising k (xs ++ (x ∷ [])) ≡ true
 rising-snoc k [] x h l = and-both (ltb k x) true (lt-ltb k x l) refl
 rising-snoc k (y ∷ ys) x h l =
     and-both (ltb k y) (rising y (ys ++ (x ∷ []))) (and-left (ltb k y) (rising y ys) h) (rising-snoc y ys x (and-right (ltb k y) (rising y ys) h) l)
@@ -35,7 +35,7 @@ pub rising-last : (k : ℕ) (xs : List ℕ) (x : ℕ) → rising k (xs ++ (x ∷
 rising-last k [] x h = ltb-true k x (and-left (ltb k x) true h)
 rising-last k (y ∷ ys) x h = rising-last y ys x (and-right (ltb k y) (rising y (ys ++ (x ∷ []))) h)
 
-pub last-above : (k : ℕ) (xs : List ℕ) → rising k xs ≡ true → k ≤ lastOr k xs
+last-above : (k : ℕ) (xs : List ℕ) → rising k xs ≡ true → k ≤ lastOr k xs
 last-above k [] h = omega arith
 last-above k (x ∷ xs) h =
     let a = ltb-true k x (and-left (ltb k x) (rising x xs) h) in
@@ -69,25 +69,40 @@ among-snoc (y ∷ ys) x j a = by (among-snoc ys x j) (eqb y j) refl
     by more true e = inl refl
     by more false e = more (rw e at a)
 
-pub among-last : (xs : List ℕ) (x : ℕ) → among x (xs ++ (x ∷ [])) ≡ true
-among-last [] x = rw (eq-eqb x x refl)
-among-last (y ∷ ys) x = by (eqb y x) (among-last ys x)
+pub among-behind : (k : ℕ) (xs ys : List ℕ) → among k (xs ++ (k ∷ ys)) ≡ true
+among-behind k [] ys = rw (eq-eqb k k refl)
+among-behind k (x ∷ xs) ys = by (eqb x k) (among-behind k xs ys)
   where
-    by : (b : Bool) → among x (ys ++ (x ∷ [])) ≡ true → (b || among x (ys ++ (x ∷ []))) ≡ true
+    by : (b : Bool) → among k (xs ++ (k ∷ ys)) ≡ true → (b || among k (xs ++ (k ∷ ys))) ≡ true
     by true h = refl
     by false h = h
 
+pub among-front : (k : ℕ) (xs ys : List ℕ) → among k xs ≡ true → among k (xs ++ ys) ≡ true
+among-front k [] ys h = absurd (false≢true h)
+among-front k (x ∷ xs) ys h = by (among-front k xs ys) (eqb x k) refl
+  where
+    by : (among k xs ≡ true → among k (xs ++ ys) ≡ true) → (b : Bool) → eqb x k ≡ b → (b || among k (xs ++ ys)) ≡ true
+    by more true e = refl
+    by more false e = more (rw e at h)
+
 -- ---- numbers of a worker's sections
 
-map-snoc : (xs : List Given) (x : Given) → map (λ (g : Given). g .number) (xs ++ (x ∷ [])) ≡ map (λ (g : Given). g .number) xs ++ (x .number ∷ [])
-map-snoc [] x = refl
-map-snoc (y ∷ ys) x = ap (λ (l : List ℕ). y .number ∷ l) (map-snoc ys x)
+map-append : (xs ys : List Given) → map (λ (g : Given). g .number) (xs ++ ys) ≡ map (λ (g : Given). g .number) xs ++ map (λ (g : Given). g .number) ys
+map-append [] ys = refl
+map-append (x ∷ xs) ys = ap (λ (l : List ℕ). x .number ∷ l) (map-append xs ys)
+
+pub numbers-append : (d : ℕ) (gs hs : List Given) → numbersOf d (gs ++ hs) ≡ numbersOf d gs ++ numbersOf d hs
+numbers-append d gs hs = rw (of-append d gs hs) (map-append (ofWorker d gs) (ofWorker d hs))
 
 pub numbers-same : (d : ℕ) (gs : List Given) (g : Given) → g .worker ≡ d → numbersOf d (gs ++ (g ∷ [])) ≡ numbersOf d gs ++ (g .number ∷ [])
-numbers-same d gs g e = rw (of-snoc-same d gs g e) (map-snoc (ofWorker d gs) g)
+numbers-same d gs g e = rw (of-snoc-same d gs g e) (map-append (ofWorker d gs) (g ∷ []))
 
 pub numbers-other : (d : ℕ) (gs : List Given) (g : Given) → g .worker ≢ d → numbersOf d (gs ++ (g ∷ [])) ≡ numbersOf d gs
 numbers-other d gs g e = rw (of-snoc-other d gs g e)
+
+pub among-number : (d : ℕ) (g : Given) (gs : List Given) → g .worker ≡ d → Among g gs → among (g .number) (numbersOf d gs) ≡ true
+among-number d g gs i (before, behind, e) =
+    rw (e, numbers-append d before (g ∷ behind), eq-eqb (g .worker) d i) (among-behind (g .number) (numbersOf d before) (numbersOf d behind))
 
 -- ---- what a record says
 

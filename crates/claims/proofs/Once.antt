@@ -24,7 +24,7 @@ use Rattle.recovery.specs.Recovery.{namedStep, sectionOk, entryOk, pcOk}
 use Rattle.engine.specs.declared.Standing.the-variants.{NotBegun, Begun, Finished}
 use Rattle.engine.specs.Asking.{standingIn}
 use Rattle.claims.specs.Reference.{Job, State, follow, initial}
-use Rattle.claims.specs.Events.{readFrom}
+use Rattle.claims.specs.Events.{takenIn, readFrom}
 use Rattle.claims.specs.Calls.{Traced, Move, from, legal, machine}
 use Rattle.claims.specs.Claims.{Rested, after, mended, working}
 use Rattle.claims.specs.Once.{rising, lastOr, among, OnceAlways, ToldAlways, AskedAlways, begunBy, startedAt, pcOf, numberOf, finishedOf}
@@ -40,7 +40,7 @@ use Rattle.claims.proofs.Durable.{Admitted}
 use Rattle.claims.proofs.Admitted.{begun-admitted}
 use Rattle.claims.proofs.Keeping.{Keeps}
 use Rattle.claims.proofs.FromRest.{Any, kept-list, kept-settled}
-use Rattle.claims.proofs.Numbers.{last-snoc, rising-front, among-bounds, among-snoc, among-last, rising-last}
+use Rattle.claims.proofs.Numbers.{last-snoc, rising-front, among-bounds, among-snoc, among-behind, rising-last}
 use Rattle.claims.proofs.Recorded.{TellsAt}
 use Rattle.claims.proofs.Telling.{pending, Tells, Telling, telling-keeps}
 use Rattle.claims.proofs.Events.{begun-within}
@@ -75,13 +75,13 @@ module _ (n f : ℕ) (bs : List ℕ) (rd : Memory) (d : ℕ) (t : TellsAt n f bs
           (among-snoc before number k (subst (λ (l : List ℕ). among k l ≡ true) e a))
 
   -- where the pc is not 0, the record's number is begun
-  pub under-way-begun : pc ≢ 0 → among number bs ≡ true
-  under-way-begun p = let (before, e, fin) = t .numbers .works p in rw e (among-last before number)
+  under-way-begun : pc ≢ 0 → among number bs ≡ true
+  under-way-begun p = let (before, e, fin) = t .numbers .works p in rw e (among-behind number before [])
 
   pub stands-finished : (k : ℕ) → k ≤ finished → standingIn rd d k ≡ Finished
   stands-finished k l = rw (le-leb k finished l)
 
-  pub stands-either : (k : ℕ) → among k bs ≡ true → (standingIn rd d k ≡ Begun) ⊎ (standingIn rd d k ≡ Finished)
+  stands-either : (k : ℕ) → among k bs ≡ true → (standingIn rd d k ≡ Begun) ⊎ (standingIn rd d k ≡ Finished)
   stands-either k a = by (leb k finished) refl (ℕ-discrete pc 0) (ℕ-discrete number k)
     where
       by : (b : Bool) → leb k finished ≡ b → Dec (pc ≡ 0) → Dec (number ≡ k) → (standingIn rd d k ≡ Begun) ⊎ (standingIn rd d k ≡ Finished)
@@ -90,16 +90,19 @@ module _ (n f : ℕ) (bs : List ℕ) (rd : Memory) (d : ℕ) (t : TellsAt n f bs
       by false e (no p) (no q) = inr (stands-finished k (finished-others k a (inr q)))
       by false e (no p) (yes q) = inl (rw (e, ne-eqb pc 0 p, eq-eqb number k q))
 
-  pub stands-begun : (k : ℕ) → standingIn rd d k ≡ Begun → among k bs ≡ true
+  stands-begun : (k : ℕ) → standingIn rd d k ≡ Begun → among k bs ≡ true
   stands-begun k h = by (leb k finished) refl (ℕ-discrete pc 0) (ℕ-discrete number k)
     where
       by : (b : Bool) → leb k finished ≡ b → Dec (pc ≡ 0) → Dec (number ≡ k) → among k bs ≡ true
-      by true e p q = let s : Finished ≡ Begun = rw e at h in let z : _≡_ {A = ℕ} 0 1 = cc in absurd (omega arith)
-      by false e (yes p) q = let s : NotBegun ≡ Begun = rw (e, eq-eqb pc 0 p) at h in let z : _≡_ {A = ℕ} 0 1 = cc in absurd (omega arith)
-      by false e (no p) (no q) = let s : NotBegun ≡ Begun = rw (e, ne-eqb pc 0 p, ne-eqb number k q) at h in let z : _≡_ {A = ℕ} 0 1 = cc in absurd (omega arith)
+      by true e p q = let z : _≡_ {A = ℕ} 0 1 = cc in absurd (omega arith)
+      by false e (yes p) q = let z : _≡_ {A = ℕ} 0 1 = cc in absurd (omega arith)
+      by false e (no p) (no q) =
+          let s : NotBegun ≡ Begun = rw (e, ne-eqb pc 0 p, ne-eqb number k q) at h in
+          let z : _≡_ {A = ℕ} 0 1 = cc in
+          absurd (omega arith)
       by false e (no p) (yes q) = rw (← q) (under-way-begun p)
 
-  pub stands-not : (k : ℕ) → standingIn rd d k ≡ NotBegun → among k bs ≡ false
+  stands-not : (k : ℕ) → standingIn rd d k ≡ NotBegun → among k bs ≡ false
   stands-not k h = by (among k bs) refl
     where
       by : (b : Bool) → among k bs ≡ b → b ≡ false
@@ -123,12 +126,16 @@ entry-goes-on n rd d (Jump a b) h = refl
 entry-goes-on n rd d Finish h = absurd (false≢true h)
 entry-goes-on n rd d Unknown h = absurd (false≢true h)
 
-recorded-behind : (n : ℕ) (rd : Memory) (d : ℕ) → sectionOk n rd d ≡ true → pcOk n rd d ≡ true → rd (field Pc d) ≢ 0 → suc (namedStep n rd d) < rd (field Count d)
+recorded-behind :
+    (n : ℕ) (rd : Memory) (d : ℕ) → sectionOk n rd d ≡ true → pcOk n rd d ≡ true → rd (field Pc d) ≢ 0
+    → suc (namedStep n rd d) < rd (field Count d)
 recorded-behind n rd d s k p =
     let z = ne-eqb (rd (field Pc d)) 0 p in
     let sec = ok-sectioned n rd d s z in
     let o = ok-named n rd d k z in
-    step-behind n (rd (field Count d)) (codeIn n rd d) (sec .valid) (namedStep n rd d) (opAt n rd d (namedStep n rd d)) (o .below) refl (entry-goes-on n rd d (opAt n rd d (namedStep n rd d)) (o .entry))
+    let i = namedStep n rd d in
+    let x = opAt n rd d i in
+    step-behind n (rd (field Count d)) (codeIn n rd d) (sec .valid) i x (o .below) refl (entry-goes-on n rd d x (o .entry))
 
 -- ---- at the start
 
@@ -149,43 +156,57 @@ module _ (mark n : ℕ) (m : Image) (rest : Rested mark n m) where
         newer = λ e l h. absurd (false≢true (sym (rest-pending e) ∙ h));
       }
 
-  pub rest-reads : ReadsOff mark n (workers m) (cellsOf m) (from m)
-  unfolding readFrom Rattle.claims.specs.Events.takenIn
+  rest-reads : ReadsOff mark n (workers m) (cellsOf m) (from m)
+  unfolding readFrom takenIn
   rest-reads = record { off = record { submits = refl; begins = refl; admits = refl }; waits = λ e l. rw (rest-pending e) }
 
 -- ---- the theorems
 
 module _ (mark n : ℕ) (wide : 8 ≤ n) (narrow : n ≤ 64) where
   -- a section's number is above the finished one
-  abbrev pub Above : ℕ → ℕ → ℕ → Type 0
+  abbrev Above : ℕ → ℕ → ℕ → Type 0
   Above e f k = f < k
 
   module _ (m : Image) (rest : Rested mark n m) (xs : List Move) (h : machine xs ≡ true) (l : legal false xs ≡ true) where
     abbrev D : ℕ
     D = workers m
 
-    keeps-telling : Keeps mark n D (cellsOf m) (Telling mark n D (cellsOf m) (starts mark n m rest) Above (λ e f k q. q)) (Tells mark n D (cellsOf m) (starts mark n m rest) Above (λ e f k q. q)) Any
+    abbrev w : Traced
+    w = after mark n m xs
+
+    -- behind a recovery, where a cut ends the list, and the moves ys
+    abbrev settled : List Move → Traced
+    settled ys = after mark n m (mended mark n xs ++ ys)
+
+    abbrev Told : Traced → Type 0
+    Told = Telling mark n D (cellsOf m) (starts mark n m rest) Above (λ e f k q. q)
+
+    abbrev Tell : Traced → Type 0
+    Tell = Tells mark n D (cellsOf m) (starts mark n m rest) Above (λ e f k q. q)
+
+    start-told : Told (from m)
+    start-told = rest-telling mark n m rest Above (λ e f k q. q)
+
+    keeps-telling : Keeps mark n D (cellsOf m) Told Tell Any
     keeps-telling = telling-keeps mark n D (cellsOf m) (starts mark n m rest) Above (λ e f k q. q) Any (λ i d k args ws a q. q) wide narrow
 
-    told-list : Worth mark n D (cellsOf m) (after mark n m xs) × Tells mark n D (cellsOf m) (starts mark n m rest) Above (λ e f k q. q) (after mark n m xs)
-    told-list = kept-list mark n wide narrow m rest _ _ keeps-telling (rest-telling mark n m rest Above (λ e f k q. q)) xs h l
+    told-list : Worth mark n D (cellsOf m) w × Tell w
+    told-list = kept-list mark n wide narrow m rest _ _ keeps-telling start-told xs h l
 
-    pub tells-list : (d : ℕ) → d < D → TellsAt n (startedAt mark n m d) (begunBy mark n (after mark n m xs) d) (at n (after mark n m xs .world .image)) d
+    tells-list : (d : ℕ) → d < D → TellsAt n (startedAt mark n m d) (begunBy mark n w d) (at n (w .world .image)) d
     tells-list d k = told-list .1 d k
 
     pub tells-settled :
         (ys : List Move) → working ys ≡ true → (d : ℕ) → d < D
-        → TellsAt n (startedAt mark n m d) (begunBy mark n (after mark n m (mended mark n xs ++ ys)) d) (at n (after mark n m (mended mark n xs ++ ys) .world .image)) d
-    tells-settled ys y d k = kept-settled mark n wide narrow m rest _ _ keeps-telling (rest-telling mark n m rest Above (λ e f k q. q)) xs h l ys y .1 .tells d k
+        → TellsAt n (startedAt mark n m d) (begunBy mark n (settled ys) d) (at n (settled ys .world .image)) d
+    tells-settled ys y d k = kept-settled mark n wide narrow m rest _ _ keeps-telling start-told xs h l ys y .1 .tells d k
 
-    pub reads-list : ReadOff mark n D (cellsOf m) (after mark n m xs)
+    reads-list : ReadOff mark n D (cellsOf m) w
     reads-list = kept-list mark n wide narrow m rest _ _ (reading-keeps mark n D (cellsOf m) wide narrow) (rest-reads mark n m rest) xs h l .1
 
-    pub reads-settled : (ys : List Move) → working ys ≡ true → ReadOff mark n D (cellsOf m) (after mark n m (mended mark n xs ++ ys))
-    reads-settled ys y = kept-settled mark n wide narrow m rest _ _ (reading-keeps mark n D (cellsOf m) wide narrow) (rest-reads mark n m rest) xs h l ys y .1 .off
-
-    abbrev w : Traced
-    w = after mark n m xs
+    reads-settled : (ys : List Move) → working ys ≡ true → ReadOff mark n D (cellsOf m) (settled ys)
+    reads-settled ys y =
+        kept-settled mark n wide narrow m rest _ _ (reading-keeps mark n D (cellsOf m) wide narrow) (rest-reads mark n m rest) xs h l ys y .1 .off
 
     -- only its finish is left of a section that is told to be finished with the pc not 0
     to-finish :

@@ -76,7 +76,9 @@ begun-snoc es e = ap (λ (z : Reading). z .begun) (read-snoc es e)
 abbrev pub behindStore : Trace → ℕ → Bool → Bool → Trace
 behindStore g d pc starts = cond pc (recording g d starts) g
 
-pub store-keeps : (g : Trace) (d : ℕ) (pc starts : Bool) → (behindStore g d pc starts .taken ≡ g .taken) × (behindStore g d pc starts .last ≡ g .last) × (behindStore g d pc starts .events ≡ g .events)
+pub store-keeps :
+    (g : Trace) (d : ℕ) (pc starts : Bool)
+    → (behindStore g d pc starts .taken ≡ g .taken) × (behindStore g d pc starts .last ≡ g .last) × (behindStore g d pc starts .events ≡ g .events)
 store-keeps g d true starts = (refl, refl, refl)
 store-keeps g d false starts = (refl, refl, refl)
 
@@ -109,15 +111,20 @@ module _ (mark n D : ℕ) (cells : List ℕ) where
     pub admits : admissible mark n D (w .trace .taken) ≡ true
 
   -- the section that worker e has pending, by its pc, its cursor and the one last taken
-  abbrev pub pendingOf : ℕ → Cursor → Given → List Given
+  abbrev pendingOf : ℕ → Cursor → Given → List Given
   pendingOf pc c g = cond (pend pc c) (g ∷ []) []
 
   pub record ReadsOff (w : Traced) : Type 0 where
     pub off : ReadOff w
-    pub waits : (e : ℕ) → e < D → readOff (w .trace .events) .pending e ≡ pendingOf (at n (w .world .image) (field Pc e)) (cursorAt (w .world .cursors) e) (w .trace .last e)
+    pub waits :
+        (e : ℕ) → e < D
+        → readOff (w .trace .events) .pending e
+        ≡ pendingOf (at n (w .world .image) (field Pc e)) (cursorAt (w .world .cursors) e) (w .trace .last e)
 
   -- one event more that says nothing of sections
-  noted-off : (w v : Traced) (e : Event) → Silent e → v .trace .taken ≡ w .trace .taken → v .trace .begun ≡ w .trace .begun → v .trace .events ≡ w .trace .events ++ (e ∷ []) → ReadOff w → ReadOff v
+  noted-off :
+      (w v : Traced) (e : Event) → Silent e → v .trace .taken ≡ w .trace .taken → v .trace .begun ≡ w .trace .begun
+      → v .trace .events ≡ w .trace .events ++ (e ∷ []) → ReadOff w → ReadOff v
   noted-off w v e (h, t) a b c x =
       record {
         submits = a ∙ (x .submits ∙ rw (c, taken-append, t, append-nil));
@@ -131,78 +138,91 @@ module _ (mark n D : ℕ) (cells : List ℕ) where
     abbrev rd : Memory
     rd = at n (w .world .image)
 
+    abbrev cursors : ℕ → Cursor
+    cursors = cursorAt (w .world .cursors)
+
     abbrev cursor : Cursor
-    cursor = cursorAt (w .world .cursors) d
+    cursor = cursors d
+
+    abbrev last : Given
+    last = w .trace .last d
 
     abbrev old : Reading
     old = readOff (w .trace .events)
 
     -- what is read behind a store
-    private-begins : (b : Bool) → w .trace .begun ++ cond b (w .trace .last d ∷ []) [] ≡ cond b (w .trace .begun ++ (w .trace .last d ∷ [])) (w .trace .begun)
+    private-begins : (b : Bool) → w .trace .begun ++ cond b (last ∷ []) [] ≡ cond b (w .trace .begun ++ (last ∷ [])) (w .trace .begun)
     private-begins true = refl
     private-begins false = append-nil (w .trace .begun)
 
     stored-begun :
-        (p : Place) (v : ℕ) (c : Cursor) (s : ℕ) → Writes n rd d (w .trace .last d) p v → (b : Bool) → isPc p ≡ b → Passes (rd (field Pc d)) cursor v c b
-        → begunThen (w .trace .begun) (w .trace .last d) b (eqb (rd (field Pc d)) 0) ≡ readFrom old (said d s b v) .begun
+        (p : Place) (v : ℕ) (c : Cursor) (s : ℕ) → Writes n rd d last p v → (b : Bool) → isPc p ≡ b → Passes (rd (field Pc d)) cursor v c b
+        → begunThen (w .trace .begun) last b (eqb (rd (field Pc d)) 0) ≡ readFrom old (said d s b v) .begun
     stored-begun p v c s y false q ps = x .off .begins ∙ ap (λ (z : Reading). z .begun) (sym (said-other old d s v))
     stored-begun p v c s y true q ps = by (ℕ-discrete v 0)
       where
-        by : Dec (v ≡ 0) → cond (eqb (rd (field Pc d)) 0) (w .trace .begun ++ (w .trace .last d ∷ [])) (w .trace .begun) ≡ readFrom old (said d s true v) .begun
+        by : Dec (v ≡ 0) → cond (eqb (rd (field Pc d)) 0) (w .trace .begun ++ (last ∷ [])) (w .trace .begun) ≡ readFrom old (said d s true v) .begun
         by (yes z) =
-            let pc : rd (field Pc d) ≢ 0 = λ e. pc-writes n rd d (w .trace .last d) p v y q .0 e .0 z in
+            let pc : rd (field Pc d) ≢ 0 = λ e. pc-writes n rd d last p v y q .0 e .0 z in
             rw (ne-eqb (rd (field Pc d)) 0 pc, said-ended old d s v z) (x .off .begins)
         by (no z) =
             rw (said-recorded old d s v z, x .waits d dl, ps .0, ← x .off .begins) (sym (private-begins (eqb (rd (field Pc d)) 0)))
 
+    -- what worker e has pending behind a store
+    abbrev pendingThen : Place → ℕ → Cursor → ℕ → List Given
+    pendingThen p v c e = pendingOf (upd rd p v (field Pc e)) (but cursors d c e) (w .trace .last e)
+
     stored-waits :
-        (p : Place) (v : ℕ) (c : Cursor) (s : ℕ) → Writes n rd d (w .trace .last d) p v → (b : Bool) → isPc p ≡ b → Passes (rd (field Pc d)) cursor v c b → (e : ℕ) → e < D
-        → readFrom old (said d s b v) .pending e ≡ pendingOf (upd rd p v (field Pc e)) (but (cursorAt (w .world .cursors)) d c e) (w .trace .last e)
+        (p : Place) (v : ℕ) (c : Cursor) (s : ℕ) → Writes n rd d last p v → (b : Bool) → isPc p ≡ b → Passes (rd (field Pc d)) cursor v c b
+        → (e : ℕ) → e < D → readFrom old (said d s b v) .pending e ≡ pendingThen p v c e
     stored-waits p v c s y b q ps e l = by (ℕ-discrete e d) b q ps (ℕ-discrete v 0)
       where
-        aside : e ≢ d → (f : Reading) → f .pending e ≡ old .pending e → f .pending e ≡ pendingOf (upd rd p v (field Pc e)) (but (cursorAt (w .world .cursors)) d c e) (w .trace .last e)
+        aside : e ≢ d → (f : Reading) → f .pending e ≡ old .pending e → f .pending e ≡ pendingThen p v c e
         aside i f k =
-            let a = aside-of n rd d (w .trace .last d) e i p v y in
-            rw (apart-of (tellingOf e) (field Pc e) p (eq-eqb e e refl) a, but-other (cursorAt (w .world .cursors)) d c e i) (k ∙ x .waits e l)
+            let a = aside-of n rd d last e i p v y in
+            rw (apart-of (tellingOf e) (field Pc e) p (eq-eqb e e refl) a, but-other cursors d c e i) (k ∙ x .waits e l)
 
-        by : Dec (e ≡ d) → (b : Bool) → isPc p ≡ b → Passes (rd (field Pc d)) cursor v c b → Dec (v ≡ 0)
-            → readFrom old (said d s b v) .pending e ≡ pendingOf (upd rd p v (field Pc e)) (but (cursorAt (w .world .cursors)) d c e) (w .trace .last e)
+        by :
+            Dec (e ≡ d) → (b : Bool) → isPc p ≡ b → Passes (rd (field Pc d)) cursor v c b → Dec (v ≡ 0)
+            → readFrom old (said d s b v) .pending e ≡ pendingThen p v c e
         by (no i) false h k z = aside i (readFrom old (said d s false v)) (ap (λ (z : Reading). z .pending e) (said-other old d s v))
         by (no i) true h k (yes z) = aside i (readFrom old (said d s true v)) (ap (λ (z : Reading). z .pending e) (said-ended old d s v z))
         by (no i) true h k (no z) =
             aside i (readFrom old (said d s true v)) (ap (λ (z : Reading). z .pending e) (said-recorded old d s v z) ∙ rw (ne-eqb e d i))
         by (yes i) false h k z =
             let pc : upd rd p v (field Pc d) ≡ rd (field Pc d) = rw (apart-of isPc (field Pc d) p refl h) in
-            rw (said-other old d s v, i, pc, but-same (cursorAt (w .world .cursors)) d c, ← k) (x .waits d dl)
+            rw (said-other old d s v, i, pc, but-same cursors d c, ← k) (x .waits d dl)
         by (yes i) true h k (yes z) =
-            let pc : rd (field Pc d) ≢ 0 = λ e. pc-writes n rd d (w .trace .last d) p v y h .0 e .0 z in
-            rw (said-ended old d s v z, i, pc-now n rd d (w .trace .last d) p v y h, but-same (cursorAt (w .world .cursors)) d c, k .1)
+            let pc : rd (field Pc d) ≢ 0 = λ e. pc-writes n rd d last p v y h .0 e .0 z in
+            rw (said-ended old d s v z, i, pc-now n rd d last p v y h, but-same cursors d c, k .1)
             (x .waits d dl ∙ rw (k .0, ne-eqb (rd (field Pc d)) 0 pc))
         by (yes i) true h k (no z) =
-            rw (said-recorded old d s v z, i, pc-now n rd d (w .trace .last d) p v y h, but-same (cursorAt (w .world .cursors)) d c, k .1, eq-eqb d d refl)
+            rw (said-recorded old d s v z, i, pc-now n rd d last p v y h, but-same cursors d c, k .1, eq-eqb d d refl)
 
     still-waits :
         (c : Cursor) → pend (rd (field Pc d)) cursor ≡ pend (rd (field Pc d)) c → (e : ℕ) → e < D
-        → old .pending e ≡ pendingOf (rd (field Pc e)) (but (cursorAt (w .world .cursors)) d c e) (w .trace .last e)
+        → old .pending e ≡ pendingOf (rd (field Pc e)) (but cursors d c e) (w .trace .last e)
     still-waits c q e l = by (ℕ-discrete e d)
       where
-        by : Dec (e ≡ d) → old .pending e ≡ pendingOf (rd (field Pc e)) (but (cursorAt (w .world .cursors)) d c e) (w .trace .last e)
-        by (yes i) = rw (i, but-same (cursorAt (w .world .cursors)) d c, ← q) (x .waits d dl)
-        by (no i) = rw (but-other (cursorAt (w .world .cursors)) d c e i) (x .waits e l)
+        by : Dec (e ≡ d) → old .pending e ≡ pendingOf (rd (field Pc e)) (but cursors d c e) (w .trace .last e)
+        by (yes i) = rw (i, but-same cursors d c, ← q) (x .waits d dl)
+        by (no i) = rw (but-other cursors d c e i) (x .waits e l)
 
     -- a turn, by its outcome: the memory and the cursors behind it are known
     outcome-reads :
-        (o : Outcome) → Says n rd d (w .trace .last d) o → Pends (rd (field Pc d)) cursor o → Fed w o → at n (turnBy mark n w d o .world .image) ≡ turnMemory rd o
-        → ((e : ℕ) → e < D → cursorAt (turnBy mark n w d o .world .cursors) e ≡ but (cursorAt (w .world .cursors)) d (turnCursor cursor o) e) → ReadsOff (turnBy mark n w d o)
+        (o : Outcome) → Says n rd d last o → Pends (rd (field Pc d)) cursor o → Fed w o → at n (turnBy mark n w d o .world .image) ≡ turnMemory rd o
+        → ((e : ℕ) → e < D → cursorAt (turnBy mark n w d o .world .cursors) e ≡ but cursors d (turnCursor cursor o) e) → ReadsOff (turnBy mark n w d o)
     outcome-reads (stored p v c) y ps fed m cs =
         let s = stepOf mark n w d in
         let es = store-said mark n w d p v (fed refl) in
         let (takens, lasts, events) = store-keeps (w .trace) d (isPc p && not (eqb (w .world .left) 0)) (eqb (rd (field Pc d)) 0) in
-        let reads : readOff (w .trace .events ++ said d s (isPc p) v) ≡ readFrom old (said d s (isPc p) v) = read-append _ (w .trace .events) (said d s (isPc p) v) in
+        let begins = stored-begun p v c s y (isPc p) refl ps in
+        let more = said d s (isPc p) v in
+        let reads : readOff (w .trace .events ++ more) ≡ readFrom old more = read-append _ (w .trace .events) more in
         record {
           off = record {
             submits = takens ∙ (x .off .submits ∙ rw (es, events, taken-append, said-taken d s (isPc p) v, append-nil));
-            begins = turn-begun mark n w d p v c (fed refl) ∙ (stored-begun p v c s y (isPc p) refl ps ∙ rw (es, events) (ap (λ (z : Reading). z .begun) (sym reads)));
+            begins = turn-begun mark n w d p v c (fed refl) ∙ (begins ∙ rw (es, events) (ap (λ (z : Reading). z .begun) (sym reads)));
             admits = rw takens (x .off .admits);
           };
           waits = λ e l. rw (lasts, m, cs e l, es, events, reads) (stored-waits p v c s y (isPc p) refl ps e l);
@@ -232,8 +252,9 @@ module _ (mark n D : ℕ) (cells : List ℕ) where
     turn-reads : Fed w (nextTurn n w d) → ReadsOff (turnBy mark n w d (nextTurn n w d))
     turn-reads fed =
         let ph = r .live .phase d dl in
-        outcome-reads (nextTurn n w d) (turn-writes n rd d (w .trace .last d) cursor (r .locks d) (w .trace .jumps d) ph)
-        (pends-turn n rd d (w .trace .last d) cursor (r .locks d) (w .trace .jumps d) ph) fed (turned-memory mark n D cells w d r dl fed) (turned-cursors mark n D cells w d r dl)
+        let says = turn-writes n rd d last cursor (r .locks d) (w .trace .jumps d) ph in
+        let pends = pends-turn n rd d last cursor (r .locks d) (w .trace .jumps d) ph in
+        outcome-reads (nextTurn n w d) says pends fed (turned-memory mark n D cells w d r dl fed) (turned-cursors mark n D cells w d r dl)
 
   -- with no store left
   still-reads : (w : Traced) (d : ℕ) (o : Outcome) → w .world .left ≡ 0 → ReadOff w → ReadOff (turnBy mark n w d o)
@@ -253,12 +274,16 @@ module _ (mark n D : ℕ) (cells : List ℕ) where
   -- ---- a submission
 
   module _
-      (w : Traced) (d k : ℕ) (args ws : List ℕ) (wide : 8 ≤ n) (h : callable (submits d k args ws) ≡ true) (r : Running mark n D cells w) (t : TakenAs mark n (w .world) d k ws) where
+      (w : Traced) (d k : ℕ) (args ws : List ℕ) (wide : 8 ≤ n) (h : callable (submits d k args ws) ≡ true) (r : Running mark n D cells w)
+      (t : TakenAs mark n (w .world) d k ws) where
     abbrev behind : Traced
     behind = submitted mark n w d k args ws Taken
 
     abbrev section : Given
     section = given d k args ws
+
+    abbrev before : ℕ → List Given
+    before = readOff (w .trace .events) .pending
 
     submitted-off : ReadOff w → ReadOff behind
     submitted-off x =
@@ -278,19 +303,24 @@ module _ (mark n D : ℕ) (cells : List ℕ) where
         let pcs = submitted-aside mark n D cells w d k args ws wide eight r t (field Pc e) refl in
         rw (read-snoc (w .trace .events) (taken section), pcs, submitted-cursors mark n D cells w d k args ws wide eight r t e l) (by (ℕ-discrete e d))
       where
-        by : Dec (e ≡ d)
-            → but (readOff (w .trace .events) .pending) d (section ∷ []) e
+        by :
+            Dec (e ≡ d)
+            → but before d (section ∷ []) e
             ≡ pendingOf (at n (w .world .image) (field Pc e)) (but (cursorAt (w .world .cursors)) d (on 0 0) e) (but (w .trace .last) d section e)
         by (yes i) =
-            rw (i, but-same (readOff (w .trace .events) .pending) d (section ∷ []), but-same (cursorAt (w .world .cursors)) d (on 0 0), but-same (w .trace .last) d section, pend-start (at n (w .world .image) (field Pc d)) 0 (t .pc))
+            let cursor = but-same (cursorAt (w .world .cursors)) d (on 0 0) in
+            let starts = pend-start (at n (w .world .image) (field Pc d)) 0 (t .pc) in
+            rw (i, but-same before d (section ∷ []), cursor, but-same (w .trace .last) d section, starts)
         by (no i) =
-            rw (but-other (readOff (w .trace .events) .pending) d (section ∷ []) e i, but-other (cursorAt (w .world .cursors)) d (on 0 0) e i, but-other (w .trace .last) d section e i)
-            (x .waits e l)
+            let cursor = but-other (cursorAt (w .world .cursors)) d (on 0 0) e i in
+            rw (but-other before d (section ∷ []) e i, cursor, but-other (w .trace .last) d section e i) (x .waits e l)
 
   -- ---- cuts and recoveries
 
   -- an event `lost` more
-  lost-off : (w v : Traced) → v .trace .taken ≡ w .trace .taken → v .trace .begun ≡ w .trace .begun → v .trace .events ≡ w .trace .events ++ (lost ∷ []) → ReadOff w → ReadOff v
+  lost-off :
+      (w v : Traced) → v .trace .taken ≡ w .trace .taken → v .trace .begun ≡ w .trace .begun
+      → v .trace .events ≡ w .trace .events ++ (lost ∷ []) → ReadOff w → ReadOff v
   lost-off w v a b c x =
       record {
         submits = a ∙ (x .submits ∙ rw (c, taken-append, taken-lost, append-nil));
@@ -324,7 +354,8 @@ module _ (mark n D : ℕ) (cells : List ℕ) where
         worth = λ w x. x .off;
         lend = λ k w x. record { off = record { submits = x .off .submits; begins = x .off .begins; admits = x .off .admits }; waits = x .waits };
         lend-cut = λ k w x. record { submits = x .submits; begins = x .begins; admits = x .admits };
-        submit = λ w d k args ws r h t left a x. record { off = submitted-off w d k args ws wide h r t (x .off); waits = submitted-waits w d k args ws wide h r t x };
+        submit = λ w d k args ws r h t left a x.
+            record { off = submitted-off w d k args ws wide h r t (x .off); waits = submitted-waits w d k args ws wide h r t x };
         submit-cut = λ w j d k args ws r h t a x. submitted-off w d k args ws wide h r t (x .off);
         recover = λ w k left a x. recovered-reads w k x;
         recover-cut = λ w j k a x. recovered-off w k x;

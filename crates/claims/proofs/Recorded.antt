@@ -1,6 +1,7 @@
 -- Each worker's record tells the numbers that it has begun (`RecordedAt`), and a section that is said to be finished while its pc is not
--- 0 has only its finish left (`Closing`): kept by every call, cut or not (`recorded-keeps`). What a store makes of it is known from
--- where the worker stands (`Writes`); a section that is not begun has a number above the finished one.
+-- 0 has only its finish left (`TellsAt`): kept by every store of a turn, the worker's own (`stored-tells`) and another's (`other-tells`).
+-- What a store makes of it is known from where the worker stands (`Writes`); a section that is not begun has a number above the finished
+-- one, and no store of its turns changes the two before it is begun (`fresh-kept`).
 use Prim.Native.Nat.{ℕ, suc, _<_}
 use mathlib.Core.Path.{_≡_, refl, sym, ap, _∙_}
 use mathlib.Core.Logic.{_≢_}
@@ -18,7 +19,7 @@ use Rattle.recovery.specs.Recovery.{namedStep}
 use Rattle.claims.specs.Reference.{Given}
 use Rattle.claims.specs.Calls.{isPc}
 use Rattle.claims.proofs.Entries.{apart-of, named-cong}
-use Rattle.claims.proofs.Writes.{FinishNext, Writes}
+use Rattle.claims.proofs.Writes.{FinishNext, WritesPc, Writes}
 use Rattle.claims.proofs.Numbers.{RecordedAt, recorded-begins, recorded-moves, recorded-finishes, recorded-ends}
 
 -- ---- one worker, one store
@@ -48,8 +49,8 @@ pub record TellsAt (n : ℕ) (f : ℕ) (bs : List ℕ) (rd : Memory) (d : ℕ) :
 
 -- it rests on the telling words of the worker
 pub tells-same :
-    (n f : ℕ) (bs : List ℕ) (rd rd′ : Memory) (d : ℕ) → rd′ (field Pc d) ≡ rd (field Pc d) → rd′ (field Number d) ≡ rd (field Number d) → rd′ (field Finished d) ≡ rd (field Finished d)
-    → ((i : ℕ) → rd′ (step d i) ≡ rd (step d i)) → TellsAt n f bs rd d → TellsAt n f bs rd′ d
+    (n f : ℕ) (bs : List ℕ) (rd rd′ : Memory) (d : ℕ) → rd′ (field Pc d) ≡ rd (field Pc d) → rd′ (field Number d) ≡ rd (field Number d)
+    → rd′ (field Finished d) ≡ rd (field Finished d) → ((i : ℕ) → rd′ (step d i) ≡ rd (step d i)) → TellsAt n f bs rd d → TellsAt n f bs rd′ d
 tells-same n f bs rd rd′ d p k g s t =
     record {
       numbers = rw (p, k, g) (t .numbers);
@@ -67,11 +68,13 @@ module _ (n f : ℕ) (bs : List ℕ) (rd : Memory) (d : ℕ) (g : Given) (t : Te
   -- a word that tells nothing
   quiet : (p : Place) (v : ℕ) → telling p ≡ false → TellsAt n f bs (upd rd p v) d
   quiet p v h =
-      tells-same n f bs rd (upd rd p v) d (rw (apart-of telling (field Pc d) p refl h)) (rw (apart-of telling (field Number d) p refl h)) (rw (apart-of telling (field Finished d) p refl h))
-      (λ i. rw (apart-of telling (step d i) p refl h)) t
+      let same : (q : Place) → telling q ≡ true → upd rd p v q ≡ rd q = λ q y. rw (apart-of telling q p y h) in
+      tells-same n f bs rd (upd rd p v) d (same (field Pc d) refl) (same (field Number d) refl) (same (field Finished d) refl)
+      (λ i. same (step d i) refl) t
 
   -- the pc
-  pc-stored : (v : ℕ) → Rattle.claims.proofs.Writes.WritesPc n rd d g v → (rd (field Pc d) ≡ 0 → rd (field Finished d) < rd (field Number d))
+  pc-stored :
+      (v : ℕ) → WritesPc n rd d g v → (rd (field Pc d) ≡ 0 → rd (field Finished d) < rd (field Number d))
       → TellsAt n f (begunBehind bs (rd (field Pc d)) (g .number) true) (upd rd (field Pc d) v) d
   pc-stored v (starts, ends, goes) newer = by (eqb (rd (field Pc d)) 0) refl (ℕ-discrete v 0)
     where
@@ -109,7 +112,8 @@ module _ (n f : ℕ) (bs : List ℕ) (rd : Memory) (d : ℕ) (g : Given) (t : Te
       }
 
   -- whatever the worker stores
-  pub stored-tells : (p : Place) (v : ℕ) → Writes n rd d g p v → (rd (field Pc d) ≡ 0 → isPc p ≡ true → rd (field Finished d) < rd (field Number d))
+  pub stored-tells :
+      (p : Place) (v : ℕ) → Writes n rd d g p v → (rd (field Pc d) ≡ 0 → isPc p ≡ true → rd (field Finished d) < rd (field Number d))
       → TellsAt n f (begunBehind bs (rd (field Pc d)) (g .number) (isPc p)) (upd rd p v) d
   stored-tells (cell x) v s newer = quiet (cell x) v refl
   stored-tells (lock b) v s newer = quiet (lock b) v refl
@@ -143,12 +147,14 @@ aside-of n rd d g e h (field f c) v (i, s) = rw i (ne-eqb d e (λ q. h (sym q)))
 aside-of n rd d g e h (own c i) v s = refl
 aside-of n rd d g e h (step c i) v s = absurd s
 
-pub other-tells : (n f : ℕ) (bs : List ℕ) (rd : Memory) (d : ℕ) (g : Given) (e : ℕ) → e ≢ d → (p : Place) (v : ℕ) → Writes n rd d g p v → TellsAt n f bs rd e → TellsAt n f bs (upd rd p v) e
+pub other-tells :
+    (n f : ℕ) (bs : List ℕ) (rd : Memory) (d : ℕ) (g : Given) (e : ℕ) → e ≢ d → (p : Place) (v : ℕ) → Writes n rd d g p v
+    → TellsAt n f bs rd e → TellsAt n f bs (upd rd p v) e
 other-tells n f bs rd d g e h p v s t =
     let a = aside-of n rd d g e h p v s in
     let r = eq-eqb e e refl in
-    tells-same n f bs rd (upd rd p v) e (rw (apart-of (tellingOf e) (field Pc e) p r a)) (rw (apart-of (tellingOf e) (field Number e) p r a)) (rw (apart-of (tellingOf e) (field Finished e) p r a))
-    (λ i. rw (apart-of (tellingOf e) (step e i) p r a)) t
+    let same : (q : Place) → tellingOf e q ≡ true → upd rd p v q ≡ rd q = λ q y. rw (apart-of (tellingOf e) q p y a) in
+    tells-same n f bs rd (upd rd p v) e (same (field Pc e) r) (same (field Number e) r) (same (field Finished e) r) (λ i. same (step e i) r) t
 
 -- ---- a section that is not begun: no turn of it stores its number or the finished one
 

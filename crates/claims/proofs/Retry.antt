@@ -3,7 +3,7 @@
 -- and again until the answer is 3 has it begun once (`exactly-once`): what is begun is of what is taken, and its numbers rise.
 use Prim.Native.Nat.{ℕ, zero, suc, _+_, _<_, _≤_}
 use mathlib.Core.Path.{_≡_, refl, sym, ap, ap₂, subst, _∙_}
-use mathlib.Core.Logic.{_≢_, _⊎_, inl, inr, ⊎-elim}
+use mathlib.Core.Logic.{_≢_, inl, inr, ⊎-elim}
 use mathlib.Core.Bool.{Bool, true, false, _&&_, _||_, not}
 use mathlib.Core.List.{List, [], _∷_, _++_, map}
 use lib.ListN.{length}
@@ -20,16 +20,17 @@ use Rattle.section.specs.declared.Verdict.the-variants.{Pass, Length, Malformed
 use Rattle.section.specs.Check.{codeOf, check}
 use Rattle.engine.specs.declared.Refusal.the-variants.{Number as NumberRefused}
 use Rattle.engine.specs.declared.Submitted.the-variants.{Refused}
-use Rattle.engine.specs.declared.Standing.the-variants.{NotBegun, Begun, Finished}
+use Rattle.engine.specs.declared.Standing.the-variants.{Finished}
 use Rattle.engine.specs.Asking.{standingIn}
 use Rattle.engine.specs.Cursor.{Cursor, cursorAt}
 use Rattle.engine.specs.Turn.{Outcome, stored, jumped, unheld, waiting, resting, refused}
 use Rattle.engine.specs.World.{World}
 use Rattle.engine.specs.Submit.{submitAnswer, verdictAnswer, free}
 use Rattle.claims.specs.Reference.{Given, given}
-use Rattle.claims.specs.Calls.{Traced, isPc, turnBy, Call, submits, turns, runs, recovers, Move, move, from, ofMove}
+use Rattle.claims.specs.Calls.{Traced, isPc, turnBy, Call, submits, turns, runs, recovers, Move, move, play, from, ofMove}
 use Rattle.claims.specs.Claims.{ofWorker, after}
-use Rattle.claims.specs.Once.{numbersOf, rising, lastOr, upFrom, among, Within, OnlyCall, Only, begunBy, startedAt, nextNumber, inTurn, OnceAlways, ToldAlways, RetriedAlways, ExactlyOnce}
+use Rattle.claims.specs.Once.{numbersOf, rising, lastOr, upFrom, among, Within, OnlyCall, Only, begunBy, startedAt, nextNumber, inTurn}
+use Rattle.claims.specs.Once.{Told as ToldAt, OnceAlways, ToldAlways, RetriedAlways, ExactlyOnce}
 use Rattle.claims.proofs.Pending.{Passes, Pends, pends-turn}
 use Rattle.claims.proofs.Writes.{Writes, Says, turn-writes}
 use Rattle.claims.proofs.Held.{Running}
@@ -59,7 +60,9 @@ up-among : (f j k : ℕ) → f < k → k ≤ lastOr f (upFrom f j) → among k (
 up-among f zero k l m = absurd (omega arith)
 up-among f (suc j) k l m = by (up-among (f + 1) j k) (ℕ-discrete (f + 1) k)
   where
-    by : (f + 1 < k → k ≤ lastOr (f + 1) (upFrom (f + 1) j) → among k (upFrom (f + 1) j) ≡ true) → Dec (f + 1 ≡ k) → (eqb (f + 1) k || among k (upFrom (f + 1) j)) ≡ true
+    by :
+        (f + 1 < k → k ≤ lastOr (f + 1) (upFrom (f + 1) j) → among k (upFrom (f + 1) j) ≡ true) → Dec (f + 1 ≡ k)
+        → (eqb (f + 1) k || among k (upFrom (f + 1) j)) ≡ true
     by more (yes e) = rw (eq-eqb (f + 1) k e)
     by more (no e) = rw (ne-eqb (f + 1) k e) (more (omega arith) m)
 
@@ -99,9 +102,13 @@ module _ (mark n D : ℕ) (cells : List ℕ) (start : ℕ → ℕ) (d : ℕ) (dl
   abbrev Tell : Traced → Type 0
   Tell w = Tells mark n D cells start (Next n d) (λ e f k q. q .0) w
 
-  -- the numbers that worker d has begun are consecutive
+  -- consecutive, above the number that worker d had finished at the start
+  abbrev Row : List ℕ → Type 0
+  Row bs = bs ≡ upFrom (start d) (length bs)
+
+  -- the numbers that worker d has begun are
   abbrev InRow : Traced → Type 0
-  InRow w = begunBy mark n w d ≡ upFrom (start d) (length (begunBy mark n w d))
+  InRow w = Row (begunBy mark n w d)
 
   module _ (w : Traced) (e : ℕ) (r : Running mark n D cells w) (el : e < D) (x : Told w) (c : InRow w) where
     abbrev rd : Memory
@@ -110,15 +117,24 @@ module _ (mark n D : ℕ) (cells : List ℕ) (start : ℕ → ℕ) (d : ℕ) (dl
     abbrev cursor : Cursor
     cursor = cursorAt (w .world .cursors) e
 
+    abbrev last : Given
+    last = w .trace .last e
+
+    -- the sections begun behind a store of worker f's turn
+    abbrev begunNow : ℕ → Place → List Given
+    begunNow f p = begunThen (w .trace .begun) (w .trace .last f) (isPc p) (eqb (rd (field Pc f)) 0)
+
     -- worker d's own store
-    own-row : (p : Place) (v : ℕ) (y : Cursor) → Writes n rd d (w .trace .last d) p v → Passes (rd (field Pc d)) (cursorAt (w .world .cursors) d) v y (isPc p)
-        → numbersOf d (begunThen (w .trace .begun) (w .trace .last d) (isPc p) (eqb (rd (field Pc d)) 0))
-        ≡ upFrom (start d) (length (numbersOf d (begunThen (w .trace .begun) (w .trace .last d) (isPc p) (eqb (rd (field Pc d)) 0))))
+    own-row :
+        (p : Place) (v : ℕ) (y : Cursor) → Writes n rd d (w .trace .last d) p v
+        → Passes (rd (field Pc d)) (cursorAt (w .world .cursors) d) v y (isPc p) → Row (numbersOf d (begunNow d p))
     own-row p v y s ps =
-        rw (begun-own d (w .trace .begun) (w .trace .last d) (isPc p) (rd (field Pc d)) (begins-own n rd d (w .trace .last d) p v s)) (by (isPc p) refl ps (eqb (rd (field Pc d)) 0) refl)
+        rw (begun-own d (w .trace .begun) (w .trace .last d) (isPc p) (rd (field Pc d)) (begins-own n rd d (w .trace .last d) p v s))
+        (by (isPc p) refl ps (eqb (rd (field Pc d)) 0) refl)
       where
-        by : (a : Bool) → isPc p ≡ a → Passes (rd (field Pc d)) (cursorAt (w .world .cursors) d) v y a → (b : Bool) → eqb (rd (field Pc d)) 0 ≡ b
-            → begunBehind (begunBy mark n w d) (rd (field Pc d)) (w .trace .last d .number) a ≡ upFrom (start d) (length (begunBehind (begunBy mark n w d) (rd (field Pc d)) (w .trace .last d .number) a))
+        by :
+            (a : Bool) → isPc p ≡ a → Passes (rd (field Pc d)) (cursorAt (w .world .cursors) d) v y a → (b : Bool) → eqb (rd (field Pc d)) 0 ≡ b
+            → Row (begunBehind (begunBy mark n w d) (rd (field Pc d)) (w .trace .last d .number) a)
         by false q k b z = c
         by true q k false z = rw z c
         by true q k true z =
@@ -129,15 +145,13 @@ module _ (mark n D : ℕ) (cells : List ℕ) (start : ℕ → ℕ) (d : ℕ) (dl
             let e : w .trace .last d .number ≡ lastOr (start d) (begunBy mark n w d) + 1 = named ∙ (next ∙ ap (λ (j : ℕ). j + 1) rests) in
             rw (z, e) (consecutive-snoc (start d) (begunBy mark n w d) c)
 
-    outcome-row : (o : Outcome) → Says n rd e (w .trace .last e) o → Pends (rd (field Pc e)) cursor o → Fed w o → InRow (turnBy mark n w e o)
+    outcome-row : (o : Outcome) → Says n rd e last o → Pends (rd (field Pc e)) cursor o → Fed w o → InRow (turnBy mark n w e o)
     outcome-row (stored p v y) s ps fed = rw (turn-begun mark n w e p v y (fed refl)) (by (ℕ-discrete e d))
       where
-        by : Dec (e ≡ d)
-            → numbersOf d (begunThen (w .trace .begun) (w .trace .last e) (isPc p) (eqb (rd (field Pc e)) 0))
-            ≡ upFrom (start d) (length (numbersOf d (begunThen (w .trace .begun) (w .trace .last e) (isPc p) (eqb (rd (field Pc e)) 0))))
+        by : Dec (e ≡ d) → Row (numbersOf d (begunNow e p))
         by (yes i) = rw i (own-row p v y (rw i at s) (rw i at ps))
         by (no i) =
-            rw (begun-other d (w .trace .begun) (w .trace .last e) (isPc p) (rd (field Pc e)) (λ h z q. i (sym (begins-own n rd e (w .trace .last e) p v s h z) ∙ q))) c
+            rw (begun-other d (w .trace .begun) last (isPc p) (rd (field Pc e)) (λ h z q. i (sym (begins-own n rd e last p v s h z) ∙ q))) c
     outcome-row (jumped y) s ps fed = c
     outcome-row (unheld y) s ps fed = c
     outcome-row (waiting b) s ps fed = c
@@ -147,7 +161,9 @@ module _ (mark n D : ℕ) (cells : List ℕ) (start : ℕ → ℕ) (d : ℕ) (dl
     turn-row : Fed w (nextTurn n w e) → InRow (turnBy mark n w e (nextTurn n w e))
     turn-row fed =
         let ph = r .live .phase e el in
-        outcome-row (nextTurn n w e) (turn-writes n rd e (w .trace .last e) cursor (r .locks e) (w .trace .jumps e) ph) (pends-turn n rd e (w .trace .last e) cursor (r .locks e) (w .trace .jumps e) ph) fed
+        let says = turn-writes n rd e last cursor (r .locks e) (w .trace .jumps e) ph in
+        let pends = pends-turn n rd e last cursor (r .locks e) (w .trace .jumps e) ph in
+        outcome-row (nextTurn n w e) says pends fed
 
   still-row : (w : Traced) (e : ℕ) (o : Outcome) → w .world .left ≡ 0 → InRow w → InRow (turnBy mark n w e o)
   still-row w e (stored p v c) z x = rw (still mark n D cells w e p v c z .0) x
@@ -182,10 +198,12 @@ module _ (mark n D : ℕ) (cells : List ℕ) (start : ℕ → ℕ) (d : ℕ) (dl
 told-below : (rd : Memory) (d k : ℕ) → standingIn rd d k ≡ Finished → k ≤ rd (field FinishedField d)
 told-below rd d k h = by (leb k (rd (field FinishedField d))) refl (not (eqb (rd (field Pc d)) 0) && eqb (rd (field Number d)) k) refl
   where
-    by : (a : Bool) → leb k (rd (field FinishedField d)) ≡ a → (b : Bool) → (not (eqb (rd (field Pc d)) 0) && eqb (rd (field Number d)) k) ≡ b → k ≤ rd (field FinishedField d)
+    by :
+        (a : Bool) → leb k (rd (field FinishedField d)) ≡ a → (b : Bool) → (not (eqb (rd (field Pc d)) 0) && eqb (rd (field Number d)) k) ≡ b
+        → k ≤ rd (field FinishedField d)
     by true p b q = leb-true k _ p
-    by false p true q = let s : Begun ≡ Finished = rw (p, q) at h in let z : _≡_ {A = ℕ} 0 1 = cc in absurd (omega arith)
-    by false p false q = let s : NotBegun ≡ Finished = rw (p, q) at h in let z : _≡_ {A = ℕ} 0 1 = cc in absurd (omega arith)
+    by false p true q = let z : _≡_ {A = ℕ} 0 1 = cc in absurd (omega arith)
+    by false p false q = let z : _≡_ {A = ℕ} 0 1 = cc in absurd (omega arith)
 
 -- and the finished one is not above the last that is begun
 finished-last : (n f : ℕ) (bs : List ℕ) (rd : Memory) (d : ℕ) → TellsAt n f bs rd d → rd (field FinishedField d) ≤ lastOr f bs
@@ -200,15 +218,15 @@ finished-last n f bs rd d t = by (ℕ-discrete (rd (field Pc d)) 0)
         ⊎-elim (λ q. omega arith) (λ q. omega arith) fin
 
 pub retried-always : (mark n : ℕ) → 8 ≤ n → n ≤ 64 → RetriedAlways mark n
-unfolding RetriedAlways Rattle.claims.specs.Calls.play
+unfolding RetriedAlways play
 retried-always mark n wide narrow m rest xs h l d dl turn =
     let D = workers m in
     let w = after mark n m xs in
     let rd = at n (w .world .image) in
     let f = starts mark n m rest in
-    let kept =
-    kept-sorted mark n wide narrow m rest _ _ (NextMove n d) (row-keeps mark n D (cellsOf m) f d dl wide narrow) (rest-telling mark n m rest (Next n d) (λ e f k q. q .0), refl) xs h l (next-sorted n d mark xs (from m) turn) .1
-    in
+    let K = row-keeps mark n D (cellsOf m) f d dl wide narrow in
+    let start = rest-telling mark n m rest (Next n d) (λ e f k q. q .0) in
+    let kept = kept-sorted mark n wide narrow m rest _ _ (NextMove n d) K (start, refl) xs h l (next-sorted n d mark xs (from m) turn) .1 in
     let tells = kept .0 d dl in
     record {
       consecutive = kept .1;
@@ -249,7 +267,9 @@ module _ (mark n D : ℕ) (cells : List ℕ) (d : ℕ) (g : Given) where
   only-sorted [] w o = tt
   only-sorted (x ∷ xs) w o = (o .0, only-sorted xs (move mark n x w) (o .1))
 
-  taken-one : (e k : ℕ) (args ws : List ℕ) (gs : List Given) → (e ≡ d → given e k args ws ≡ g) → AllAre g (ofWorker d gs) → AllAre g (ofWorker d (gs ++ (given e k args ws ∷ [])))
+  taken-one :
+      (e k : ℕ) (args ws : List ℕ) (gs : List Given) → (e ≡ d → given e k args ws ≡ g) → AllAre g (ofWorker d gs)
+      → AllAre g (ofWorker d (gs ++ (given e k args ws ∷ [])))
   taken-one e k args ws gs o a = by (ℕ-discrete e d)
     where
       by : Dec (e ≡ d) → AllAre g (ofWorker d (gs ++ (given e k args ws ∷ [])))
@@ -293,16 +313,19 @@ not-number (Unordered i) e = let z : _≡_ {A = ℕ} 0 1 = cc in omega arith
 not-number (Unguarded i) e = let z : _≡_ {A = ℕ} 0 1 = cc in omega arith
 not-number (Unlevel i) e = let z : _≡_ {A = ℕ} 0 1 = cc in omega arith
 
-refused-number : (mark n : ℕ) (w : World) (d k : ℕ) (ws : List ℕ) → submitAnswer mark n w d k ws ≡ Refused NumberRefused → k ≤ at n (w .image) (field FinishedField d)
+refused-number :
+    (mark n : ℕ) (w : World) (d k : ℕ) (ws : List ℕ) → submitAnswer mark n w d k ws ≡ Refused NumberRefused
+    → k ≤ at n (w .image) (field FinishedField d)
 unfolding submitAnswer
 refused-number mark n w d k ws h =
     by (headerOk mark n (w .image)) refl (ltb d (workers (w .image))) refl (free n w d) refl (ltb (at n (w .image) (field FinishedField d)) k) refl
   where
-    by : (a : Bool) → headerOk mark n (w .image) ≡ a → (b : Bool) → ltb d (workers (w .image)) ≡ b → (c : Bool) → free n w d ≡ c → (e : Bool) → ltb (at n (w .image) (field FinishedField d)) k ≡ e
-        → k ≤ at n (w .image) (field FinishedField d)
-    by false a b q c r e s = let x = rw a at h in let z : _≡_ {A = ℕ} 0 1 = cc in absurd (omega arith)
-    by true a false q c r e s = let x = rw (a, q) at h in let z : _≡_ {A = ℕ} 0 1 = cc in absurd (omega arith)
-    by true a true q false r e s = let x = rw (a, q, r) at h in let z : _≡_ {A = ℕ} 0 1 = cc in absurd (omega arith)
+    by :
+        (a : Bool) → headerOk mark n (w .image) ≡ a → (b : Bool) → ltb d (workers (w .image)) ≡ b → (c : Bool) → free n w d ≡ c
+        → (e : Bool) → ltb (at n (w .image) (field FinishedField d)) k ≡ e → k ≤ at n (w .image) (field FinishedField d)
+    by false a b q c r e s = let z : _≡_ {A = ℕ} 0 1 = cc in absurd (omega arith)
+    by true a false q c r e s = let z : _≡_ {A = ℕ} 0 1 = cc in absurd (omega arith)
+    by true a true q false r e s = let z : _≡_ {A = ℕ} 0 1 = cc in absurd (omega arith)
     by true a true q true r true s = absurd (not-number (check n (length ws) (codeOf ws)) (rw (a, q, r, s) at h))
     by true a true q true r false s = let l = ltb-false (at n (w .image) (field FinishedField d)) k s in omega arith
 
@@ -323,14 +346,17 @@ exactly-once mark n wide narrow m rest xs h l d dl g new only refusal =
     let w = after mark n m xs in
     let once = once-always mark n wide narrow m rest xs h l in
     let told = told-always mark n wide narrow m rest xs h l d dl in
-    let one = kept-sorted mark n wide narrow m rest _ _ (OnlyMove mark n (workers m) (cellsOf m) d g) (one-keeps mark n (workers m) (cellsOf m) d g) tt xs h l (only-sorted mark n (workers m) (cellsOf m) d g xs (from m) only) .1 in
+    let D = workers m in
+    let cells = cellsOf m in
+    let sorted = only-sorted mark n D cells d g xs (from m) only in
+    let one = kept-sorted mark n wide narrow m rest _ _ (OnlyMove mark n D cells d g) (one-keeps mark n D cells d g) tt xs h l sorted .1 in
+    let all = all-within g (ofWorker d (w .trace .begun)) (ofWorker d (w .trace .taken)) (once .within d) one in
     let low = refused-number mark n (w .world) d (g .number) (g .code) refusal in
-    one-only g (startedAt mark n m d) (ofWorker d (w .trace .begun)) (all-within g (ofWorker d (w .trace .begun)) (ofWorker d (w .trace .taken)) (once .within d) one) (once .rises d dl)
-    (λ z.
-    let none : begunBy mark n w d ≡ [] = rw z in
-    by (ℕ-discrete (at n (w .world .image) (field Pc d)) 0) none low told)
+    one-only g (startedAt mark n m d) (ofWorker d (w .trace .begun)) all (once .rises d dl)
+    (λ z. by (ℕ-discrete (at n (w .world .image) (field Pc d)) 0) (rw z) low told)
   where
-    by : Dec (at n (after mark n m xs .world .image) (field Pc d) ≡ 0) → begunBy mark n (after mark n m xs) d ≡ [] → g .number ≤ at n (after mark n m xs .world .image) (field FinishedField d)
-        → Rattle.claims.specs.Once.Told mark n m (after mark n m xs) d → ⊥
+    by :
+        Dec (at n (after mark n m xs .world .image) (field Pc d) ≡ 0) → begunBy mark n (after mark n m xs) d ≡ []
+        → g .number ≤ at n (after mark n m xs .world .image) (field FinishedField d) → ToldAt mark n m (after mark n m xs) d → ⊥
     by (yes p) none low told = let e = told .at-rest p ∙ ap (lastOr (startedAt mark n m d)) none in omega arith
     by (no p) none low told = told .under-way p .0 none

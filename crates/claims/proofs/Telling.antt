@@ -34,7 +34,8 @@ use Rattle.claims.proofs.Called.{TakenAs, accepts}
 use Rattle.claims.proofs.Played.{plenty, Worth}
 use Rattle.claims.proofs.Moves.{args-full}
 use Rattle.claims.proofs.Keeping.{nextTurn, Fed, submitted, recovered, Keeps}
-use Rattle.claims.proofs.Behind.{turnMemory, turnCursor, turned-memory, turned-cursors, submitted-aside, submitted-number, submitted-cursors, recovered-fixed, recovered-cursors}
+use Rattle.claims.proofs.Behind.{turnMemory, turnCursor, turned-memory, turned-cursors}
+use Rattle.claims.proofs.Behind.{submitted-aside, submitted-number, submitted-cursors, recovered-fixed, recovered-cursors}
 use Rattle.claims.proofs.Numbers.{recorded-numbered, numbers-same, numbers-other}
 use Rattle.claims.proofs.Entries.{apart-of}
 use Rattle.claims.proofs.Recorded.{TellsAt, tells-same, begunBehind, stored-tells, other-tells, fresh-kept, tellingOf, aside-of}
@@ -45,20 +46,23 @@ use Rattle.claims.proofs.Recorded.{TellsAt, tells-same, begunBehind, st
 abbrev pub begunThen : List Given → Given → Bool → Bool → List Given
 begunThen begun g pc starts = cond pc (cond starts (begun ++ (g ∷ [])) begun) begun
 
-pub turn-begun : (mark n : ℕ) (w : Traced) (d : ℕ) (p : Place) (v : ℕ) (c : Cursor) → 0 < w .world .left
+pub turn-begun :
+    (mark n : ℕ) (w : Traced) (d : ℕ) (p : Place) (v : ℕ) (c : Cursor) → 0 < w .world .left
     → turnBy mark n w d (stored p v c) .trace .begun ≡ begunThen (w .trace .begun) (w .trace .last d) (isPc p) (eqb (at n (w .world .image) (field Pc d)) 0)
 turn-begun mark n w d p v c l = by (isPc p)
   where
     left-over : eqb (w .world .left) 0 ≡ false
     left-over = ne-eqb (w .world .left) 0 (λ q. omega arith)
 
-    by : (b : Bool)
+    by :
+        (b : Bool)
         → cond (b && not (eqb (w .world .left) 0)) (recording (w .trace) d (eqb (at n (w .world .image) (field Pc d)) 0)) (w .trace) .begun
         ≡ begunThen (w .trace .begun) (w .trace .last d) b (eqb (at n (w .world .image) (field Pc d)) 0)
     by true = rw left-over
     by false = refl
 
-pub begun-own : (d : ℕ) (begun : List Given) (g : Given) (b : Bool) (pc : ℕ) → (b ≡ true → pc ≡ 0 → g .worker ≡ d)
+pub begun-own :
+    (d : ℕ) (begun : List Given) (g : Given) (b : Bool) (pc : ℕ) → (b ≡ true → pc ≡ 0 → g .worker ≡ d)
     → numbersOf d (begunThen begun g b (eqb pc 0)) ≡ begunBehind (numbersOf d begun) pc (g .number) b
 begun-own d begun g false pc mine = refl
 begun-own d begun g true pc mine = by (eqb pc 0) refl
@@ -67,7 +71,9 @@ begun-own d begun g true pc mine = by (eqb pc 0) refl
     by true e = numbers-same d begun g (mine refl (eqb-true pc 0 e))
     by false e = refl
 
-pub begun-other : (e : ℕ) (begun : List Given) (g : Given) (b : Bool) (pc : ℕ) → (b ≡ true → pc ≡ 0 → g .worker ≢ e) → numbersOf e (begunThen begun g b (eqb pc 0)) ≡ numbersOf e begun
+pub begun-other :
+    (e : ℕ) (begun : List Given) (g : Given) (b : Bool) (pc : ℕ) → (b ≡ true → pc ≡ 0 → g .worker ≢ e)
+    → numbersOf e (begunThen begun g b (eqb pc 0)) ≡ numbersOf e begun
 begun-other e begun g false pc apart = refl
 begun-other e begun g true pc apart = by (eqb pc 0) refl
   where
@@ -76,7 +82,9 @@ begun-other e begun g true pc apart = by (eqb pc 0) refl
     by false i = refl
 
 -- a store of a pc is one of the worker's own
-pc-field : (n : ℕ) (rd : Memory) (d : ℕ) (g : Given) (e : ℕ) (v : ℕ) (f : Field) → Writes n rd d g (field f e) v → isPc (field f e) ≡ true → field f e ≡ field Pc d
+pc-field :
+    (n : ℕ) (rd : Memory) (d : ℕ) (g : Given) (e : ℕ) (v : ℕ) (f : Field) → Writes n rd d g (field f e) v → isPc (field f e) ≡ true
+    → field f e ≡ field Pc d
 pc-field n rd d g e v Count s h = absurd (false≢true h)
 pc-field n rd d g e v Pc s h = ap (field Pc) (s .0)
 pc-field n rd d g e v Addr0 s h = absurd (false≢true h)
@@ -88,7 +96,7 @@ pc-field n rd d g e v Owned s h = absurd (false≢true h)
 pc-field n rd d g e v Number s h = absurd (false≢true h)
 pc-field n rd d g e v Finished s h = absurd (false≢true h)
 
-pub pc-place : (n : ℕ) (rd : Memory) (d : ℕ) (g : Given) (p : Place) (v : ℕ) → Writes n rd d g p v → isPc p ≡ true → p ≡ field Pc d
+pc-place : (n : ℕ) (rd : Memory) (d : ℕ) (g : Given) (p : Place) (v : ℕ) → Writes n rd d g p v → isPc p ≡ true → p ≡ field Pc d
 pc-place n rd d g (cell x) v s h = absurd (false≢true h)
 pc-place n rd d g (lock b) v s h = absurd (false≢true h)
 pc-place n rd d g (field f e) v s h = pc-field n rd d g e v f s h
@@ -137,7 +145,7 @@ module _ (mark n D : ℕ) (cells : List ℕ) (start : ℕ → ℕ) (Q : ℕ → 
     pub tells : Tells w
     pub newer : (e : ℕ) → e < D → pending mark n D cells w e ≡ true → Q e (at n (w .world .image) (field Finished e)) (at n (w .world .image) (field Number e))
 
-  pub pending-pc : (pc : ℕ) (c : Cursor) → pend pc c ≡ true → pc ≡ 0
+  pending-pc : (pc : ℕ) (c : Cursor) → pend pc c ≡ true → pc ≡ 0
   pending-pc pc c h = by (ℕ-discrete pc 0)
     where
       by : Dec (pc ≡ 0) → pc ≡ 0
@@ -150,63 +158,75 @@ module _ (mark n D : ℕ) (cells : List ℕ) (start : ℕ → ℕ) (Q : ℕ → 
     abbrev rd : Memory
     rd = at n (w .world .image)
 
+    abbrev cursors : ℕ → Cursor
+    cursors = cursorAt (w .world .cursors)
+
     abbrev cursor : Cursor
-    cursor = cursorAt (w .world .cursors) d
+    cursor = cursors d
+
+    abbrev last : Given
+    last = w .trace .last d
+
+    -- where the pc was 0 and is stored, the record's number is above the finished one
+    abbrev New : Place → Type 0
+    New p = rd (field Pc d) ≡ 0 → isPc p ≡ true → rd (field Finished d) < rd (field Number d)
+
+    -- the sections begun behind a store
+    abbrev begunNow : Place → List Given
+    begunNow p = begunThen (w .trace .begun) last (isPc p) (eqb (rd (field Pc d)) 0)
 
     -- what a store leaves, worker by worker
-    stored-at : (p : Place) (v : ℕ) → Writes n rd d (w .trace .last d) p v → (rd (field Pc d) ≡ 0 → isPc p ≡ true → rd (field Finished d) < rd (field Number d)) → (e : ℕ) → e < D
-        → TellsAt n (start e) (numbersOf e (begunThen (w .trace .begun) (w .trace .last d) (isPc p) (eqb (rd (field Pc d)) 0))) (upd rd p v) e
+    stored-at :
+        (p : Place) (v : ℕ) → Writes n rd d last p v → New p → (e : ℕ) → e < D → TellsAt n (start e) (numbersOf e (begunNow p)) (upd rd p v) e
     stored-at p v s new e l = by (ℕ-discrete e d)
       where
-        by : Dec (e ≡ d) → TellsAt n (start e) (numbersOf e (begunThen (w .trace .begun) (w .trace .last d) (isPc p) (eqb (rd (field Pc d)) 0))) (upd rd p v) e
+        by : Dec (e ≡ d) → TellsAt n (start e) (numbersOf e (begunNow p)) (upd rd p v) e
         by (yes i) =
-            rw (i, begun-own d (w .trace .begun) (w .trace .last d) (isPc p) (rd (field Pc d)) (begins-own n rd d (w .trace .last d) p v s))
-            (stored-tells n (start d) (numbersOf d (w .trace .begun)) rd d (w .trace .last d) (x .tells d dl) p v s new)
+            rw (i, begun-own d (w .trace .begun) last (isPc p) (rd (field Pc d)) (begins-own n rd d last p v s))
+            (stored-tells n (start d) (numbersOf d (w .trace .begun)) rd d last (x .tells d dl) p v s new)
         by (no i) =
-            rw (begun-other e (w .trace .begun) (w .trace .last d) (isPc p) (rd (field Pc d)) (λ h z q. i (sym q ∙ begins-own n rd d (w .trace .last d) p v s h z)))
-            (other-tells n (start e) (numbersOf e (w .trace .begun)) rd d (w .trace .last d) e i p v s (x .tells e l))
+            rw (begun-other e (w .trace .begun) last (isPc p) (rd (field Pc d)) (λ h z q. i (sym q ∙ begins-own n rd d last p v s h z)))
+            (other-tells n (start e) (numbersOf e (w .trace .begun)) rd d last e i p v s (x .tells e l))
 
     -- a pc that was 0 is stored only for a section that was pending
-    stored-new : (p : Place) (v : ℕ) (c : Cursor) → Passes (rd (field Pc d)) cursor v c (isPc p) → rd (field Pc d) ≡ 0 → isPc p ≡ true → rd (field Finished d) < rd (field Number d)
+    stored-new : (p : Place) (v : ℕ) (c : Cursor) → Passes (rd (field Pc d)) cursor v c (isPc p) → New p
     stored-new p v c ps z h = above d _ _ (x .newer d dl (subst (Passes (rd (field Pc d)) cursor v c) h ps .0 ∙ eq-eqb (rd (field Pc d)) 0 z))
 
     -- and stays so until then
     stored-newer :
-        (p : Place) (v : ℕ) (c : Cursor) → Writes n rd d (w .trace .last d) p v → Passes (rd (field Pc d)) cursor v c (isPc p) → (e : ℕ) → e < D
-        → pend (upd rd p v (field Pc e)) (but (cursorAt (w .world .cursors)) d c e) ≡ true → Q e (upd rd p v (field Finished e)) (upd rd p v (field Number e))
+        (p : Place) (v : ℕ) (c : Cursor) → Writes n rd d last p v → Passes (rd (field Pc d)) cursor v c (isPc p) → (e : ℕ) → e < D
+        → pend (upd rd p v (field Pc e)) (but cursors d c e) ≡ true → Q e (upd rd p v (field Finished e)) (upd rd p v (field Number e))
     stored-newer p v c s ps e l h = by (ℕ-discrete e d) (isPc p) refl ps
       where
         by : Dec (e ≡ d) → (b : Bool) → isPc p ≡ b → Passes (rd (field Pc d)) cursor v c b → Q e (upd rd p v (field Finished e)) (upd rd p v (field Number e))
         by (no i) b q y =
             let t = eq-eqb e e refl in
-            let a = aside-of n rd d (w .trace .last d) e i p v s in
-            let old : pend (rd (field Pc e)) (cursorAt (w .world .cursors) e) ≡ true =
-            rw (apart-of (tellingOf e) (field Pc e) p t a, but-other (cursorAt (w .world .cursors)) d c e i) at h
-            in
+            let a = aside-of n rd d last e i p v s in
+            let old : pend (rd (field Pc e)) (cursors e) ≡ true = rw (apart-of (tellingOf e) (field Pc e) p t a, but-other cursors d c e i) at h in
             rw (apart-of (tellingOf e) (field Finished e) p t a, apart-of (tellingOf e) (field Number e) p t a) (x .newer e l old)
         by (yes i) false q y =
             let pc : upd rd p v (field Pc d) ≡ rd (field Pc d) = rw (apart-of isPc (field Pc d) p refl q) in
-            let old : pend (rd (field Pc d)) cursor ≡ true = y ∙ (rw (i, pc, but-same (cursorAt (w .world .cursors)) d c) at h) in
-            let k = fresh-kept n rd d (w .trace .last d) p v s (pending-pc (rd (field Pc d)) cursor old) in
+            let old : pend (rd (field Pc d)) cursor ≡ true = y ∙ (rw (i, pc, but-same cursors d c) at h) in
+            let k = fresh-kept n rd d last p v s (pending-pc (rd (field Pc d)) cursor old) in
             rw (i, k .0, k .1) (x .newer d dl old)
         by (yes i) true q y =
-            let now : upd rd p v (field Pc d) ≡ v = pc-now n rd d (w .trace .last d) p v s q in
-            absurd (false≢true (sym (y .1) ∙ (rw (i, now, but-same (cursorAt (w .world .cursors)) d c) at h)))
+            let now : upd rd p v (field Pc d) ≡ v = pc-now n rd d last p v s q in
+            absurd (false≢true (sym (y .1) ∙ (rw (i, now, but-same cursors d c) at h)))
 
     -- nothing is stored
     still-newer :
-        (c : Cursor) → pend (rd (field Pc d)) cursor ≡ pend (rd (field Pc d)) c → (e : ℕ) → e < D → pend (rd (field Pc e)) (but (cursorAt (w .world .cursors)) d c e) ≡ true
+        (c : Cursor) → pend (rd (field Pc d)) cursor ≡ pend (rd (field Pc d)) c → (e : ℕ) → e < D → pend (rd (field Pc e)) (but cursors d c e) ≡ true
         → Q e (rd (field Finished e)) (rd (field Number e))
     still-newer c q e l h = by (ℕ-discrete e d)
       where
         by : Dec (e ≡ d) → Q e (rd (field Finished e)) (rd (field Number e))
-        by (yes i) = rw i (x .newer d dl (q ∙ (rw (i, but-same (cursorAt (w .world .cursors)) d c) at h)))
-        by (no i) = x .newer e l (rw (but-other (cursorAt (w .world .cursors)) d c e i) at h)
+        by (yes i) = rw i (x .newer d dl (q ∙ (rw (i, but-same cursors d c) at h)))
+        by (no i) = x .newer e l (rw (but-other cursors d c e i) at h)
 
     -- a turn, by its outcome: the memory and the cursors behind it are known
     outcome-telling :
-        (o : Outcome) → Says n rd d (w .trace .last d) o → Pends (rd (field Pc d)) cursor o → Fed w o → at n (turnBy mark n w d o .world .image) ≡ turnMemory rd o
-        → ((e : ℕ) → e < D → cursorAt (turnBy mark n w d o .world .cursors) e ≡ but (cursorAt (w .world .cursors)) d (turnCursor cursor o) e) → Telling (turnBy mark n w d o)
+        (o : Outcome) → Says n rd d last o → Pends (rd (field Pc d)) cursor o → Fed w o → at n (turnBy mark n w d o .world .image) ≡ turnMemory rd o
+        → ((e : ℕ) → e < D → cursorAt (turnBy mark n w d o .world .cursors) e ≡ but cursors d (turnCursor cursor o) e) → Telling (turnBy mark n w d o)
     outcome-telling (stored p v c) s ps fed m cs =
         record {
           tells = λ e l. rw (turn-begun mark n w d p v c (fed refl), m) (stored-at p v s (stored-new p v c ps) e l);
@@ -221,8 +241,9 @@ module _ (mark n D : ℕ) (cells : List ℕ) (start : ℕ → ℕ) (Q : ℕ → 
     turn-telling : Fed w (nextTurn n w d) → Telling (turnBy mark n w d (nextTurn n w d))
     turn-telling fed =
         let ph = r .live .phase d dl in
-        outcome-telling (nextTurn n w d) (turn-writes n rd d (w .trace .last d) cursor (r .locks d) (w .trace .jumps d) ph)
-        (pends-turn n rd d (w .trace .last d) cursor (r .locks d) (w .trace .jumps d) ph) fed (turned-memory mark n D cells w d r dl fed) (turned-cursors mark n D cells w d r dl)
+        let says = turn-writes n rd d last cursor (r .locks d) (w .trace .jumps d) ph in
+        let pends = pends-turn n rd d last cursor (r .locks d) (w .trace .jumps d) ph in
+        outcome-telling (nextTurn n w d) says pends fed (turned-memory mark n D cells w d r dl fed) (turned-cursors mark n D cells w d r dl)
 
   -- with no store left
   still-tells : (w : Traced) (d : ℕ) (o : Outcome) → w .world .left ≡ 0 → Tells w → Tells (turnBy mark n w d o)
@@ -235,7 +256,9 @@ module _ (mark n D : ℕ) (cells : List ℕ) (start : ℕ → ℕ) (Q : ℕ → 
 
   -- ---- a submission
 
-  module _ (w : Traced) (d k : ℕ) (args ws : List ℕ) (wide : 8 ≤ n) (eight : length args ≡ 8) (r : Running mark n D cells w) (t : TakenAs mark n (w .world) d k ws) (x : Telling w) where
+  module _
+      (w : Traced) (d k : ℕ) (args ws : List ℕ) (wide : 8 ≤ n) (eight : length args ≡ 8) (r : Running mark n D cells w)
+      (t : TakenAs mark n (w .world) d k ws) (x : Telling w) where
     abbrev behind : Memory
     behind = at n (submitted mark n w d k args ws Taken .world .image)
 
@@ -255,20 +278,23 @@ module _ (mark n D : ℕ) (cells : List ℕ) (start : ℕ → ℕ) (Q : ℕ → 
             })
         by (no i) =
             let h = ne-eqb e d i in
-            tells-same n (start e) (numbersOf e (w .trace .begun)) (at n (w .world .image)) behind e (kept (field Pc e) refl) (kept (field Number e) (rw h)) (kept (field Finished e) refl)
-            (λ j. kept (step e j) (rw h)) (x .tells e l)
+            tells-same n (start e) (numbersOf e (w .trace .begun)) (at n (w .world .image)) behind e
+            (kept (field Pc e) refl) (kept (field Number e) (rw h)) (kept (field Finished e) refl) (λ j. kept (step e j) (rw h)) (x .tells e l)
 
     submitted-newer :
-        n ≤ 64 → plenty mark n D cells ≤ w .world .left → Q d (at n (w .world .image) (field Finished d)) k → (e : ℕ) → e < D → pending mark n D cells (submitted mark n w d k args ws Taken) e ≡ true
-        → Q e (behind (field Finished e)) (behind (field Number e))
+        n ≤ 64 → plenty mark n D cells ≤ w .world .left → Q d (at n (w .world .image) (field Finished d)) k → (e : ℕ) → e < D
+        → pending mark n D cells (submitted mark n w d k args ws Taken) e ≡ true → Q e (behind (field Finished e)) (behind (field Number e))
     submitted-newer narrow left new e l h = by (ℕ-discrete e d)
       where
         by : Dec (e ≡ d) → Q e (behind (field Finished e)) (behind (field Number e))
         by (yes i) = rw (i, kept (field Finished d) refl, submitted-number mark n D cells w d k args ws wide eight r t narrow left) new
         by (no i) =
             let q = ne-eqb e d i in
-            rw (kept (field Finished e) refl, kept (field Number e) (rw q))
-            (x .newer e l (rw (kept (field Pc e) refl, submitted-cursors mark n D cells w d k args ws wide eight r t e l, but-other (cursorAt (w .world .cursors)) d (on 0 0) e i) at h))
+            let stays = but-other (cursorAt (w .world .cursors)) d (on 0 0) e i in
+            let old : pending mark n D cells w e ≡ true =
+            rw (kept (field Pc e) refl, submitted-cursors mark n D cells w d k args ws wide eight r t e l, stays) at h
+            in
+            rw (kept (field Finished e) refl, kept (field Number e) (rw q)) (x .newer e l old)
 
   -- ---- a recovery
 
@@ -282,7 +308,8 @@ module _ (mark n D : ℕ) (cells : List ℕ) (start : ℕ → ℕ) (Q : ℕ → 
     recovered-tells : Tells w → Tells (recovered mark n w)
     recovered-tells t e l =
         rw recovered-begun
-        (tells-same n (start e) (numbersOf e (w .trace .begun)) (at n (w .world .image)) _ e (fixed (field Pc e) refl) (fixed (field Number e) refl) (fixed (field Finished e) refl) (λ j. fixed (step e j) refl) (t e l))
+        (tells-same n (start e) (numbersOf e (w .trace .begun)) (at n (w .world .image)) _ e
+        (fixed (field Pc e) refl) (fixed (field Number e) refl) (fixed (field Finished e) refl) (λ j. fixed (step e j) refl) (t e l))
 
   -- ---- every call
 
@@ -303,7 +330,9 @@ module _ (mark n D : ℕ) (cells : List ℕ) (start : ℕ → ℕ) (Q : ℕ → 
             let q = new (w .world .image) d k args ws a (t .numbered) in
             record { tells = submitted-tells w d k args ws wide eight r t x; newer = submitted-newer w d k args ws wide eight r t x narrow left q };
         submit-cut = λ w j d k args ws r h t a x. submitted-tells w d k args ws wide (args-full d k args ws h) r t x;
-        recover = λ w k left a t. record { tells = recovered-tells w k t; newer = λ e l h. absurd (false≢true (sym (recovered-pending mark n D cells w k e l) ∙ h)) };
+        recover = λ w k left a t.
+            let none = recovered-pending mark n D cells w k in
+            record { tells = recovered-tells w k t; newer = λ e l h. absurd (false≢true (sym (none e l) ∙ h)) };
         recover-cut = λ w j k a t. recovered-tells w k t;
         cut-off = λ w t. t;
       }

@@ -1,14 +1,13 @@
 -- A section taken by an uncut submit waits, or is begun, as long as no cut and no recovery comes (`follows-keeps`); with all workers
 -- idle none waits, so that it is begun and finished (`through-always`).
-use Prim.Native.Nat.{ℕ, _+_, _*_, _<_, _≤_}
+use Prim.Native.Nat.{ℕ, _*_, _<_, _≤_}
 use mathlib.Core.Path.{_≡_, refl, sym, ap, subst, _∙_}
-use mathlib.Core.Logic.{_≢_, _⊎_, inl, inr, ⊎-elim}
-use mathlib.Core.Bool.{Bool, true, false, _&&_, _||_, not, false≢true}
+use mathlib.Core.Logic.{_⊎_, inl, inr, ⊎-elim}
+use mathlib.Core.Bool.{Bool, true, false, _&&_, not, false≢true}
 use mathlib.Core.List.{List, [], _∷_, _++_, append-assoc}
 use lib.ListN.{length}
 use lib.Dec.{eqb}
 use borrow.Author.Tests.{eq-eqb, le-leb}
-use native.Mathlib.Omega.{arith}
 use native.Mathlib.Decide.{ℕ-discrete}
 use Rattle.base.proofs.Bools.{and-left, and-right}
 use Rattle.image.specs.declared.Field.the-variants.{Pc}
@@ -19,11 +18,13 @@ use Rattle.engine.specs.Cursor.{Cursor, on, cursorAt}
 use Rattle.engine.specs.Turn.{Outcome, stored, jumped, unheld, waiting, resting, refused}
 use Rattle.engine.specs.Submit.{submitAnswer, free}
 use Rattle.engine.specs.declared.Standing.the-variants.{Finished}
+use Rattle.engine.proofs.Planned.{idle-is}
 use Rattle.claims.specs.Reference.{Given, given}
 use Rattle.claims.specs.Events.{but}
-use Rattle.claims.specs.Calls.{Traced, isPc, turnBy, submits, Move, whole, cut, call, lent, move, play, from, recovering, legal, endsCut, plain, callable, machine}
+use Rattle.claims.specs.Calls.{Traced, isPc, turnBy, Call, submits, callable, call, lent}
+use Rattle.claims.specs.Calls.{Move, whole, cut, move, play, from, recovering, legal, endsCut, plain, machine}
 use Rattle.claims.specs.Claims.{Rested, after, mended, working, roundsIn}
-use Rattle.claims.specs.Once.{numbersOf, among, Among, standing, ThroughAlways}
+use Rattle.claims.specs.Once.{Among, standing, ThroughAlways}
 use Rattle.claims.proofs.LiveTurn.{but-same, but-other}
 use Rattle.claims.proofs.Pending.{pend, pend-idle, pend-start, Passes, Pends, pends-turn}
 use Rattle.claims.proofs.Writes.{Says, turn-writes}
@@ -41,8 +42,7 @@ use Rattle.claims.proofs.Recorded.{tellingOf, aside-of}
 use Rattle.claims.proofs.Reading.{store-keeps}
 use Rattle.claims.proofs.Entries.{apart-of}
 use Rattle.claims.proofs.Behind.{turnMemory, turnCursor, turned-memory, turned-cursors, submitted-aside, submitted-cursors}
-use Rattle.engine.proofs.Planned.{idle-is}
-use Rattle.claims.proofs.Finishes.{numbers-append}
+use Rattle.claims.proofs.Numbers.{among-number}
 
 -- ---- a section that is taken and not cut off
 
@@ -63,9 +63,13 @@ among-more g gs x true false h = h
 among-more g gs x true true (before, behind, e) = (before, behind ++ (x ∷ []), rw e (append-assoc before (g ∷ behind) (x ∷ [])))
 
 module _ (mark n D : ℕ) (cells : List ℕ) (d : ℕ) (dl : d < D) (g : Given) where
-  -- it is begun, or the one that worker d has pending
+  -- it is the one that worker d has pending
+  abbrev Waits : Traced → Type 0
+  Waits w = (pending mark n D cells w d ≡ true) × (w .trace .last d ≡ g)
+
+  -- or begun
   abbrev Follows : Traced → Type 0
-  Follows w = Among g (w .trace .begun) ⊎ ((pending mark n D cells w d ≡ true) × (w .trace .last d ≡ g))
+  Follows w = Among g (w .trace .begun) ⊎ Waits w
 
   abbrev Nothing : Traced → Type 0
   Nothing w = Unit {0}
@@ -74,41 +78,48 @@ module _ (mark n D : ℕ) (cells : List ℕ) (d : ℕ) (dl : d < D) (g : Given) 
     abbrev rd : Memory
     rd = at n (w .world .image)
 
+    abbrev cursors : ℕ → Cursor
+    cursors = cursorAt (w .world .cursors)
+
     abbrev cursor : Cursor
-    cursor = cursorAt (w .world .cursors) e
+    cursor = cursors e
+
+    abbrev last : Given
+    last = w .trace .last e
 
     -- what is pending and its pc stay, for another worker's turn or its own
-    waits-on : (w′ : Traced) (c : Cursor) → w′ .trace .last d ≡ w .trace .last d → at n (w′ .world .image) (field Pc d) ≡ rd (field Pc d)
-        → cursorAt (w′ .world .cursors) d ≡ but (cursorAt (w .world .cursors)) e c d → (d ≡ e → pend (rd (field Pc e)) cursor ≡ pend (rd (field Pc e)) c)
-        → (pending mark n D cells w d ≡ true) × (w .trace .last d ≡ g) → (pending mark n D cells w′ d ≡ true) × (w′ .trace .last d ≡ g)
+    waits-on :
+        (w′ : Traced) (c : Cursor) → w′ .trace .last d ≡ w .trace .last d → at n (w′ .world .image) (field Pc d) ≡ rd (field Pc d)
+        → cursorAt (w′ .world .cursors) d ≡ but cursors e c d → (d ≡ e → pend (rd (field Pc e)) cursor ≡ pend (rd (field Pc e)) c)
+        → Waits w → Waits w′
     waits-on w′ c t p cs q (h, k) = (rw (p, cs) (by (ℕ-discrete d e)), t ∙ k)
       where
-        by : Dec (d ≡ e) → pend (rd (field Pc d)) (but (cursorAt (w .world .cursors)) e c d) ≡ true
-        by (yes i) = let a : pend (rd (field Pc e)) cursor ≡ true = rw i at h in rw (i, but-same (cursorAt (w .world .cursors)) e c) (sym (q i) ∙ a)
-        by (no i) = rw (but-other (cursorAt (w .world .cursors)) e c d i) h
+        by : Dec (d ≡ e) → pend (rd (field Pc d)) (but cursors e c d) ≡ true
+        by (yes i) = let a : pend (rd (field Pc e)) cursor ≡ true = rw i at h in rw (i, but-same cursors e c) (sym (q i) ∙ a)
+        by (no i) = rw (but-other cursors e c d i) h
 
     -- a turn, by its outcome
     outcome-follows :
-        (o : Outcome) → Says n rd e (w .trace .last e) o → Pends (rd (field Pc e)) cursor o → Fed w o → at n (turnBy mark n w e o .world .image) ≡ turnMemory rd o
-        → ((f : ℕ) → f < D → cursorAt (turnBy mark n w e o .world .cursors) f ≡ but (cursorAt (w .world .cursors)) e (turnCursor cursor o) f) → Follows (turnBy mark n w e o)
+        (o : Outcome) → Says n rd e last o → Pends (rd (field Pc e)) cursor o → Fed w o → at n (turnBy mark n w e o .world .image) ≡ turnMemory rd o
+        → ((f : ℕ) → f < D → cursorAt (turnBy mark n w e o .world .cursors) f ≡ but cursors e (turnCursor cursor o) f) → Follows (turnBy mark n w e o)
     outcome-follows (stored p v c) y ps fed m cs = by x (isPc p) refl ps (ℕ-discrete d e)
       where
         behind : Traced
         behind = turnBy mark n w e (stored p v c)
 
-        begins : behind .trace .begun ≡ begunThen (w .trace .begun) (w .trace .last e) (isPc p) (eqb (rd (field Pc e)) 0)
+        begins : behind .trace .begun ≡ begunThen (w .trace .begun) last (isPc p) (eqb (rd (field Pc e)) 0)
         begins = turn-begun mark n w e p v c (fed refl)
 
-        lasts : behind .trace .last ≡ w .trace .last
-        lasts = store-keeps (w .trace) e (isPc p && not (eqb (w .world .left) 0)) (eqb (rd (field Pc e)) 0) .1
+        lasts : behind .trace .last d ≡ w .trace .last d
+        lasts = ap (λ (f : ℕ → Given). f d) (store-keeps (w .trace) e (isPc p && not (eqb (w .world .left) 0)) (eqb (rd (field Pc e)) 0) .1)
 
         by : Follows w → (b : Bool) → isPc p ≡ b → Passes (rd (field Pc e)) cursor v c b → Dec (d ≡ e) → Follows behind
-        by (inl h) b i k q = inl (rw begins (among-more g (w .trace .begun) (w .trace .last e) (isPc p) (eqb (rd (field Pc e)) 0) h))
+        by (inl h) b i k q = inl (rw begins (among-more g (w .trace .begun) last (isPc p) (eqb (rd (field Pc e)) 0) h))
         by (inr h) false i k q =
-            inr (waits-on behind c (ap (λ (f : ℕ → Given). f d) lasts) (rw (m, apart-of isPc (field Pc d) p refl i)) (cs d dl) (λ z. k) h)
+            inr (waits-on behind c lasts (rw (m, apart-of isPc (field Pc d) p refl i)) (cs d dl) (λ z. k) h)
         by (inr h) true i k (no q) =
-            let a = aside-of n rd e (w .trace .last e) d q p v y in
-            inr (waits-on behind c (ap (λ (f : ℕ → Given). f d) lasts) (rw (m, apart-of (tellingOf d) (field Pc d) p (eq-eqb d d refl) a)) (cs d dl) (λ z. absurd (q z)) h)
+            let a = aside-of n rd e last d q p v y in
+            inr (waits-on behind c lasts (rw (m, apart-of (tellingOf d) (field Pc d) p (eq-eqb d d refl) a)) (cs d dl) (λ z. absurd (q z)) h)
         by (inr (h, t)) true i k (yes q) =
             let z : eqb (rd (field Pc e)) 0 ≡ true = sym (k .0) ∙ (rw q at h) in
             let last : w .trace .last e ≡ g = rw q at t in
@@ -122,12 +133,14 @@ module _ (mark n D : ℕ) (cells : List ℕ) (d : ℕ) (dl : d < D) (g : Given) 
     turn-follows : Fed w (nextTurn n w e) → Follows (turnBy mark n w e (nextTurn n w e))
     turn-follows fed =
         let ph = r .live .phase e el in
-        outcome-follows (nextTurn n w e) (turn-writes n rd e (w .trace .last e) cursor (r .locks e) (w .trace .jumps e) ph)
-        (pends-turn n rd e (w .trace .last e) cursor (r .locks e) (w .trace .jumps e) ph) fed (turned-memory mark n D cells w e r el fed) (turned-cursors mark n D cells w e r el)
+        let says = turn-writes n rd e last cursor (r .locks e) (w .trace .jumps e) ph in
+        let pends = pends-turn n rd e last cursor (r .locks e) (w .trace .jumps e) ph in
+        outcome-follows (nextTurn n w e) says pends fed (turned-memory mark n D cells w e r el fed) (turned-cursors mark n D cells w e r el)
 
   -- a submission of another worker; the worker's own is refused while one is pending
   submit-follows :
-      8 ≤ n → (w : Traced) (e k : ℕ) (args ws : List ℕ) → length args ≡ 8 → Running mark n D cells w → TakenAs mark n (w .world) e k ws → Follows w → Follows (submitted mark n w e k args ws Taken)
+      8 ≤ n → (w : Traced) (e k : ℕ) (args ws : List ℕ) → length args ≡ 8 → Running mark n D cells w → TakenAs mark n (w .world) e k ws
+      → Follows w → Follows (submitted mark n w e k args ws Taken)
   submit-follows wide w e k args ws eight r t (inl h) = inl h
   submit-follows wide w e k args ws eight r t (inr (h, last)) = by (ℕ-discrete d e)
     where
@@ -157,28 +170,24 @@ module _ (mark n D : ℕ) (cells : List ℕ) (d : ℕ) (dl : d < D) (g : Given) 
         cut-off = λ w x. tt;
       }
 
-among-behind : (k : ℕ) (xs ys : List ℕ) → among k (xs ++ (k ∷ ys)) ≡ true
-among-behind k [] ys = rw (eq-eqb k k refl)
-among-behind k (x ∷ xs) ys = by (eqb x k) (among-behind k xs ys)
-  where
-    by : (b : Bool) → among k (xs ++ (k ∷ ys)) ≡ true → (b || among k (xs ++ (k ∷ ys))) ≡ true
-    by true h = refl
-    by false h = h
-
-among-number : (d : ℕ) (g : Given) (gs : List Given) → g .worker ≡ d → Among g gs → among (g .number) (numbersOf d gs) ≡ true
-among-number d g gs i (before, behind, e) =
-    rw (e, numbers-append d before (g ∷ behind), eq-eqb (g .worker) d i) (among-behind (g .number) (numbersOf d before) (numbersOf d behind))
-
 -- ---- the theorem
 
 module _ (mark n : ℕ) (wide : 8 ≤ n) (narrow : n ≤ 64) (m : Image) (rest : Rested mark n m) (xs ys : List Move) (d k : ℕ) (args ws : List ℕ) where
+  abbrev submit : Call
+  submit = submits d k args ws
+
+  abbrev later : List Move
+  later = whole submit ∷ ys
+
   abbrev handed : List Move
-  handed = xs ++ (whole (submits d k args ws) ∷ ys)
+  handed = xs ++ later
 
   abbrev section : Given
   section = given d k args ws
 
-  module _ (h : machine handed ≡ true) (l : legal false handed ≡ true) (p : plain ys ≡ true) (t : submitAnswer mark n (after mark n m xs .world) d k ws ≡ Taken) where
+  module _
+      (h : machine handed ≡ true) (l : legal false handed ≡ true) (p : plain ys ≡ true)
+      (t : submitAnswer mark n (after mark n m xs .world) d k ws ≡ Taken) where
     abbrev D : ℕ
     D = workers m
 
@@ -188,19 +197,22 @@ module _ (mark n : ℕ) (wide : 8 ≤ n) (narrow : n ≤ 64) (m : Image) (rest :
     abbrev w : Traced
     w = after mark n m xs
 
-    uncut : endsCut false xs ≡ false
-    uncut = submit-legal (endsCut false xs) d k args ws ys (legal-parts false xs (whole (submits d k args ws) ∷ ys) l .1) .0
+    -- xs ends with no cut, and ys is legal behind the submit
+    legals : (endsCut false xs ≡ false) × (legal false ys ≡ true)
+    legals = submit-legal (endsCut false xs) d k args ws ys (legal-parts false xs later l .1)
 
     running : Running mark n D cells w
     running =
-        subst (λ (b : Bool). Good mark n D cells b w) uncut
-        (play-good mark n D cells false xs (from m) wide narrow (machine-parts xs (whole (submits d k args ws) ∷ ys) h .0) (legal-parts false xs (whole (submits d k args ws) ∷ ys) l .0) (rested-running mark n m rest))
+        let hs = machine-parts xs later h .0 in
+        let ls = legal-parts false xs later l .0 in
+        subst (λ (b : Bool). Good mark n D cells b w) (legals .0)
+        (play-good mark n D cells false xs (from m) wide narrow hs ls (rested-running mark n m rest))
 
-    parts : (callable (submits d k args ws) ≡ true) × (machine ys ≡ true)
+    parts : (callable submit ≡ true) × (machine ys ≡ true)
     unfolding machine
     parts =
-        let q = machine-parts xs (whole (submits d k args ws) ∷ ys) h .1 in
-        (and-left (callable (submits d k args ws)) (machine ys) q, and-right (callable (submits d k args ws)) (machine ys) q)
+        let q = machine-parts xs later h .1 in
+        (and-left (callable submit) (machine ys) q, and-right (callable submit) (machine ys) q)
 
     abbrev lends : Traced
     lends = lent mark n (plenty mark n D cells) w
@@ -215,41 +227,52 @@ module _ (mark n : ℕ) (wide : 8 ≤ n) (narrow : n ≤ 64) (m : Image) (rest :
     below : d < D
     below = subst (λ (e : ℕ). d < e) (running .reached .many) (taken-as-lent .below)
 
+    abbrev Follow : Traced → Type 0
+    Follow = Follows mark n D cells d below section
+
+    abbrev None : Traced → Type 0
+    None = Nothing mark n D cells d below section
+
+    abbrev keeps : Keeps mark n D cells Follow None Plain
+    keeps = follows-keeps mark n D cells d below section wide
+
     -- behind the submit it is pending
     abbrev behind : Traced
-    behind = move mark n (whole (submits d k args ws)) w
+    behind = move mark n (whole submit) w
 
     behind-is : behind ≡ submitted mark n lends d k args ws Taken
     unfolding move call
     behind-is = rw taken-lent
 
-    submitted-follows : Follows mark n D cells d below section behind
+    submitted-follows : Follow behind
     submitted-follows =
         let eight = args-full d k args ws (parts .0) in
         let r = running-lent mark n D cells (plenty mark n D cells) w running in
         let pcs = submitted-aside mark n D cells lends d k args ws wide eight r taken-as-lent (field Pc d) refl in
+        let cursor = submitted-cursors mark n D cells lends d k args ws wide eight r taken-as-lent d below in
         rw behind-is
         (inr (
-          rw (pcs, submitted-cursors mark n D cells lends d k args ws wide eight r taken-as-lent d below, but-same (cursorAt (w .world .cursors)) d (on 0 0)) (pend-start _ 0 (taken-as-lent .pc)),
+          rw (pcs, cursor, but-same (cursorAt (w .world .cursors)) d (on 0 0)) (pend-start _ 0 (taken-as-lent .pc)),
           but-same (w .trace .last) d section,
         ))
 
     behind-running : Running mark n D cells behind
-    behind-running = whole-good mark n D cells false (submits d k args ws) w wide narrow (parts .0) refl running
+    behind-running = whole-good mark n D cells false submit w wide narrow (parts .0) refl running
 
     -- and behind the calls after it begun or pending
-    list-follows : Running mark n D cells (after mark n m handed) × Follows mark n D cells d below section (after mark n m handed)
+    list-follows : Running mark n D cells (after mark n m handed) × Follow (after mark n m handed)
     unfolding play
     list-follows =
-        let legals = submit-legal (endsCut false xs) d k args ws ys (legal-parts false xs (whole (submits d k args ws) ∷ ys) l .1) .1 in
-        let K = follows-keeps mark n D cells d below section wide in
-        let kept = play-keeps mark n D cells (Follows mark n D cells d below section) (Nothing mark n D cells d below section) Plain K false ys behind wide narrow (parts .1) legals (plain-sorted mark n ys behind p) (behind-running, submitted-follows) in
-        rw (play-append mark n xs (whole (submits d k args ws) ∷ ys) (from m))
-        (subst (λ (b : Bool). Kept mark n D cells (Follows mark n D cells d below section) (Nothing mark n D cells d below section) Plain K b (play mark n ys behind)) (plain-uncut ys p) kept)
+        let kept =
+        play-keeps mark n D cells Follow None Plain keeps false ys behind wide narrow (parts .1) (legals .1) (plain-sorted mark n ys behind p)
+        (behind-running, submitted-follows)
+        in
+        rw (play-append mark n xs later (from m))
+        (subst (λ (b : Bool). Kept mark n D cells Follow None Plain keeps b (play mark n ys behind)) (plain-uncut ys p) kept)
 
     mended-same : mended mark n handed ≡ handed
     unfolding endsCut
-    mended-same = rw (ends-append false xs (whole (submits d k args ws) ∷ ys), plain-uncut ys p)
+    mended-same = rw (ends-append false xs later, plain-uncut ys p)
 
     -- with all workers idle nothing is pending
     list-through :
@@ -257,9 +280,9 @@ module _ (mark n : ℕ) (wide : 8 ≤ n) (narrow : n ≤ 64) (m : Image) (rest :
         → Among section (after mark n m (handed ++ zs) .trace .begun) × (standing mark n (after mark n m (handed ++ zs)) d k ≡ Finished)
     list-through zs y rounds =
         let v = after mark n m (handed ++ zs) in
-        let f : Follows mark n D cells d below section v =
+        let f : Follow v =
         rw (play-append mark n handed zs (from m))
-        (working-keeps mark n D cells (Follows mark n D cells d below section) (Nothing mark n D cells d below section) Plain (follows-keeps mark n D cells d below section wide) zs (after mark n m handed) y (list-follows .0) (list-follows .1))
+        (working-keeps mark n D cells Follow None Plain keeps zs (after mark n m handed) y (list-follows .0) (list-follows .1))
         in
         let e = mended-same in
         let (cursor, pc) = rw e at (settled-pcs mark n wide narrow m rest handed zs h l y rounds d below) in

@@ -189,7 +189,7 @@ module _ (mark n D : ℕ) (cells : List ℕ) where
   -- in a cut call: running, or with no store left
   caught-guarded : (w : Traced) (d : ℕ) → d < D → Cutting mark n D cells w → Guarded mark n (moment w d)
   caught-guarded w d l (inl r) = running-guarded w d r l
-  caught-guarded w d l (inr f) = λ x v c e left. let z = f .spent in absurd (omega arith)
+  caught-guarded w d l (inr f) = λ x v c e left. absurd (omega arith)
 
   -- ---- runs and calls
 

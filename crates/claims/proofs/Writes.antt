@@ -4,7 +4,7 @@
 use Prim.Native.Nat.{ℕ, suc, zero, _+_, _-_, _<_, _≤_}
 use mathlib.Core.Path.{_≡_, refl, sym, ap, subst, _∙_}
 use mathlib.Core.Logic.{_≢_}
-use mathlib.Core.Bool.{Bool, true, false, cond}
+use mathlib.Core.Bool.{Bool, true, false, cond, true≢false}
 use native.Mathlib.Omega.{arith}
 use lib.Dec.{eqb, ltb}
 use Rattle.image.specs.declared.Field.{Field}
@@ -14,10 +14,12 @@ use Rattle.section.specs.declared.Op.{Op}
 use Rattle.section.specs.declared.Op.the-variants.{Acquire, Release, Assign, Jump, Finish, Unknown}
 use Rattle.section.proofs.Steps.{ends}
 use Rattle.engine.specs.Cursor.{Cursor, on}
-use Rattle.engine.specs.Turn.{Outcome, stored, jumped, unheld, waiting, resting as rests, refused, operand, codeIn, second, spareAddr, spareVal, switched, logged, lockTurn, unlockTurn, opTurn, turnAt}
+use Rattle.engine.specs.Turn.{Outcome, stored, jumped, unheld, waiting, resting as rests, refused, operand, codeIn, second, spareAddr, spareVal}
+use Rattle.engine.specs.Turn.{switched, logged, lockTurn, unlockTurn, opTurn, turnAt}
 use Rattle.recovery.specs.Recovery.{namedStep, targetTurn}
 use Rattle.claims.specs.Reference.{Given}
-use Rattle.claims.proofs.Invariant.{opAt, heldAt, Sectioned, Named, Nearing, Due, Jumps, stay, leap, Entered, Phase, resting, fresh, due, unlocking, unlocked, between, ended}
+use Rattle.claims.proofs.Invariant.{opAt, heldAt, Sectioned, Named, Nearing, Due, Jumps, stay, leap, Entered}
+use Rattle.claims.proofs.Invariant.{Phase, resting, fresh, due, unlocking, unlocked, between, ended}
 use Rattle.claims.proofs.Entries.{named-pc, named-step}
 use Rattle.claims.proofs.Origins.{near-ready}
 use Rattle.claims.proofs.Frame.{jumps-held}
@@ -125,18 +127,15 @@ module _ (n : ℕ) (rd : Memory) (d : ℕ) (g : Given) where
   -- a step behind jumps is no finish, since a finish holds nothing and a jump something
   jump-holds : Sectioned n rd d → (k a b : ℕ) → k < rd (field Count d) → opAt n rd d k ≡ Jump a b → heldAt n rd d k ≢ 0
   jump-holds sec k a b l o =
-      let inside = step-behind n (rd (field Count d)) (codeIn n rd d) (sec .valid) k (Jump a b) l o refl in
-      let (c, first) = sec .valid .first in
-      λ z. by k o inside z
+      by k o (step-behind n (rd (field Count d)) (codeIn n rd d) (sec .valid) k (Jump a b) l o refl)
     where
       by : (k : ℕ) → opAt n rd d k ≡ Jump a b → suc k < rd (field Count d) → heldAt n rd d k ≡ 0 → ⊥
-      by zero o i z =
-          let (c, first) = sec .valid .first in
-          let e : _≡_ {A = ℕ} 0 1 = cc in
-          omega arith
+      by zero o i z = let e : _≡_ {A = ℕ} 0 1 = cc in omega arith
       by (suc k) o i z = sec .valid .holding (suc k) (omega arith) (omega arith) z
 
-  finish-next : Sectioned n rd d → (s k j : ℕ) → Jumps n rd d (suc s) j k → k < rd (field Count d) → opAt n rd d k ≡ Finish → heldAt n rd d k ≡ heldAt n rd d (suc s) → opAt n rd d (suc s) ≡ Finish
+  finish-next :
+      Sectioned n rd d → (s k j : ℕ) → Jumps n rd d (suc s) j k → k < rd (field Count d) → opAt n rd d k ≡ Finish
+      → heldAt n rd d k ≡ heldAt n rd d (suc s) → opAt n rd d (suc s) ≡ Finish
   finish-next sec s k j stay l o h = o
   finish-next sec s k j (leap jj kk a b js m p) l o h =
       let free = finish-free n (rd (field Count d)) (codeIn n rd d) (sec .valid) k l o in
@@ -156,15 +155,16 @@ module _ (n : ℕ) (rd : Memory) (d : ℕ) (g : Given) where
       by k j stay q =
           let z : Finish ≡ x = sym f ∙ q in
           let y : true ≡ false = ap ends z ∙ e in
-          absurd (mathlib.Core.Bool.true≢false y)
+          absurd (true≢false y)
       by k j (leap jj kk a b js m p) q = let z = first (suc s) (suc jj) _ (leap jj kk a b js m p) f in omega arith
 
   -- ---- the phases
 
-  fresh-says : (t locks : ℕ) → Sectioned n rd d → Entered n rd d g → rd (field Pc d) ≡ 0 → Nearing n rd d 0 t 0 locks (opAt n rd d 0) → Says (turnAt n rd d (on 0 t))
+  fresh-says :
+      (t locks : ℕ) → Sectioned n rd d → Entered n rd d g → rd (field Pc d) ≡ 0 → Nearing n rd d 0 t 0 locks (opAt n rd d 0)
+      → Says (turnAt n rd d (on 0 t))
   fresh-says t locks sec entered p near =
       let (a, x) = sec .valid .first in
-      let least = sec .valid .least in
       let K : Nearing n rd d 0 t 0 locks (Acquire a) = subst (Nearing n rd d 0 t 0 locks) x near in
       let early : t ≤ 4 = K .0 in
       rw (turn-op n rd d 0 t (Acquire a) (sec .valid) (omega arith) x (omega arith))
@@ -179,8 +179,8 @@ module _ (n : ℕ) (rd : Memory) (d : ℕ) (g : Given) where
   )
 
   finish-says :
-      (s k t j : ℕ) → Sectioned n rd d → Named n rd d s → Jumps n rd d (suc s) j k → k < rd (field Count d) → heldAt n rd d k ≡ heldAt n rd d (suc s) → opAt n rd d k ≡ Finish
-      → t ≤ 1 → (1 ≤ t → rd (field Finished d) ≡ rd (field Number d)) → Says (opTurn n rd d k t Finish)
+      (s k t j : ℕ) → Sectioned n rd d → Named n rd d s → Jumps n rd d (suc s) j k → k < rd (field Count d) → heldAt n rd d k ≡ heldAt n rd d (suc s)
+      → opAt n rd d k ≡ Finish → t ≤ 1 → (1 ≤ t → rd (field Finished d) ≡ rd (field Number d)) → Says (opTurn n rd d k t Finish)
   finish-says s k zero j sec named js l h o r e =
       (refl, (refl, named-pc n rd d s (named .pc), rw (named-step n rd d s (named .pc)) (finish-next sec s k j js l o h)))
   finish-says s k (suc zero) j sec named js l h o r e =
@@ -197,7 +197,9 @@ module _ (n : ℕ) (rd : Memory) (d : ℕ) (g : Given) where
   between-says s k t locks j sec named js l h Finish o r = finish-says s k t j sec named js l h o (r .0) (r .3)
   between-says s k t locks j sec named js l h Unknown o r = absurd r
 
-  due-says : (s locks : ℕ) → Sectioned n rd d → Named n rd d s → (x : Op) → opAt n rd d s ≡ x → Due n rd d s locks x → Says (turnAt n rd d (on s (targetTurn n rd d x)))
+  due-says :
+      (s locks : ℕ) → Sectioned n rd d → Named n rd d s → (x : Op) → opAt n rd d s ≡ x → Due n rd d s locks x
+      → Says (turnAt n rd d (on s (targetTurn n rd d x)))
   due-says s locks sec m (Acquire a) o u = rw (turn-op n rd d s 5 (Acquire a) (sec .valid) (m .below) o (omega arith)) (refl, tt)
   due-says s locks sec m (Release a) o u = rw (turn-op n rd d s 3 (Release a) (sec .valid) (m .below) o (omega arith)) (refl, tt)
   due-says s locks sec m (Assign a e) o u =
