@@ -22,7 +22,7 @@ use Rattle.engine.proofs.Planned.{idle-is}
 use Rattle.claims.specs.Calls.{Traced, turnedAt, refuses, round, rounds, runs, whole, call, lent, move}
 use Rattle.claims.specs.Claims.{isHalted, runEnd}
 use Rattle.claims.proofs.Progress.{isResting, open-acts}
-use Rattle.claims.proofs.Held.{Running}
+use Rattle.claims.proofs.Worlds.{Running}
 use Rattle.claims.proofs.Settling.{Spare, spare-turn, never-refused}
 use Rattle.claims.proofs.Played.{plenty, spare-lent, ran-is}
 

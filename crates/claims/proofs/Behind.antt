@@ -31,7 +31,7 @@ use Rattle.claims.proofs.Stages.{stays, plan-kept}
 use Rattle.claims.proofs.Submission.{Aside, submission-aside}
 use Rattle.claims.proofs.Laid.{submission-laid}
 use Rattle.claims.proofs.RecoveryImage.{resumed-cursor, recovery-at}
-use Rattle.claims.proofs.Held.{Running, running-sized, few, touches-valid, phase-sayable}
+use Rattle.claims.proofs.Worlds.{Running, running-sized, few, touches-valid, phase-sayable}
 use Rattle.claims.proofs.Settling.{steps}
 use Rattle.claims.proofs.Called.{TakenAs, accepts, crash, submitted-at, dl}
 use Rattle.claims.proofs.Cursors.{cursors-placed}

@@ -34,7 +34,7 @@ use Rattle.claims.proofs.LiveCrashed.{live-crashed}
 use Rattle.claims.proofs.RecoveryImage.{resumed-full, recovery-at, recovery-cut, recovery-whole}
 use Rattle.claims.proofs.SubmissionImage.{submission-at, submission-cut}
 use Rattle.claims.proofs.Unseen.{unseen-mirrors, plan-unseen, submission-unseen}
-use Rattle.claims.proofs.Held.{Reached, Running, few}
+use Rattle.claims.proofs.Worlds.{Reached, Running, few}
 use Rattle.claims.proofs.LiveTurn.{live-cursors}
 use Rattle.claims.proofs.Cursors.{full-set, cursors-placed}
 use Rattle.claims.proofs.Laid.{submittedTo}

@@ -17,7 +17,7 @@ use Rattle.engine.specs.Run.{anyOpen}
 use Rattle.engine.proofs.Formats.{formatted-header, formatted-at}
 use Rattle.claims.specs.Calls.{Traced, refuses, runs, recovers, Move, whole, move, play, from, legal, endsCut, machine}
 use Rattle.claims.specs.Claims.{working, isHalted, roundsIn, Rested, FormattedRests, Idle, admissible, Settled, DurableAlways, after, mended, runEnd}
-use Rattle.claims.proofs.Held.{Running}
+use Rattle.claims.proofs.Worlds.{Running}
 use Rattle.claims.proofs.Settling.{never-refused}
 use Rattle.claims.proofs.Called.{accepts}
 use Rattle.claims.proofs.Played.{Worth, running-worth, outcome-below, Good, play-good}

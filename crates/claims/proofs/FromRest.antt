@@ -11,7 +11,7 @@ use Rattle.image.specs.Image.{Image, at, workers, cellsOf}
 use Rattle.engine.specs.Cursor.{idle, cursorAt}
 use Rattle.claims.specs.Calls.{Traced, recovers, Move, whole, play, from, legal, endsCut, machine}
 use Rattle.claims.specs.Claims.{Rested, Idle, after, mended, working, roundsIn}
-use Rattle.claims.proofs.Held.{Running}
+use Rattle.claims.proofs.Worlds.{Running}
 use Rattle.claims.proofs.Played.{Worth, running-worth, play-good}
 use Rattle.claims.proofs.Resting.{rested-running, idle-rested}
 use Rattle.claims.proofs.Moves.{play-append}

@@ -24,7 +24,7 @@ use Rattle.claims.specs.Calls.{Traced, traced, turnBy, turnedAt, rounds,
 use Rattle.claims.specs.Calls.{Move, whole, cut, call, lent, afterCut, move, play, recovering, legal, endsCut, callable, machine}
 use Rattle.claims.specs.Claims.{working}
 use Rattle.claims.proofs.Progress.{isMoving}
-use Rattle.claims.proofs.Held.{Running, running-turn}
+use Rattle.claims.proofs.Worlds.{Running, running-turn}
 use Rattle.claims.proofs.Turning.{rounds-keep}
 use Rattle.claims.proofs.Settling.{Spare, spare-turn}
 use Rattle.claims.proofs.Working.{working-running}

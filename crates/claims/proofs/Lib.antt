@@ -23,7 +23,7 @@ pub mod Entries
 pub mod Stutter
 pub mod Apart
 pub mod Switching
-pub mod Counting
+pub mod Counts
 pub mod Jumping
 pub mod PcTurn
 pub mod MirrorTurn
@@ -34,7 +34,7 @@ pub mod LiveCrashed
 pub mod StoreRows
 pub mod RecoveryFrame
 pub mod Stages
-pub mod Settled
+pub mod Accepted
 pub mod Recovered
 pub mod RecoveryImage
 -- Handing in: what the stores of a submission leave, that the invariant holds after all of them, that a recovery accepts any
@@ -48,7 +48,7 @@ pub mod Unseen
 -- be lent any number of stores that suffices.
 pub mod AtStore
 pub mod Cursors
-pub mod Held
+pub mod Worlds
 pub mod Turning
 pub mod Called
 pub mod Moves

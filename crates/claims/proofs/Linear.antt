@@ -29,7 +29,7 @@ use Rattle.claims.specs.Calls.{Traced, traced, turnBy, turnedAt, ranBy, 
 use Rattle.claims.specs.Claims.{Idle, Linearizable, after}
 use Rattle.claims.proofs.LiveTurn.{but-same, but-other}
 use Rattle.claims.proofs.Progress.{isMoving}
-use Rattle.claims.proofs.Held.{Running, few}
+use Rattle.claims.proofs.Worlds.{Running, few}
 use Rattle.claims.proofs.Turning.{rounds-keep}
 use Rattle.claims.proofs.Settling.{Spare, Turn, spare-turn}
 use Rattle.claims.proofs.SubmissionImage.{submission-at}

@@ -31,7 +31,7 @@ use Rattle.claims.specs.Once.{rising, lastOr, among, OnceAlways, ToldAlw
 use Rattle.claims.proofs.Invariant.{opAt}
 use Rattle.claims.proofs.Ready.{step-behind}
 use Rattle.claims.proofs.Covers.{crashed-parts}
-use Rattle.claims.proofs.Settled.{ok-sectioned, ok-named}
+use Rattle.claims.proofs.Accepted.{ok-sectioned, ok-named}
 use Rattle.claims.proofs.Writes.{FinishNext}
 use Rattle.claims.proofs.Pending.{pend-idle}
 use Rattle.claims.proofs.Cursors.{idle-at}

@@ -24,7 +24,7 @@ use Rattle.claims.proofs.AtStore.{memory-store}
 use Rattle.claims.proofs.OwnTurn.{own-turn}
 use Rattle.claims.proofs.Entries.{apart-of}
 use Rattle.claims.proofs.MirrorTurn.{Mirrored, mirror-turn, mirror-counts}
-use Rattle.claims.proofs.Held.{Running, running-sized, few, touches-valid, phase-sayable}
+use Rattle.claims.proofs.Worlds.{Running, running-sized, few, touches-valid, phase-sayable}
 use Rattle.claims.proofs.Feeding.{of-snoc-same, of-snoc-other}
 use Rattle.claims.proofs.Pending.{pend, Passes, Pends, pends-turn}
 

@@ -29,7 +29,7 @@ use Rattle.claims.proofs.Machine.{follow-one, follow-last}
 use Rattle.claims.proofs.Entries.{named-pc, named-step}
 use Rattle.claims.proofs.Apart.{Busy, covered-guarded, virtual-resting, virtual-owned, reads-same}
 use Rattle.claims.proofs.Switching.{Freed, freed-resting, freed-settled}
-use Rattle.claims.proofs.Counting.{Poised, Counts, counts-acquire, counts-release, counts-assign, counts-finish}
+use Rattle.claims.proofs.Counts.{Poised, Counts, counts-acquire, counts-release, counts-assign, counts-finish}
 use Rattle.claims.proofs.Jumping.{jumps-follow}
 use Rattle.claims.proofs.Frame.{eval-same}
 

@@ -23,7 +23,7 @@ use Rattle.claims.specs.Reference.{given}
 use Rattle.claims.specs.Calls.{Traced, traced, turnBy, ranBy, rounds, submitTrace, recoveredBy, Call, submits, turns, runs, recovers, Move, whole, cut, call, lent, move, play, recovering, legal, endsCut, callable, machine}
 use Rattle.claims.proofs.LiveCrashed.{live-crashed}
 use Rattle.claims.proofs.Progress.{rankSum-most}
-use Rattle.claims.proofs.Held.{Reached, Running, Frozen, few, running-turn}
+use Rattle.claims.proofs.Worlds.{Reached, Running, Frozen, few, running-turn}
 use Rattle.claims.proofs.Turning.{Cutting, cutting-turn, cutting-turned, rounds-keep}
 use Rattle.claims.proofs.Settling.{sum, Spare, settles}
 use Rattle.claims.proofs.Called.{Recoverable, recover-cut, recover-whole, accepts, taken-as, submit-cut, submit-whole}

@@ -25,7 +25,7 @@ use Rattle.claims.proofs.LiveTurn.{but-same, but-other}
 use Rattle.claims.proofs.Entries.{apart-of}
 use Rattle.claims.proofs.Writes.{Writes, Says, turn-writes}
 use Rattle.claims.proofs.Pending.{pend, pend-start, Passes, Pends, pends-turn}
-use Rattle.claims.proofs.Held.{Running}
+use Rattle.claims.proofs.Worlds.{Running}
 use Rattle.claims.proofs.Turning.{still}
 use Rattle.claims.proofs.Called.{TakenAs, accepts, dl}
 use Rattle.claims.proofs.Played.{Worth}

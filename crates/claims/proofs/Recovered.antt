@@ -25,7 +25,7 @@ use Rattle.claims.proofs.Covers.{Parts, crashed-parts}
 use Rattle.claims.proofs.StoreRows.{rows, updAll-append, Leaves, Sets, Writes, leaves-one, leaves-cond, leaves-rows, sets-rows, sets-one, sets-cond, writes-rows, writes-cond, valid-append, valid-cond, valid-rows}
 use Rattle.claims.proofs.RecoveryFrame.{owed-frame, resumed-frame}
 use Rattle.claims.proofs.Stages.{unlockRow, intentRow, withdrawRow, relockRow, unlocks-rows, intents-rows, withdraws-rows, all-relocks-rows, Kept, kept-framed, kept-parts, unlocked-free, plan-kept}
-use Rattle.claims.proofs.Settled.{settled-phase}
+use Rattle.claims.proofs.Accepted.{settled-phase}
 
 module _ (n : ℕ) (rd : Memory) (D : ℕ) where
   -- ---- what the stages leave

@@ -24,7 +24,7 @@ use Rattle.claims.proofs.Entries.{entry-none}
 use Rattle.claims.proofs.Machine.{follow-none, noneLeft-all}
 use Rattle.claims.proofs.Invariant.{Phase, resting, Live, Mirrors}
 use Rattle.claims.proofs.Submitting.{Resting, idle-rests}
-use Rattle.claims.proofs.Held.{Running, running-sized}
+use Rattle.claims.proofs.Worlds.{Running, running-sized}
 use Rattle.claims.proofs.Cursors.{idle-at, full-idle}
 
 -- where nothing is under way, what stands is what will

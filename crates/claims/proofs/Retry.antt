@@ -33,7 +33,7 @@ use Rattle.claims.specs.Once.{numbersOf, rising, lastOr, upFrom, among, 
 use Rattle.claims.specs.Once.{Told as ToldAt, OnceAlways, ToldAlways, RetriedAlways, ExactlyOnce}
 use Rattle.claims.proofs.Pending.{Passes, Pends, pends-turn}
 use Rattle.claims.proofs.Writes.{Writes, Says, turn-writes}
-use Rattle.claims.proofs.Held.{Running}
+use Rattle.claims.proofs.Worlds.{Running}
 use Rattle.claims.proofs.Turning.{still}
 use Rattle.claims.proofs.Called.{accepts}
 use Rattle.claims.proofs.Played.{Worth}

@@ -24,7 +24,7 @@ use Rattle.claims.proofs.OwnTurn.{own-turn}
 use Rattle.claims.proofs.AtStore.{memory-store}
 use Rattle.claims.proofs.Rank.{rank}
 use Rattle.claims.proofs.Progress.{total-same, rankSum, SumFalls, sum-falls, isMoving, progress, open-moves}
-use Rattle.claims.proofs.Held.{Running, running-sized, few, touches-valid, phase-sayable}
+use Rattle.claims.proofs.Worlds.{Running, running-sized, few, touches-valid, phase-sayable}
 use Rattle.claims.proofs.Turning.{running-turned, turned-left}
 use Rattle.claims.proofs.Cursors.{cursors-placed}
 use Rattle.claims.proofs.Moves.{Noted, noted-none}

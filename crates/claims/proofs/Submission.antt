@@ -22,7 +22,7 @@ use Rattle.recovery.specs.Recovery.{_≔_, owed, sectionOk, pcOk}
 use Rattle.claims.proofs.Invariant.{Crashed}
 use Rattle.claims.proofs.Covers.{Parts, crashed-parts, parts-crashed}
 use Rattle.claims.proofs.LiveCrashed.{section-none, pc-none, owed-none}
-use Rattle.claims.proofs.Settled.{ok-owned}
+use Rattle.claims.proofs.Accepted.{ok-owned}
 use Rattle.claims.proofs.StoreRows.{updAll-append, updAll-one, Keeps, keeps-nil, keeps-one, keeps-append, keeps-whole, prefix-append, prefix-one}
 use Rattle.claims.proofs.RecoveryFrame.{Framed, owed-frame, pc-frame, section-frame}
 use Rattle.claims.proofs.Laid.{filled, submittedTo, Laid, submission-laid}

@@ -28,7 +28,7 @@ use Rattle.claims.proofs.Writes.{WritesPc, Writes, Says, turn-writes}
 use Rattle.claims.proofs.Pending.{pend, pend-begun, pend-idle, Passes, Pends, pends-turn}
 use Rattle.claims.proofs.Stages.{stays}
 use Rattle.claims.proofs.Submission.{aside}
-use Rattle.claims.proofs.Held.{Running}
+use Rattle.claims.proofs.Worlds.{Running}
 use Rattle.claims.proofs.Turning.{still}
 use Rattle.claims.proofs.Called.{TakenAs, accepts}
 use Rattle.claims.proofs.Played.{plenty, Worth}

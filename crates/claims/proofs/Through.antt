@@ -28,7 +28,7 @@ use Rattle.claims.specs.Once.{Among, standing, ThroughAlways}
 use Rattle.claims.proofs.LiveTurn.{but-same, but-other}
 use Rattle.claims.proofs.Pending.{pend, pend-idle, pend-start, Passes, Pends, pends-turn}
 use Rattle.claims.proofs.Writes.{Says, turn-writes}
-use Rattle.claims.proofs.Held.{Running}
+use Rattle.claims.proofs.Worlds.{Running}
 use Rattle.claims.proofs.Turning.{still}
 use Rattle.claims.proofs.Called.{TakenAs, taken-as}
 use Rattle.claims.proofs.Played.{plenty, running-lent, Good, play-good, whole-good}

@@ -17,7 +17,7 @@ use Rattle.engine.specs.World.{leaves, outcomeAt}
 use Rattle.engine.specs.Run.{anyOpen}
 use Rattle.claims.specs.Calls.{Traced, isPc, turnTrace, turnBy, turnedAt, refuses, round, rounds}
 use Rattle.claims.proofs.LiveCrashed.{live-crashed}
-use Rattle.claims.proofs.Held.{Running, Frozen, running-turn}
+use Rattle.claims.proofs.Worlds.{Running, Frozen, running-turn}
 
 module _ (mark n D : ℕ) (cells : List ℕ) where
   -- ---- with no store left

@@ -34,7 +34,7 @@ use Rattle.claims.specs.Moments.{Moment, moment, Each, turnless, inRound
 use Rattle.claims.proofs.Turns.{Touches, ownCell, Stepped}
 use Rattle.claims.proofs.OwnTurn.{own-turn}
 use Rattle.claims.proofs.Writes.{Says, turn-writes}
-use Rattle.claims.proofs.Held.{Running}
+use Rattle.claims.proofs.Worlds.{Running}
 use Rattle.claims.proofs.Turning.{Cutting, cutting-turned}
 use Rattle.claims.proofs.Played.{plenty, running-lent, outcome-below, outcome-above, recovers-only, whole-good, cut-good, Good}
 use Rattle.claims.proofs.Resting.{rested-running}

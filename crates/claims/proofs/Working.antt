@@ -17,7 +17,7 @@ use Rattle.engine.specs.Run.{anyOpen}
 use Rattle.claims.specs.Calls.{Traced, turnBy, turnedAt, rounds, submits, turns, runs, recovers, Move, whole, cut, call, lent, move, play}
 use Rattle.claims.specs.Claims.{working, roundsIn}
 use Rattle.claims.proofs.Progress.{rankSum-most}
-use Rattle.claims.proofs.Held.{Running}
+use Rattle.claims.proofs.Worlds.{Running}
 use Rattle.claims.proofs.Settling.{sum, Spare, spare-turn, sum-turn, settles, no-rank-idle}
 use Rattle.claims.proofs.Played.{plenty, spare-lent, ran-is, outcome-below, outcome-above}
 use Rattle.claims.proofs.Cursors.{idle-all}
