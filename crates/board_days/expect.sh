@@ -1,5 +1,5 @@
 #!/bin/sh
-# Writes what the days of data/ must print. The given vectors brought their outputs (data/README.md); those of our own days
+# Writes what the days of data/ must print. The given vectors brought their outputs; those of our own days (data/OUR-DAYS.md)
 # come from the program `board` of rust/twin, which was written from document 01 alone and shares no code with ours. Then it
 # writes the list of all days and the program's expected output.
 set -e
