@@ -3,7 +3,7 @@
 -- recovery (`stores-whole`, `recovery-whole`): slot by slot, and the slots are the stores of the definition.
 use Prim.Native.Nat.{ℕ, zero, suc, _+_, _-_, _<_, _≤_}
 use mathlib.Core.Path.{_≡_, refl, sym, ap, _∙_}
-use mathlib.Core.Bool.{Bool, true, false, cond}
+use mathlib.Core.Bool.{Bool, true, false}
 use mathlib.Core.List.{List, [], _∷_, _++_}
 use native.Mathlib.Omega.{arith}
 use borrow.Author.Tests.{ltb-true, ltb-false}
@@ -26,7 +26,7 @@ use Rattle.frames.specs.declared.Printed.the-variants.{Nothing, Line}
 use Rattle.frames.specs.declared.Job.the-variants.{Turns as TurnsLeft, Stores, Next}
 use Rattle.frames.specs.Print.{slotPrints}
 use Rattle.frames.specs.Play.{day, played, uncut, turnedBy, turnDay, slotDay}
-use Rattle.frames.specs.Whole.{Told, told, shown, onto, turnThen, turnsLine, storesLine, pieces}
+use Rattle.frames.specs.Whole.{Told, told, onto, turnThen, turnsLine, storesLine, pieces}
 
 -- with nothing left to do, nothing more is printed
 pub next-rests : (f : ℕ) (m : Image) (c : Cursors) (x : Printed) (r : Repair) → pieces f (day m (played c x Next r)) ≡ told [] m c

@@ -1,9 +1,9 @@
 -- One line played on an image and cursors: what is printed, what is left to do, and what the image then is. A line is begun
 -- (`begin`), and gone on with (`goOn`) while turns are to be made or stores to be printed.
-use Prim.Native.Nat.{ℕ, zero, suc, _+_, _-_}
+use Prim.Native.Nat.{ℕ, zero, suc, _+_}
 use mathlib.Core.List.{List}
 use mathlib.Core.Bool.{Bool, true, false, cond}
-use lib.Dec.{ltb, eqb}
+use lib.Dec.{ltb}
 use Rattle.image.specs.Image.{Image}
 use Rattle.engine.specs.declared.Cursors.{Cursors}
 use Rattle.engine.specs.declared.Submitted.{Submitted}

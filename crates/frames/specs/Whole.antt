@@ -9,7 +9,7 @@ use Rattle.engine.specs.declared.Cursors.{Cursors}
 use Rattle.engine.specs.Edition.{mark, ownWords}
 use Rattle.engine.specs.Refusal.{isRefused}
 use Rattle.engine.specs.Turn.{Outcome}
-use Rattle.engine.specs.World.{World, outcome, answerOf, leaves}
+use Rattle.engine.specs.World.{outcome, answerOf, leaves}
 use Rattle.frames.specs.declared.Printed.{Printed}
 use Rattle.frames.specs.declared.Printed.the-variants.{Nothing, Line}
 use Rattle.frames.specs.Print.{turnPrints}

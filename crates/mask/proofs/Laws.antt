@@ -4,9 +4,9 @@ use Prim.Native.Nat.{ℕ, zero, suc, _+_, _-_, _*_, _/_, _%_, _^_, _<_, _≤_, m
 use mathlib.Core.Path.{_≡_, refl, sym, ap, _∙_}
 use mathlib.Core.Bool.{Bool, true, false, cond}
 use native.Mathlib.Omega.{arith}
-use native.Mathlib.Nat.{mul-le-mul-right, add-mul, mod-lt, pow-suc, pow-succ', div-div-eq-div-mul, div-eq-of-lt, zero-div}
+use native.Mathlib.Nat.{mul-le-mul-right, pow-succ', div-div-eq-div-mul, div-eq-of-lt}
 use lib.Dec.{eqb}
-use lib.Pow.{pow-pos, shl-exact, shr-lt, split, pow-add}
+use lib.Pow.{pow-pos, shl-exact, split}
 use lib.Bits.{bitAnd, bitOr, and-step, and-zero-r, or-add-and}
 use borrow.Author.Tests.{eqb-true, eqb-false}
 use Rattle.mask.specs.Mask.{has, with, without}
@@ -20,13 +20,6 @@ one-shl b h = let e : 1 * 2 ^ b % 2 ^ 64 ≡ 1 * 2 ^ b = shl-exact {a = 1} 1 b 6
 has-true : (m b : ℕ) → has m b ≡ true → m / 2 ^ b % 2 ≡ 1
 unfolding has
 has-true m b e = eqb-true _ _ e
-
-has-false : (m b : ℕ) → has m b ≡ false → m / 2 ^ b % 2 ≡ 0
-unfolding has
-has-false m b e =
-    let n : (m / 2 ^ b % 2 ≡ 1) → ⊥ = eqb-false _ _ e in
-    let l : m / 2 ^ b % 2 < 2 = mod-lt (m / 2 ^ b) (omega arith) in
-    omega arith
 
 -- a lock that is in can be taken off
 has-le : (m b : ℕ) → has m b ≡ true → 2 ^ b ≤ m
@@ -107,37 +100,6 @@ has-without-other m zero (suc c) n = has-suc _ c ∙ ap (λ (x : ℕ). has x c) 
 has-without-other m (suc b) zero n = has-zero _ ∙ ap (λ (x : ℕ). eqb x 1) (without-suc m b .1) ∙ sym (has-zero m)
 has-without-other m (suc b) (suc c) n =
     has-suc _ c ∙ ap (λ (x : ℕ). has x c) (without-suc m b .0) ∙ has-without-other (m / 2) b c (λ e. n (ap suc e)) ∙ sym (has-suc m c)
-
--- ---- a word stays a word
-
-with-fits : (m b : ℕ) → b < 64 → m < 2 ^ 64 → has m b ≡ false → m + 2 ^ b < 2 ^ 64
-with-fits m b hb hm e =
-    let d : m / 2 ^ b % 2 ≡ 0 = has-false m b e in
-    let k = 63 - b in
-    let s : suc k + b ≡ 64 = omega arith in
-    let q : m / 2 ^ b < 2 ^ suc k = shr-lt (suc k) b (rw s hm) in
-    let even : 2 ^ suc k ≡ 2 ^ k * 2 = pow-suc 2 k in
-    let room : m / 2 ^ b + 2 ≤ 2 ^ suc k = omega arith in
-    let wide : (m / 2 ^ b + 2) * 2 ^ b ≤ 2 ^ suc k * 2 ^ b = mul-le-mul-right (2 ^ b) room in
-    let whole : 2 ^ 64 ≡ 2 ^ suc k * 2 ^ b = ap (λ (n : ℕ). 2 ^ n) (sym s) ∙ pow-add 2 (suc k) b in
-    let low : m % 2 ^ b < 2 ^ b = mod-lt m (pow-pos b) in
-    omega (arith, split m b, add-mul (m / 2 ^ b) 2 (2 ^ b))
-
-pub with-word : (m b : ℕ) → b < 64 → m < 2 ^ 64 → with m b < 2 ^ 64
-unfolding with
-with-word m b hb hm = by (has m b) refl
-  where
-    by : (t : Bool) → has m b ≡ t → cond t m (m + 2 ^ b) < 2 ^ 64
-    by true e = hm
-    by false e = with-fits m b hb hm e
-
-private-less : (t : Bool) (m x : ℕ) → cond t (m - x) m ≤ m
-private-less true m x = omega arith
-private-less false m x = omega arith
-
-pub without-word : (m b : ℕ) → m < 2 ^ 64 → without m b < 2 ^ 64
-unfolding without
-without-word m b h = let l = private-less (has m b) m (2 ^ b) in omega arith
 
 -- ---- what the machine computes, m | (1 << b) and m - (m & (1 << b))
 

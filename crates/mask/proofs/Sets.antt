@@ -1,16 +1,15 @@
--- Sets as a whole: two words with the same members are equal; what a set is with and without a member that it has or
--- lacks; a set with no member is 0; a lock above all of a set's members.
-use Prim.Native.Nat.{ℕ, zero, suc, _+_, _-_, _*_, _/_, _%_, _^_, _<_, _≤_}
-use mathlib.Core.Path.{_≡_, refl, sym, ap, _∙_}
-use mathlib.Core.Bool.{Bool, true, false, cond, true≢false}
+-- Sets as a whole: two words with the same members are equal; a set with no member is 0; a set without a lock that it lacks; a
+-- lock above all of a set's members.
+use Prim.Native.Nat.{ℕ, zero, suc, _*_, _/_, _%_, _^_, _<_, _≤_}
+use mathlib.Core.Path.{_≡_, refl, sym, _∙_}
+use mathlib.Core.Bool.{Bool, true, false}
 use native.Mathlib.Omega.{arith}
 use native.Mathlib.Nat.{pow-succ', div-lt-iff-lt-mul, div-eq-of-lt, lt-of-lt-of-le, mod-lt}
-use native.Mathlib.Decide.{decLt, ℕ-discrete}
 use lib.Pow.{pow-mono, pow-pos}
 use lib.Dec.{eqb}
-use borrow.Author.Tests.{eqb-true, eqb-false, eq-eqb}
-use Rattle.mask.specs.Mask.{has, with, without}
-use Rattle.mask.proofs.Laws.{has-none, has-suc, has-zero, has-with, has-with-other, has-without, has-without-other, with-word, without-word}
+use borrow.Author.Tests.{eqb-true, eqb-false}
+use Rattle.mask.specs.Mask.{has, without}
+use Rattle.mask.proofs.Laws.{has-none, has-suc, has-zero}
 
 private-digit : (m n : ℕ) → eqb (m % 2) 1 ≡ eqb (n % 2) 1 → m % 2 ≡ n % 2
 private-digit m n e = by (eqb (n % 2) 1) refl
@@ -42,24 +41,9 @@ ext m n hm hn same = same-members 64 m n hm hn same
 pub no-members : (m : ℕ) → m < 2 ^ 64 → ((b : ℕ) → b < 64 → has m b ≡ false) → m ≡ 0
 no-members m h none = ext m 0 h (omega arith) (λ b l. none b l ∙ sym (has-none b))
 
-pub with-member : (m b : ℕ) → has m b ≡ true → with m b ≡ m
-unfolding with
-with-member m b e = rw e
-
 pub without-stranger : (m b : ℕ) → has m b ≡ false → without m b ≡ m
 unfolding without
 without-stranger m b e = rw e
-
-private-back : (m b c : ℕ) → has m b ≡ false → has (without (with m b) b) c ≡ has m c
-private-back m b c e = by (ℕ-discrete b c)
-  where
-    by : Dec (b ≡ c) → has (without (with m b) b) c ≡ has m c
-    by (yes p) = rw (← p) (has-without (with m b) b ∙ sym e)
-    by (no p) = has-without-other (with m b) b c p ∙ has-with-other m b c p
-
--- put in and taken out again
-pub without-with : (m b : ℕ) → b < 64 → m < 2 ^ 64 → has m b ≡ false → without (with m b) b ≡ m
-without-with m b hb hm e = ext (without (with m b) b) m (without-word (with m b) b (with-word m b hb hm)) hm (λ c l. private-back m b c e)
 
 -- ---- a lock above all members
 

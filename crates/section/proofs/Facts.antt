@@ -18,7 +18,6 @@ use Rattle.section.specs.Op.{opOf}
 use Rattle.section.specs.Check.{Code, inRange, inPlace, wellFormed, heldBefore, covered, coveredIn, begins, goesOn, bracketed, ordered, guarded, level, orElse, firstOf, formOf, useOf, check}
 use Rattle.section.specs.Valid.{Valid}
 use Rattle.section.proofs.Ranges.{known}
-use Rattle.section.proofs.Held.{held-word}
 use Rattle.section.proofs.Steps.{ends, place-jump, place-last, begins-acquire, holds-nothing, bracketed-later, form-cong, use-cong}
 use Rattle.section.proofs.First.{or-pass, or-cong, first-all, all-first, first-cong}
 
@@ -271,6 +270,3 @@ acquire-above own n code i a v l o c h = above-none (heldBefore code i) a (v .ac
 
 pub acquire-free : (own n : ℕ) (code : Code) (i a : ℕ) → Valid own n code → i < n → opOf (code i) ≡ Acquire a → has (heldBefore code i) a ≡ false
 acquire-free own n code i a v l o = acquire-above own n code i a v l o a (omega arith)
-
-pub valid-held-word : (own n : ℕ) (code : Code) (i : ℕ) → Valid own n code → i ≤ n → heldBefore code i < 2 ^ 64
-valid-held-word own n code i v l = held-word own code i (λ j h. v .ranges j (omega arith))

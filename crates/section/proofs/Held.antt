@@ -1,19 +1,15 @@
 -- Held sets: the set before a step from the set before the last one, by the instruction between them; that it depends only
--- on the words before the step; that it is a word where these are in their ranges; and that kinds above 2 leave it.
-use Prim.Native.Nat.{ℕ, zero, suc, _^_, _<_}
+-- on the words before the step; and that kinds above 2 leave it.
+use Prim.Native.Nat.{ℕ, zero, suc, _<_}
 use mathlib.Core.Path.{_≡_, refl, ap, _∙_}
-use mathlib.Core.Bool.{true}
 use native.Mathlib.Omega.{arith}
 use Rattle.mask.specs.Mask.{with, without}
-use Rattle.mask.proofs.Laws.{with-word, without-word}
 use Rattle.section.specs.declared.Expr.{Expr}
 use Rattle.section.specs.declared.Op.{Op}
-use Rattle.section.specs.declared.Op.the-variants.{Acquire, Release, Assign, Jump, Finish, Unknown}
+use Rattle.section.specs.declared.Op.the-variants.{Acquire, Release, Assign, Jump}
 use Rattle.section.specs.Table.{kindOf, fieldA, fieldB, fieldC}
 use Rattle.section.specs.Op.{byKind, opOf}
-use Rattle.section.specs.Check.{Code, inRange, heldAfter, heldBefore}
-use Rattle.section.specs.Fits.{fits}
-use Rattle.section.proofs.Ranges.{in-range}
+use Rattle.section.specs.Check.{Code, heldAfter, heldBefore}
 
 -- ---- step by step
 
@@ -44,31 +40,12 @@ pub after-jump : (code : Code) (i a b : ℕ) → opOf (code i) ≡ Jump a b → 
 unfolding heldAfter
 after-jump code i a b o = private-after code i (Jump a b) o
 
-pub after-finish : (code : Code) (i : ℕ) → opOf (code i) ≡ Finish → heldBefore code (suc i) ≡ heldBefore code i
-unfolding heldAfter
-after-finish code i o = private-after code i Finish o
-
 -- ---- the words before the step
 
 pub held-cong : (code code′ : Code) (i : ℕ) → ((j : ℕ) → j < i → code j ≡ code′ j) → heldBefore code i ≡ heldBefore code′ i
 unfolding heldBefore
 held-cong code code′ zero h = refl
 held-cong code code′ (suc i) h = rw (held-cong code code′ i (λ j l. h j (omega arith)), h i (omega arith))
-
-private-word : (own h : ℕ) (x : Op) → fits own x → h < 2 ^ 64 → heldAfter h x < 2 ^ 64
-unfolding heldAfter
-private-word own h (Acquire a) f l = with-word h a f l
-private-word own h (Release a) f l = without-word h a l
-private-word own h (Assign a e) f l = l
-private-word own h (Jump a b) f l = l
-private-word own h Finish f l = l
-private-word own h Unknown f l = l
-
-pub held-word : (own : ℕ) (code : Code) (i : ℕ) → ((j : ℕ) → j < i → inRange own (code j) ≡ true) → heldBefore code i < 2 ^ 64
-unfolding heldBefore
-held-word own code zero h = omega arith
-held-word own code (suc i) h =
-    private-word own (heldBefore code i) (opOf (code i)) (in-range own (code i) (h i (omega arith))) (held-word own code i (λ j l. h j (omega arith)))
 
 -- ---- by the kind
 

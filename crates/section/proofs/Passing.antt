@@ -1,12 +1,12 @@
 -- What the loops of the check stand on: what cause 5 leaves of an instruction, the cause that a step fails by its tests,
 -- and the held set looked up in place of worked out.
-use Prim.Native.Nat.{ℕ, zero, suc, _+_, _-_, _^_, _<_, _≤_}
+use Prim.Native.Nat.{ℕ, _+_, _-_, _<_, _≤_}
 use mathlib.Core.Path.{_≡_, refl, sym, ap, _∙_}
-use mathlib.Core.Bool.{Bool, true, false, cond, _&&_, false≢true}
+use mathlib.Core.Bool.{true, false, false≢true}
 use mathlib.Core.List.{List}
-use lib.ListN.{length, getD}
-use lib.Dec.{leb, ltb, eqb}
-use borrow.Author.Tests.{leb-true, lt-ltb, ltb-true}
+use lib.ListN.{getD}
+use lib.Dec.{ltb}
+use borrow.Author.Tests.{lt-ltb, ltb-true}
 use native.Mathlib.Omega.{arith}
 use native.Mathlib.Numerals.{add-one}
 use Rattle.base.proofs.Bools.{and-left, and-right}
@@ -15,7 +15,7 @@ use Rattle.section.specs.declared.Op.the-variants.{Acquire, Release, Ass
 use Rattle.section.specs.declared.Verdict.{Verdict}
 use Rattle.section.specs.declared.Verdict.the-variants.{Pass, Length, Malformed, Unbracketed, Unordered, Unguarded, Unlevel}
 use Rattle.section.specs.Op.{opOf}
-use Rattle.section.specs.Check.{Code, codeOf, inRange, inPlace, wellFormed, lockOk, heldAfter, heldBefore, level, firstOf, formOf, judged, useOf, passes}
+use Rattle.section.specs.Check.{Code, inRange, inPlace, wellFormed, lockOk, heldAfter, heldBefore, level, firstOf, formOf, judged, useOf, passes}
 use Rattle.section.specs.Pass.{lands, levelIn}
 use Rattle.section.proofs.Ranges.{lock-ok}
 use Rattle.section.proofs.First.{first-step, or-refused}

@@ -6,11 +6,10 @@ use mathlib.Core.Path.{_≡_, refl, ap, subst, _∙_}
 use mathlib.Core.Bool.{Bool, true, _&&_, and-eq-true-iff}
 use mathlib.Core.List.{List, [], _∷_}
 use native.Mathlib.Omega.{arith}
-use lib.ListN.{length, getD}
+use lib.ListN.{getD}
 use lib.Dec.{leb}
 use borrow.Author.Tests.{leb-true, lt-ltb}
 use Rattle.section.specs.declared.Expr.{Expr}
-use Rattle.section.specs.declared.Expr.the-variants.{Literal, Sum, Difference, Less}
 use Rattle.section.specs.declared.Op.{Op}
 use Rattle.section.specs.declared.Op.the-variants.{Acquire, Release, Assign, Jump, Finish, Unknown}
 use Rattle.section.specs.Table.{table, entry, highest, kindOf, fieldA, fieldB, fieldC, turnsOf}
@@ -117,21 +116,6 @@ pub turns-op : (w : ℕ) (x : Op) → opOf w ≡ x → turnsOf w ≡ opTurns x
 unfolding opOf
 turns-op w x o = private-turns (kindOf w) (fieldA w) (fieldB w) (fieldC w) ∙ ap opTurns o
 
-pub turns-acquire : (w a : ℕ) → opOf w ≡ Acquire a → turnsOf w ≡ 6
-turns-acquire w a o = turns-op w (Acquire a) o
-
-pub turns-release : (w a : ℕ) → opOf w ≡ Release a → turnsOf w ≡ 6
-turns-release w a o = turns-op w (Release a) o
-
-pub turns-assign : (w a : ℕ) (x : Expr) → opOf w ≡ Assign a x → turnsOf w ≡ 4
-turns-assign w a x o = turns-op w (Assign a x) o
-
-pub turns-jump : (w a b : ℕ) → opOf w ≡ Jump a b → turnsOf w ≡ 1
-turns-jump w a b o = turns-op w (Jump a b) o
-
-pub turns-finish : (w : ℕ) → opOf w ≡ Finish → turnsOf w ≡ 3
-turns-finish w o = turns-op w Finish o
-
 -- ---- the rules of the table
 
 -- the test passes at every element
@@ -139,30 +123,14 @@ abbrev every : {A : Type 0} → (A → Bool) → List A → Bool
 every P [] = true
 every P (x ∷ l) = P x && every P l
 
-every-in : {A : Type 0} (P : A → Bool) (l : List A) (d : A) → every P l ≡ true → (j : ℕ) → j < length l → P (getD l j d) ≡ true
-every-in P [] d e j h = absurd (omega arith)
-every-in P (x ∷ l) d e zero h = and-eq-true-iff (P x) (every P l) .0 e .0
-every-in P (x ∷ l) d e (suc j) h = every-in P l d (and-eq-true-iff (P x) (every P l) .0 e .1) j (omega arith)
-
--- and past the end, where it passes at what stands there
+-- so it passes at each index, also past the end, where it passes at what stands there
 every-at : {A : Type 0} (P : A → Bool) (l : List A) (d : A) → every P l ≡ true → P d ≡ true → (j : ℕ) → P (getD l j d) ≡ true
 every-at P [] d e p j = p
 every-at P (x ∷ l) d e p zero = and-eq-true-iff (P x) (every P l) .0 e .0
 every-at P (x ∷ l) d e p (suc j) = every-at P l d (and-eq-true-iff (P x) (every P l) .0 e .1) p j
 
-abbrev small : ℕ → Bool
-small n = leb n 65535
-
 abbrev few : List ℕ → Bool
 few l = leb (getD l 3 0) 6
-
-abbrev some : List ℕ → Bool
-some l = leb 1 (getD l 3 0)
-
-pub entry-most : (k j : ℕ) → entry k j ≤ 65535
-unfolding entry
-entry-most zero j = omega arith
-entry-most (suc k) j = leb-true _ _ (every-at small (getD table k []) 0 (every-at (every small) table [] refl refl k) refl j)
 
 private-most : (k : ℕ) → entry k 3 ≤ 6
 unfolding entry
@@ -171,8 +139,3 @@ private-most (suc k) = leb-true _ _ (every-at few table [] refl refl k)
 
 pub turns-most : (w : ℕ) → turnsOf w ≤ 6
 turns-most w = private-most (kindOf w)
-
-pub turns-some : (k : ℕ) → 1 ≤ k → k ≤ 8 → (1 ≤ entry k 3) × (entry k 3 ≤ 6)
-unfolding entry
-turns-some zero l u = absurd (omega arith)
-turns-some (suc k) l u = (leb-true _ _ (every-in some table [] refl k (omega arith)), private-most (suc k))

@@ -1,16 +1,15 @@
 -- The whole check by its stages: the length, the first step that fails cause 5, the first that fails causes 6 to 9.
-use Prim.Native.Nat.{ℕ, zero, _+_, _<_, _≤_}
-use mathlib.Core.Path.{_≡_, refl, sym, _∙_}
-use mathlib.Core.Bool.{Bool, true, false, and-false}
+use Prim.Native.Nat.{ℕ, _<_, _≤_}
+use mathlib.Core.Path.{_≡_, sym}
+use mathlib.Core.Bool.{false, and-false}
 use mathlib.Core.List.{List}
 use lib.ListN.{length, getD}
 use borrow.Author.Tests.{le-leb, lt-leb}
 use native.Mathlib.Omega.{arith}
-use Rattle.section.specs.declared.Verdict.{Verdict}
 use Rattle.section.specs.declared.Verdict.the-variants.{Pass, Length}
 use Rattle.section.specs.Check.{Code, codeOf, heldBefore, firstOf, formOf, useOf, check, passes}
 use Rattle.section.specs.Pass.{Judgeable}
-use Rattle.section.proofs.First.{or-left, or-refused, first-all}
+use Rattle.section.proofs.First.{or-refused, first-all}
 use Rattle.section.proofs.Facts.{form-pass}
 use Rattle.section.proofs.Passing.{refused-not, formed-lock, formed-lands}
 

@@ -1,10 +1,10 @@
 -- What it means for a section to be valid: the facts that a passed check gives, and that give a passed check.
-use Prim.Native.Nat.{ℕ, suc, zero, _+_, _-_, _/_, _^_, _<_, _≤_}
+use Prim.Native.Nat.{ℕ, _+_, _-_, _/_, _^_, _<_, _≤_}
 use mathlib.Core.Path.{_≡_}
 use mathlib.Core.Bool.{true}
 use Rattle.mask.specs.Mask.{has}
 use Rattle.section.specs.declared.Expr.{Expr}
-use Rattle.section.specs.declared.Op.the-variants.{Acquire, Release, Assign, Jump, Finish, Unknown}
+use Rattle.section.specs.declared.Op.the-variants.{Acquire, Release, Assign, Jump, Finish}
 use Rattle.section.specs.Op.{opOf}
 use Rattle.section.specs.Check.{Code, inRange, heldBefore, covered, coveredIn}
 

@@ -40,9 +40,8 @@ fn row(kind: u64) -> [u64; 4]
     }
 }
 
-// The turns of an instruction word of a known kind.
+// The turns of an instruction word; 0 where the kind is unknown.
 pub fn turns(w: u64) -> u64
-    requires { ⌜ (1 ≤ kindOf w) × (kindOf w ≤ 8) ⌝ }
     ensures { λ r. ⌜ r ≡ turnsOf w ⌝ }
 {
     let r = row(kind_of(w));
@@ -56,7 +55,7 @@ fn highest(e: u64, own: u16) -> u64
     if e == 511 { 511 + own as u64 } else { e }
 }
 
-pub fn kind_of(w: u64) -> u64
+fn kind_of(w: u64) -> u64
     ensures { λ r. ⌜ r ≡ kindOf w ⌝ }
 {
     w >> 48
@@ -171,7 +170,7 @@ pub fn held_after(h: u64, x: Op) -> u64
 }
 
 // The same after the instruction of a word. Kinds above 2 leave it.
-pub fn held_past(h: u64, w: u64) -> u64
+pub(crate) fn held_past(h: u64, w: u64) -> u64
     requires { ⌜ lockOk (opOf w) ≡ true ⌝ }
     ensures { λ r. ⌜ r ≡ heldAfter h (opOf w) ⌝ }
 {

@@ -5,10 +5,9 @@ mod judge;
 
 ghost use mathlib.Core.Path.{_≡_};
 ghost use Prim.Native.Nat.{ℕ, _<_, _≤_};
-ghost use mathlib.Core.Bool.{true};
 ghost use lib.ListN.{length, getD};
-ghost use Rattle.section.specs.Check.{codeOf, heldBefore, firstOf, useOf, check, passes, causeOf, stepOf};
-ghost use Rattle.section.specs.Pass.{Judgeable, Passed};
+ghost use Rattle.section.specs.Check.{codeOf, firstOf, useOf, check, passes, causeOf, stepOf};
+ghost use Rattle.section.specs.Pass.{Judgeable, heldLeft, Passed};
 use decode::held_past;
 use decode::well_formed;
 use judge::use_at;
@@ -78,10 +77,10 @@ fn uses(words: &[u64], held: &[u64]) -> Verdict
     Verdict::Pass
 }
 
-// One pass over the steps: the first that fails cause 5; with none, the held set before each step is left in `held`.
+// One pass over the steps: the first that fails cause 5. The held set before each step until then is left in `held`.
 fn held_sets(words: &[u64], own: u16, held: &mut [u64]) -> Verdict
     requires { ⌜ length (now words) ≤ length (now held) ⌝ }
-    ensures { λ r. ⌜ Passed own (now (words .entry)) r (now (held .exit)) ⌝ }
+    ensures { λ r. ⌜ Passed own (now (words .entry)) (now (held .entry)) r (now (held .exit)) ⌝ }
 {
     let n = words.len();
     let mut h: u64 = 0;
@@ -98,12 +97,12 @@ fn held_sets(words: &[u64], own: u16, held: &mut [u64]) -> Verdict
     Verdict::Pass
 }
 
-// The check of a section: it passes, or the first of causes 4 to 9. Where it passes, the held set before each step is left in
-// `held`.
+// The check of a section: it passes, or the first of causes 4 to 9. The held set before each step is left in `held`: of all
+// steps, or where cause 5 refuses one of those before it, or where cause 4 does of none. The other words stay.
 pub fn check_held(words: &[u64], own: u16, held: &mut [u64]) -> Verdict
     requires { ⌜ 64 ≤ length (now held) ⌝ }
     ensures verdict { λ r. ⌜ r ≡ check own (length (now (words .entry))) (codeOf (now (words .entry))) ⌝ }
-    ensures sets { λ r. ⌜ (passes r ≡ true → (j : ℕ) → j < length (now (words .entry)) → getD (now (held .exit)) j 0 ≡ heldBefore (codeOf (now (words .entry))) j) ⌝ }
+    ensures sets { λ r. ⌜ ((j : ℕ) → getD (now (held .exit)) j 0 ≡ heldLeft own (length (now (words .entry))) (codeOf (now (words .entry))) (codeOf (now (held .entry))) j) ⌝ }
 {
     let n = words.len();
     if n < 3 {

@@ -1,6 +1,6 @@
 -- `frames::begin` meets its contract: each arm is the definition's case. A submit frame's line is long enough for its arguments.
 use borrow.Author.Needs.{needs}
-use mathlib.Core.Path.{_≡_, sym, ap, _∙_}
+use mathlib.Core.Path.{sym, ap, _∙_}
 use denote.Ref.{now}
 use Rattle.frames.specs.Play.{day, beginFrame}
 use Rattle.frames.proofs.Frames.{submit-long}

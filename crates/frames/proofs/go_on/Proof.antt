@@ -1,6 +1,6 @@
 -- `frames::go_on` meets its contract: each arm is the definition's case.
 use borrow.Author.Needs.{needs}
-use mathlib.Core.Path.{_≡_, sym, ap, _∙_}
+use mathlib.Core.Path.{sym, ap, _∙_}
 use denote.Ref.{now}
 use Rattle.frames.specs.Play.{day, goOnJob}
 use Rattle.frames.proofs.go_on.Statement.{statement}

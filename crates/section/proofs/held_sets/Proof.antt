@@ -1,5 +1,5 @@
 -- `section::held_sets` meets its contract. The loop's invariant, with i steps passed: h is the held set before step i, the
--- slice has the held set before each step below i, and the first refusal from i on is that of the whole section.
+-- slice has the held set before each step below i and else what it had, and the first refusal from i on is that of the whole section.
 use Prim.Native.Nat.{ℕ, _-_, _≤_, _<_}
 use borrow.Author.Needs.{needs}
 use mathlib.Core.Path.{_≡_, refl, sym, ap, _∙_}
@@ -8,11 +8,12 @@ use denote.Ref.{now}
 use lib.ListN.{length, getD, length-set}
 use Rattle.base.proofs.Bools.{denied, granted}
 use Rattle.base.proofs.Counting.{left-all}
-use Rattle.base.proofs.Filling.{filled-next}
 use Rattle.section.specs.Check.{codeOf, firstOf, formOf, heldBefore, passes}
+use Rattle.section.specs.Pass.{heldTo}
 use Rattle.section.proofs.First.{first-none}
 use Rattle.section.proofs.Facts.{pass-form}
-use Rattle.section.proofs.Passing.{first-on, first-stops, formed-lock, form-fails, held-next, refused-not}
+use Rattle.section.proofs.Passing.{first-on, first-stops, formed-lock, form-fails, held-next}
+use Rattle.section.proofs.Left.{held-past-to, set-next}
 use Rattle.section.proofs.held_sets.Statement.{statement}
 use Rattle.section.proofs.held_sets.Tie as tie
 
@@ -22,14 +23,16 @@ Inv-loop words own held₀ n h₀ i₀ held h i =
     × (length held ≡ length held₀)
     × (h ≡ heldBefore (codeOf words) i)
     × (firstOf (formOf own n (codeOf words)) i (n - i) ≡ firstOf (formOf own n (codeOf words)) 0 n)
-    × ((j : ℕ) → j < i → getD held j 0 ≡ heldBefore (codeOf words) j)
+    × ((j : ℕ) → getD held j 0 ≡ heldTo i (codeOf words) (codeOf held₀) j)
 
 abbrev μ-loop : tie.MeasureT-loop
 μ-loop words own held₀ n h₀ i₀ held h i = n - i
 
 loop-holds : tie.Need-loop-holds Inv-loop μ-loop
 unfolding heldBefore
-loop-holds c = (omega arith, refl, refl, rw (left-all (length (now (c .before .before .args .words)))), λ j l. absurd (omega arith))
+loop-holds c =
+    let A = c .before .before .args in
+    (omega arith, refl, refl, rw (left-all (length (now (A .words)))), λ j. sym (held-past-to (codeOf (now (A .words))) (codeOf (now (A .held))) j 0 (omega arith)))
 
 mul-w : tie.Need-mul-w Inv-loop μ-loop
 mul-w c = search needs
@@ -50,7 +53,7 @@ returns c =
     let w = now (S .args .words) in
     let f = form-fails (S .args .own) (length w) (codeOf w) (L .i) (denied (c .before .well-formed .ensures) (c .if1 .taken)) in
     let e = first-stops (formOf (S .args .own) (length w) (codeOf w)) (length w) (L .i) (c .before .before .before .loop-test .taken) (ap passes f) in
-    record { first = sym f ∙ (sym e ∙ L .inv .3); sets = λ p. absurd (refused-not _ refl p) }
+    record { first = sym f ∙ (sym e ∙ L .inv .3); sets = L .inv .4 }
 
 mul-held : tie.Need-mul-held Inv-loop μ-loop
 mul-held c = search needs
@@ -84,7 +87,7 @@ loop-again c =
       length-set (L .held) (L .i) (L .h) ∙ L .inv .1,
       rw (held-next (codeOf w) (L .i), ← L .inv .2) (c .held-past .ensures),
       sym (first-on (formOf (S .args .own) (length w) (codeOf w)) (length w) (L .i) t f) ∙ L .inv .3,
-      filled-next (L .held) (L .i) (L .h) (heldBefore (codeOf w)) b (L .inv .4) (L .inv .2),
+      set-next (codeOf w) (codeOf (now (S .args .held))) (L .held) (L .i) (L .h) b (L .inv .2) (L .inv .4),
     )
 
 same-length-2 : tie.Need-same-length-2 Inv-loop μ-loop
@@ -93,8 +96,9 @@ same-length-2 c = c .before .loop .inv .1
 returns-2 : tie.Need-returns-2 Inv-loop μ-loop
 returns-2 c =
     let L = c .before .loop in
-    let e : L .i ≡ length (now (c .before .before .before .before .args .words)) = omega arith in
-    record { first = sym (first-none _ (L .i) _ (c .loop-test .left)) ∙ L .inv .3; sets = λ p j l. L .inv .4 j (rw e l) }
+    let A = c .before .before .before .before .args in
+    let e : L .i ≡ length (now (A .words)) = omega arith in
+    record { first = sym (first-none _ (L .i) _ (c .loop-test .left)) ∙ L .inv .3; sets = λ j. L .inv .4 j ∙ ap (λ (k : ℕ). heldTo k (codeOf (now (A .words))) (codeOf (now (A .held))) j) e }
 
 pub held-sets-spec : {M : Type 1} → statement M
 held-sets-spec =

@@ -3,7 +3,6 @@ use borrow.Author.Tests.{lt-leb, le-leb, le-ltb, lt-ltb}
 use borrow.Author.Needs.{needs}
 use Rattle.base.proofs.Bools.{denied, granted}
 use Rattle.engine.specs.Turn.{ready}
-use Rattle.engine.proofs.Planned.{formed-range, range-kind}
 use Rattle.engine.proofs.planning.ready.Statement.{statement}
 use Rattle.engine.proofs.planning.ready.Tie as tie
 
@@ -36,7 +35,7 @@ unfolding ready
 returns-4 c = simp (← c .before .before .before .before .before .before .read-field .ensures, le-leb _ _ (c .before .before .before .before .before .if1 .left), le-leb _ _ (c .before .before .before .before .if2 .left), lt-ltb _ _ (c .before .before .before .if3 .left), ← c .before .before .read-step .ensures, denied (c .before .well-formed .ensures) (c .if4 .taken))
 
 turns-requires : tie.Need-turns-requires
-turns-requires c κs = range-kind _ _ (formed-range _ _ _ _ (granted (c .before .well-formed .ensures) (c .if4 .left)))
+turns-requires c κs = search needs
 
 returns-5 : tie.Need-returns-5
 unfolding ready

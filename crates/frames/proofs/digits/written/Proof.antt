@@ -1,6 +1,6 @@
 -- `frames::digits::written` meets its contract.
 use borrow.Author.Needs.{needs}
-use borrow.Author.Tests.{lt-ltb, le-ltb, le-leb, lt-leb}
+use borrow.Author.Tests.{lt-ltb, le-ltb}
 use Rattle.frames.specs.Hex.{digitOf}
 use Rattle.frames.proofs.digits.written.Statement.{statement}
 use Rattle.frames.proofs.digits.written.Tie as tie

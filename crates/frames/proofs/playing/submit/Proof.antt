@@ -1,7 +1,7 @@
 -- `frames::playing::submit` meets its contract, by that of the engine's submit: the words put in the space are those of the steps'
 -- part.
 use borrow.Author.Needs.{needs}
-use mathlib.Core.Path.{_≡_, refl, sym, ap, _∙_}
+use mathlib.Core.Path.{_≡_, sym, ap, _∙_}
 use native.Mathlib.Omega.{arith}
 use denote.Ref.{now}
 use lib.ListN.{length, take, length-drop}

@@ -1,12 +1,9 @@
 -- `frames::playing::turn` meets its contract: no turn where none is left, else the engine's.
 use borrow.Author.Needs.{needs}
 use Prim.Native.Nat.{suc, _-_}
-use mathlib.Core.Path.{_≡_, refl, sym, ap, _∙_}
+use mathlib.Core.Path.{_≡_}
 use native.Mathlib.Omega.{arith}
-use denote.Ref.{now}
-use Rattle.engine.specs.Edition.{mark, ownWords}
-use Rattle.engine.specs.World.{World, world, outcome, answerOf, leaves}
-use Rattle.frames.specs.Play.{Day, uncut, turned, turnDay}
+use Rattle.frames.specs.Play.{turned, turnDay}
 use Rattle.frames.specs.Play.{turnDay}
 use Rattle.frames.proofs.playing.turn.Statement.{statement}
 use Rattle.frames.proofs.playing.turn.Tie as tie

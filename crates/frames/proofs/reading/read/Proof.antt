@@ -1,6 +1,6 @@
 -- `frames::reading::read` meets its contract: its tests are the definition's, in the same order, and each kind has its arm.
 use borrow.Author.Needs.{needs}
-use borrow.Author.Tests.{eq-eqb, ne-eqb, lt-ltb, le-ltb}
+use borrow.Author.Tests.{ne-eqb, lt-ltb, le-ltb}
 use Rattle.base.proofs.Bools.{denied, granted}
 use Rattle.frames.specs.Line.{frameOf, byKind}
 use Rattle.frames.proofs.reading.read.Statement.{statement}

@@ -12,6 +12,7 @@ use Rattle.image.proofs.Stores.{inside-small, inside-steps, part-length, part-r
 use Rattle.section.proofs.Facts.{check-cong}
 use Rattle.section.specs.Check.{codeOf, heldBefore, check, passes}
 use Rattle.section.proofs.Held.{held-cong}
+use Rattle.section.proofs.Left.{left-passed}
 use Rattle.engine.specs.Turn.{codeIn}
 use Rattle.recovery.specs.Repair.{Helds}
 use Rattle.recovery.proofs.soundness.section_passes.Statement.{statement}
@@ -70,7 +71,7 @@ returns c =
     let k = c .before .before .before .check-held in
     let e = part-checks (A .own) (A .k) (now (A .image)) (A .d) (at .result) (S .pre .0) (S .pre .1) (at .ensures) in (
       c .passes .ensures ∙ ap passes (k .ensures .0 ∙ e),
-      λ t. part-helds (A .own) (A .k) (now (A .image)) (A .d) (at .result) (k .last .1 .1 .0) (S .pre .0) (S .pre .1) (at .ensures) (k .ensures .1 (sym (c .passes .ensures) ∙ t)),
+      λ t. part-helds (A .own) (A .k) (now (A .image)) (A .d) (at .result) (k .last .1 .1 .0) (S .pre .0) (S .pre .1) (at .ensures) (λ j l. k .ensures .1 j ∙ left-passed _ _ _ _ j (ap passes (sym (k .ensures .0)) ∙ (sym (c .passes .ensures) ∙ t)) l),
     )
 
 pub section-passes-spec : {M : Type 1} → statement M

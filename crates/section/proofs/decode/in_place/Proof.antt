@@ -1,5 +1,6 @@
 -- `section::decode::in_place` meets its contract: the definition's case of the kind.
 use borrow.Author.Tests.{lt-ltb, le-ltb}
+use Prim.Native.Nat.{_≤_, _<_}
 use mathlib.Core.Path.{_≡_, sym, _∙_}
 use native.Mathlib.Omega.{arith}
 use Rattle.section.specs.Table.{kindOf}
@@ -33,15 +34,19 @@ returns-3 : tie.Need-returns-3
 returns-3 c =
     let f = c .before .before in
     let S = f .before .before .before in
+    let b = c .before .field-b .result in
     let seven : kindOf (S .args .w) ≡ 7 = omega (arith, S .pre .1, f .before .before .kind-of .ensures, f .before .if1 .left, f .if2 .left) in
-    rw (place-jumps _ _ _ seven, ← c .before .field-b .ensures) (simp (le-ltb _ _ (c .if3 .taken)))
+    let h : b ≤ S .args .i = omega arith in
+    rw (place-jumps _ _ _ seven, ← c .before .field-b .ensures) (simp (le-ltb (S .args .i) b h))
 
 returns-4 : tie.Need-returns-4
 returns-4 c =
     let f = c .before .before in
     let S = f .before .before .before in
+    let b = c .before .field-b .result in
     let seven : kindOf (S .args .w) ≡ 7 = omega (arith, S .pre .1, f .before .before .kind-of .ensures, f .before .if1 .left, f .if2 .left) in
-    rw (place-jumps _ _ _ seven, ← c .before .field-b .ensures) (simp (lt-ltb _ _ (c .if3 .left)))
+    let h : S .args .i < b = omega arith in
+    rw (place-jumps _ _ _ seven, ← c .before .field-b .ensures) (simp (lt-ltb (S .args .i) b h))
 
 pub in-place-spec : {M : Type 1} → statement M
 in-place-spec =
