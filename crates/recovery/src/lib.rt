@@ -108,7 +108,7 @@ fn header_ok(image: &[u64], mark: u64, own: usize) -> bool
     requires { ⌜ own ≤ 64 ⌝ }
     ensures { λ r. ⌜ r ≡ headerOk mark own (now (image .entry)) ⌝ }
 {
-    if image.len() < image::record_at(0, own) {
+    if image::words(image) < image::record_at(0, own) {
         return false;
     }
     image::header_ok(image, mark, own)

@@ -21,14 +21,19 @@ ghost use Rattle.recovery.specs.Recovery.{covers, heldNext, owed, sectio
 ghost use Rattle.recovery.specs.Repair.{Helds, setLogged, eight, owedAt};
 ghost use Rattle.recovery.specs.Recover.{isDone, byRecord};
 
-// Whether the first k instruction words of worker d's record pass the check, which then leaves the held sets.
+// Whether the first k instruction words of worker d's record, each loaded, pass the check, which then leaves the held sets.
 fn section_passes(image: &[u64], d: usize, k: usize, own: usize, held: &mut [u64]) -> bool
     requires { ⌜ (Inside own (now image) d) × (k ≤ 64) × (64 ≤ length (now held)) ⌝ }
     ensures passes { λ r. ⌜ r ≡ passes (check own k (codeIn own (at own (now (image .entry))) d)) ⌝ }
     ensures sets { λ r. ⌜ (r ≡ true → Helds own (at own (now (image .entry))) d k (now (held .exit))) ⌝ }
 {
-    let from = image::step_index(d, 0, own);
-    section::passes(section::check_held(&image[from..from + k], own as u16, held))
+    let mut words = [0u64; 64];
+    let mut i: usize = 0;
+    while i < k {
+        words[i] = image::read_step(image, d, i, own);
+        i += 1;
+    }
+    section::passes(section::check_held(&words[..k], own as u16, held))
 }
 
 // Whether worker d has no section, or one that passes the check, with a number that may be under way. The held sets are left.
