@@ -162,15 +162,6 @@ fn planned(image: &[u64], mark: u64, own: usize) -> Restored
     }
 }
 
-// What a recovery would answer, with nothing stored.
-pub fn plan(image: &[u64]) -> Restored
-    ensures answer { λ r. ⌜ r .answer ≡ answerOf (recovery mark ownWords (now (image .entry))) ⌝ }
-    ensures cursors { λ r. ⌜ r .cursors ≡ cursorsOf (recovery mark ownWords (now (image .entry))) ⌝ }
-    ensures repair { λ r. ⌜ r .repair ≡ repairBy ownWords (now (image .entry)) (recovery mark ownWords (now (image .entry))) ⌝ }
-{
-    planned(image, MARK, OWN)
-}
-
 // Slot c of a repair; empty from 592 on.
 pub fn slot_at(r: Repair, c: usize) -> Slot
     ensures { λ s. ⌜ s ≡ slotOf ownWords (slotAt r c) ⌝ }
