@@ -17,7 +17,7 @@ pub fn formattable(image: &[u64], workers: u64, own: usize) -> bool
     if 8 < workers {
         return false;
     }
-    image.len() == image::record_at(workers as usize, own)
+    image::words(image) == image::record_at(workers as usize, own)
 }
 
 // The stores of a formatting.
@@ -26,7 +26,7 @@ pub fn store_all(image: &mut [u64], workers: u64, mark: u64, own: usize, left: &
     ensures image { λ r. ⌜ now (image .exit) ≡ formatStores mark own (now (left .entry)) (now (image .entry)) workers ⌝ }
     ensures left { λ r. ⌜ now (left .exit) ≡ now (left .entry) - (lengthOf own workers + 1) ⌝ }
 {
-    let n = image.len();
+    let n = image::words(image);
     image::store(image, 0, 0, left);
     image::store(image, 1, workers, left);
     storing::clear(image, 2, n - 2, left);

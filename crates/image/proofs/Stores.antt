@@ -6,13 +6,12 @@ use mathlib.Core.Path.{_≡_, refl, ap, _∙_, sym}
 use mathlib.Core.Bool.{Bool, true, false, cond, true≢false}
 use native.Mathlib.Omega.{arith}
 use borrow.Author.Tests.{lt-ltb}
-use Rattle.base.proofs.Bools.{and-both}
-use lib.ListN.{length, getD, take, drop, set, length-set, length-drop}
-use lib.Seq.{getD-set-same, getD-set-other, getD-take, getD-drop, length-take-le, drop-set-add, take-set-le}
+use lib.ListN.{length, getD, take, drop, set, length-set}
+use lib.Seq.{getD-set-same, getD-set-other, drop-set-add, take-set-le}
 use Rattle.image.specs.Place.{Place, lock, own, step, same, valid, upd}
 use Rattle.image.specs.Image.{Image, front, indexOf, workers, at, headerOk, put, Inside}
 use Rattle.image.proofs.Places.{same-refl, same-place}
-use Rattle.image.proofs.Apart.{record-lt, length-ge, index-ge, index-lt, index-small, index-apart}
+use Rattle.image.proofs.Apart.{record-lt, length-ge, index-ge, index-lt, index-apart}
 use Rattle.image.proofs.Header.{Sized}
 
 -- an image that has the words before the records has the locks
@@ -88,30 +87,11 @@ module _ (n : ℕ) where
   unfolding indexOf
   inside-steps m d w = rw (w .whole) (omega (arith, record-lt n d (workers m) (lt-ltb d (workers m) (w .below))))
 
-  pub inside-small : (m : Image) (d : ℕ) → Inside n m d → indexOf n (step d 0) < 1688
-  inside-small m d w = index-small n (step d 0) (w .few) (and-both _ _ (lt-ltb d 8 (omega (arith, w .below, w .most))) refl)
-
   -- ---- the memory
 
   pub load-at : (m : Image) (p : Place) → valid (workers m) n p ≡ true → getD m (indexOf n p) 0 ≡ at n m p
   unfolding at
   load-at m p ok = rw ok
-
-  -- the first k instructions of a record are a part of the image
-  step-from : (d j : ℕ) → indexOf n (step d 0) + j ≡ indexOf n (step d j)
-  unfolding indexOf
-  step-from d j = omega arith
-
-  pub part-length : (m : Image) (d k from : ℕ) → Inside n m d → k ≤ 64 → from ≡ indexOf n (step d 0) → length (take k (drop from m)) ≡ k
-  part-length m d k from w small e =
-      let fits : k ≤ length (drop from m) = rw (length-drop from m) (omega (arith, e, small, inside-steps m d w)) in
-      length-take-le k (drop from m) fits
-
-  pub part-reads : (m : Image) (d k from : ℕ) → Inside n m d → k ≤ 64 → from ≡ indexOf n (step d 0)
-      → (j : ℕ) → j < k → getD (take k (drop from m)) j 0 ≡ at n m (step d j)
-  part-reads m d k from w small e j l =
-      let v = and-both _ _ (lt-ltb d (workers m) (w .below)) (lt-ltb j 64 (omega (arith, l, small))) in
-      getD-take k (drop from m) j 0 l ∙ (getD-drop from m j 0 ∙ (ap (λ (i : ℕ). getD m (i + j) 0) e ∙ (ap (λ (i : ℕ). getD m i 0) (step-from d j) ∙ load-at m (step d j) v)))
 
   -- the same for a load of an index that is the place's
   pub read-at : (m : Image) (p : Place) {i r : ℕ} → i ≡ indexOf n p → r ≡ getD m i 0 → valid (workers m) n p ≡ true → r ≡ at n m p

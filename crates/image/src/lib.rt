@@ -1,5 +1,5 @@
-// The image: single-word loads and stores, the header test, and the index of each place. Nothing above this crate
-// touches an image in another way.
+// The image: how many words it has, single-word loads and stores, the header test, and the index of each place. Nothing
+// above this crate touches an image in another way.
 ghost use mathlib.Core.Path.{_≡_};
 ghost use Prim.Native.Nat.{ℕ, _-_, _<_, _≤_};
 ghost use lib.ListN.{length, getD};
@@ -21,6 +21,13 @@ pub enum Field {
     Owned,
     Number,
     Finished,
+}
+
+// How many words an image has.
+pub fn words(image: &[u64]) -> usize
+    ensures { λ r. ⌜ r ≡ length (now (image .entry)) ⌝ }
+{
+    image.len()
 }
 
 // The word at an index; 0 past the end.

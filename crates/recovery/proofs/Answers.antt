@@ -15,9 +15,9 @@ use Rattle.engine.specs.declared.Cursors.{Cursors}
 use Rattle.engine.specs.Cursor.{allIdle}
 use Rattle.recovery.specs.declared.Refusal.the-variants.{Image as ImageRefused}
 use Rattle.recovery.specs.declared.Answer.the-variants.{Refused}
-use Rattle.recovery.specs.Recovery.{unsound, badLock, plan, resumedAll, Recovered, accepted, misshapen, unsoundRecord, wrongLock, byLocks, byRecords, recovery, causeOf, valueOf}
+use Rattle.recovery.specs.Recovery.{unsound, badLock, plan, resumedAll, Recovered, accepted, misshapen, unsoundRecord, wrongLock, byLocks, byRecords, recovery}
 use Rattle.recovery.specs.Repair.{Restorable, noRepair, slots}
-use Rattle.recovery.specs.Recover.{isDone, answerCause, answerValue, byRecord, byLock, answerOf, cursorsOf, repairBy, storesOf, recoveryLeaves, recoveryLeft}
+use Rattle.recovery.specs.Recover.{isDone, byRecord, byLock, answerOf, cursorsOf, repairBy, storesOf, recoveryLeaves, recoveryLeft}
 use Rattle.recovery.proofs.Records.{restorable}
 use Rattle.recovery.proofs.Slots.{repair-slots, empty-slots}
 
@@ -77,19 +77,6 @@ module _ (mark n : ℕ) (m : Image) where
       let p = private-done (headerOk mark n m) Good Unsound Bad e in
       let h = header-true mark n m (p .0) in
       restorable n m few (h .few) (h .size) (p .1)
-
--- the answer has the definition's number and value
-pub same-cause : (r : Recovered) → answerCause (answerOf r) ≡ causeOf r
-same-cause (accepted ss cs) = refl
-same-cause misshapen = refl
-same-cause (unsoundRecord d) = refl
-same-cause (wrongLock b) = refl
-
-pub same-value : (r : Recovered) → answerValue (answerOf r) ≡ valueOf r
-same-value (accepted ss cs) = refl
-same-value misshapen = refl
-same-value (unsoundRecord d) = refl
-same-value (wrongLock b) = refl
 
 -- one that is refused leaves all workers idle, and nothing to store
 pub refused-idle : (r : Recovered) → isDone (answerOf r) ≡ false → allIdle ≡ cursorsOf r

@@ -2,7 +2,7 @@
 -- locks that somebody intends; the set of the withdrawn has the workers whose section is not begun; the claimants of a
 -- lock are counted in the list of the owed sets, and the locks that have one or two of them are two sets. Further, where a loop finds the lowest lock that is wrong.
 use Prim.Native.Nat.{ℕ, suc, zero, _+_, _-_, _<_, _≤_}
-use borrow.Author.Tests.{lt-ltb, le-ltb, ltb-true, ltb-false, le-leb, lt-leb}
+use borrow.Author.Tests.{lt-ltb, le-ltb, ltb-true, ltb-false, le-leb, lt-leb, leb-true, leb-false}
 use mathlib.Core.Path.{_≡_, refl, sym, ap, _∙_}
 use mathlib.Core.Bool.{Bool, true, false, cond, _&&_, _||_, not}
 use mathlib.Core.List.{List, [], _∷_}
@@ -12,15 +12,15 @@ use native.Mathlib.Omega.{arith}
 use lib.ListN.{length, getD, set, length-set}
 use lib.Seq.{ext-getD, getD-set-same, getD-set-other}
 use lib.Bits.{bitAnd, bitOr}
-use lib.Dec.{ltb}
+use lib.Dec.{leb, ltb}
 use Rattle.base.proofs.Counting.{left-step, left-none}
 use Rattle.mask.specs.Mask.{has, with}
 use Rattle.mask.proofs.Laws.{has-none, has-with, has-with-other}
 use Rattle.image.specs.declared.Field.the-variants.{Intent}
 use Rattle.image.specs.Place.{lock, field, Memory}
 use Rattle.engine.specs.Cursor.{stepNo, turnNo}
-use Rattle.recovery.specs.Recovery.{owed, claimants, ownerOk, lockOk, badLock, intended, resumedAt, resumedAll}
-use Rattle.recovery.specs.Repair.{eight, owedAt, claimantsIn, unbegun, freedBy, withdrawnBy}
+use Rattle.recovery.specs.Recovery.{unbegun, owed, claimants, ownerOk, lockOk, badLock, intended, resumedAt, resumedAll}
+use Rattle.recovery.specs.Repair.{eight, owedAt, claimantsIn, sharedFrom, freedBy, withdrawnBy}
 use Rattle.recovery.proofs.Members.{has-and, has-or}
 
 -- ---- lists of eight
@@ -122,6 +122,40 @@ module _ (sets : List ℕ) (d b once : ℕ) (e : has once b ≡ ltb 0 (claimants
 -- no set has a lock
 pub none-has : (sets : List ℕ) (b k : ℕ) → has 0 b ≡ ltb k (claimantsIn sets b 0)
 none-has sets b k = rw (has-none b, claimants-zero sets b) (sym (le-ltb k 0 (omega arith)))
+
+-- ---- the lowest lock that two sets have
+
+module _ (sets : List ℕ) (n : ℕ) where
+  -- what is known of r, the lowest from b on and below e
+  abbrev Lowest : ℕ → ℕ → ℕ → Type 0
+  Lowest b e r = (r ≤ e) × ((c : ℕ) → b ≤ c → c < r → claimantsIn sets c n ≤ 1) × (r < e → 1 < claimantsIn sets r n)
+
+  -- it is the definition's
+  pub shared-is : (r k b : ℕ) → b ≤ r → Lowest 0 (b + k) r → r ≡ sharedFrom sets n b k
+  unfolding sharedFrom
+  shared-is r zero b l f = omega (arith, f .0)
+  shared-is r (suc k) b l f = by (ℕ-discrete r b) (λ g. shared-is r k (b + 1) g (omega (arith, f .0), f .1, λ h. f .2 (omega arith)))
+    where
+      by : Dec (r ≡ b) → (b + 1 ≤ r → r ≡ sharedFrom sets n (b + 1) k) → r ≡ cond (leb (claimantsIn sets b n) 1) (sharedFrom sets n (b + 1) k) b
+      by (yes p) rest = rw (lt-leb (claimantsIn sets b n) 1 (rw p at (f .2 (omega arith)))) p
+      by (no p) rest = rw (le-leb (claimantsIn sets b n) 1 (f .1 b (omega arith) (omega arith))) (rest (omega arith))
+
+  shared-from : (k b : ℕ) → Lowest b (b + k) (sharedFrom sets n b k)
+  unfolding sharedFrom
+  shared-from zero b = (omega arith, (λ c l h. absurd (omega arith)), λ h. absurd (omega arith))
+  shared-from (suc k) b = by (leb (claimantsIn sets b n) 1) refl (sharedFrom sets n (b + 1) k) (shared-from k (b + 1))
+    where
+      below : (r c : ℕ) → claimantsIn sets b n ≤ 1 → Lowest (b + 1) (b + 1 + k) r → b ≤ c → c < r → Dec (c ≡ b) → claimantsIn sets c n ≤ 1
+      below r c e f l h (yes p) = rw p e
+      below r c e f l h (no p) = f .1 c (omega arith) h
+
+      by : (t : Bool) → leb (claimantsIn sets b n) 1 ≡ t → (r : ℕ) → Lowest (b + 1) (b + 1 + k) r → Lowest b (b + suc k) (cond t r b)
+      by true e r f = (omega (arith, f .0), (λ c l h. below r c (leb-true (claimantsIn sets b n) 1 e) f l h (ℕ-discrete c b)), λ h. f .2 (omega arith))
+      by false e r f = (omega arith, (λ c l h. absurd (omega arith)), λ h. leb-false (claimantsIn sets b n) 1 e)
+
+  -- and what the definition's is
+  pub shared-told : (r : ℕ) → r ≡ sharedFrom sets n 0 64 → Lowest 0 64 r
+  shared-told r e = rw e (shared-from 64 0)
 
 module _ (n : ℕ) (rd : Memory) (D : ℕ) where
   pub owed-inside : (d : ℕ) → d < D → owedAt n rd D d ≡ owed n rd d

@@ -17,8 +17,8 @@ use Rattle.image.specs.Place.{lock, field, Memory, Store}
 use Rattle.image.specs.Image.{Image, at, workers, putAll}
 use Rattle.image.proofs.Lists.{putAll-append}
 use Rattle.recovery.specs.declared.Repair.{Repair}
-use Rattle.recovery.specs.Recovery.{_≔_, owed, intended, unlocks, intents, withdraws, relocks, allRelocks, plan}
-use Rattle.recovery.specs.Repair.{eight, owedAt, unbegun, freedBy, withdrawnBy, repairOf, noRepair, lockSlot, intentSlot, withdrawSlot, relockSlot, lockStores, slotAt, slots, slotOf, slotPut, slotLeft}
+use Rattle.recovery.specs.Recovery.{_≔_, unbegun, owed, intended, unlocks, intents, withdraws, relocks, allRelocks, plan}
+use Rattle.recovery.specs.Repair.{eight, owedAt, freedBy, withdrawnBy, repairOf, noRepair, lockSlot, intentSlot, withdrawSlot, relockSlot, lockStores, slotAt, slots, slotOf, slotPut, slotLeft}
 use Rattle.recovery.proofs.Sets.{eight-at, freed-has, withdrawn-has, withdrawn-past, owed-inside, owed-outside}
 
 -- ---- one slot

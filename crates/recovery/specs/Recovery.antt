@@ -33,6 +33,10 @@ targetOf d (Jump a b) = field Owned d
 targetOf d Finish = field Owned d
 targetOf d Unknown = field Owned d
 
+-- worker d has a section that is not begun
+abbrev pub unbegun : Memory → ℕ → Bool
+unbegun rd d = eqb (rd (field Pc d)) 0 && not (eqb (rd (field Count d)) 0)
+
 -- n: own words in a record
 module _ (n : ℕ) (rd : Memory) where
   module _ (d : ℕ) where
@@ -67,10 +71,14 @@ module _ (n : ℕ) (rd : Memory) where
         cond (eqb (rd (field Count d)) 0) (eqb (rd (field Pc d)) 0)
         (passes (check n (rd (field Count d)) (codeIn n rd d)) && leb 1 (rd (field Number d)) && leb (rd (field Finished d)) (rd (field Number d)))
 
+    -- the active log entry is for the owned word, with this set
+    abbrev pub setLogged : ℕ → Bool
+    setLogged set = eqb (rd (field (activeAddr n rd d) d)) (indexOf n (field Owned d)) && eqb (rd (field (activeVal n rd d) d)) set
+
     -- the named instruction is logged, at the active entry's address; of an acquire or a release its value is the held set after it
     abbrev pub entryOk : Op → Bool
-    entryOk (Acquire a) = eqb (rd (field (activeAddr n rd d) d)) (indexOf n (field Owned d)) && eqb (rd (field (activeVal n rd d) d)) heldNext
-    entryOk (Release a) = eqb (rd (field (activeAddr n rd d) d)) (indexOf n (field Owned d)) && eqb (rd (field (activeVal n rd d) d)) heldNext
+    entryOk (Acquire a) = setLogged heldNext
+    entryOk (Release a) = setLogged heldNext
     entryOk (Assign a e) = eqb (rd (field (activeAddr n rd d) d)) (indexOf n (operand d a))
     entryOk (Jump a b) = false
     entryOk Finish = false
@@ -143,7 +151,7 @@ module _ (n : ℕ) (rd : Memory) where
     -- stage 3: sections that were not begun are withdrawn
     unfoldable pub withdraws : ℕ → ℕ → List Store
     withdraws d zero = []
-    withdraws d (suc k) = cond (eqb (rd (field Pc d)) 0 && not (eqb (rd (field Count d)) 0)) ((field Count d ≔ 0) ∷ withdraws (d + 1) k) (withdraws (d + 1) k)
+    withdraws d (suc k) = cond (unbegun rd d) ((field Count d ≔ 0) ∷ withdraws (d + 1) k) (withdraws (d + 1) k)
 
     -- stage 4: each worker has the locks that it is owed
     unfoldable pub relocks : ℕ → ℕ → ℕ → List Store
@@ -191,16 +199,3 @@ recovery mark n m =
     (byLocks (accepted (plan n (at n m) (workers m)) (resumedAll n (at n m) (workers m))) (badLock n (at n m) (workers m) 0 64))
     (unsound n (at n m) (workers m) 0 (workers m)))
     misshapen
-
--- document 01's number, and the worker or lock that goes with it
-abbrev pub causeOf : Recovered → ℕ
-causeOf (accepted ss cs) = 0
-causeOf misshapen = 10
-causeOf (unsoundRecord d) = 12
-causeOf (wrongLock b) = 13
-
-abbrev pub valueOf : Recovered → ℕ
-valueOf (accepted ss cs) = 0
-valueOf misshapen = 0
-valueOf (unsoundRecord d) = d
-valueOf (wrongLock b) = b

@@ -2,23 +2,23 @@
 -- store (`repairOf`), and the 592 slots of a repair, each a store or empty, in document 01's order (`slots`).
 use Prim.Native.Nat.{ℕ, suc, zero, _+_, _-_, _/_, _%_, _<_, _≤_}
 use mathlib.Core.Path.{_≡_}
-use mathlib.Core.Bool.{Bool, true, cond, _&&_, not}
+use mathlib.Core.Bool.{true, cond}
 use mathlib.Core.List.{List, [], _∷_, _++_}
 use lib.Bits.{bitOr}
 use lib.ListN.{length, getD, replicate}
-use lib.Dec.{ltb, eqb}
+use lib.Dec.{leb, ltb}
 use Rattle.mask.specs.Mask.{has, with}
-use Rattle.image.specs.declared.Field.the-variants.{Count, Pc, Intent, Owned}
+use Rattle.image.specs.declared.Field.the-variants.{Count, Pc, Intent}
 use Rattle.image.specs.Place.{lock, field, Memory, Store}
 use Rattle.image.specs.Image.{Image, lengthOf, indexOf, at, workers, put}
 use Rattle.section.specs.declared.Op.{Op}
 use Rattle.section.specs.declared.Op.the-variants.{Acquire, Release, Assign, Jump, Finish, Unknown}
 use Rattle.section.specs.Check.{inRange, heldBefore}
-use Rattle.engine.specs.Turn.{codeIn, activeAddr, activeVal}
+use Rattle.engine.specs.Turn.{codeIn}
 use Rattle.recovery.specs.declared.Repair.{Repair}
 use Rattle.recovery.specs.declared.Slot.{Slot}
 use Rattle.recovery.specs.declared.Slot.the-variants.{Empty, Store as Filled}
-use Rattle.recovery.specs.Recovery.{_≔_, namedStep, owed}
+use Rattle.recovery.specs.Recovery.{_≔_, namedStep, owed, unbegun}
 
 -- ---- what the functions that read a begun section ask
 
@@ -46,10 +46,6 @@ Helds n rd d k held = (j : ℕ) → j < k → getD held j 0 ≡ heldBefore (code
 
 -- ---- the sets
 
--- the active log entry is for worker d's owned word, with this set
-abbrev pub setLogged : ℕ → Memory → ℕ → ℕ → Bool
-setLogged n rd d set = eqb (rd (field (activeAddr n rd d) d)) (indexOf n (field Owned d)) && eqb (rd (field (activeVal n rd d) d)) set
-
 -- an instruction's owed set, from the held set after it and the set owned
 abbrev pub owedOf : Op → ℕ → ℕ → ℕ
 owedOf (Acquire a) next owned = next
@@ -68,9 +64,10 @@ unfoldable pub claimantsIn : List ℕ → ℕ → ℕ → ℕ
 claimantsIn sets b zero = 0
 claimantsIn sets b (suc k) = cond (has (getD sets k 0) b) 1 0 + claimantsIn sets b k
 
--- worker d has a section that is not begun
-abbrev pub unbegun : Memory → ℕ → Bool
-unbegun rd d = eqb (rd (field Pc d)) 0 && not (eqb (rd (field Count d)) 0)
+-- the lowest lock, of k from b on, that two of the first n sets of a list have; b + k where there is none
+unfoldable pub sharedFrom : List ℕ → ℕ → ℕ → ℕ → ℕ
+sharedFrom sets n b zero = b
+sharedFrom sets n b (suc k) = cond (leb (claimantsIn sets b n) 1) (sharedFrom sets n (b + 1) k) b
 
 -- the locks that the first k workers intend
 unfoldable pub freedBy : Memory → ℕ → ℕ

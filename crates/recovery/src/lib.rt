@@ -108,7 +108,7 @@ fn header_ok(image: &[u64], mark: u64, own: usize) -> bool
     requires { ⌜ own ≤ 64 ⌝ }
     ensures { λ r. ⌜ r ≡ headerOk mark own (now (image .entry)) ⌝ }
 {
-    if image.len() < image::record_at(0, own) {
+    if image::words(image) < image::record_at(0, own) {
         return false;
     }
     image::header_ok(image, mark, own)
@@ -160,15 +160,6 @@ fn planned(image: &[u64], mark: u64, own: usize) -> Restored
         cursors: stock::resumed_all(image, own),
         repair: stock::repair(image, sets, own),
     }
-}
-
-// What a recovery would answer, with nothing stored.
-pub fn plan(image: &[u64]) -> Restored
-    ensures answer { λ r. ⌜ r .answer ≡ answerOf (recovery mark ownWords (now (image .entry))) ⌝ }
-    ensures cursors { λ r. ⌜ r .cursors ≡ cursorsOf (recovery mark ownWords (now (image .entry))) ⌝ }
-    ensures repair { λ r. ⌜ r .repair ≡ repairBy ownWords (now (image .entry)) (recovery mark ownWords (now (image .entry))) ⌝ }
-{
-    planned(image, MARK, OWN)
 }
 
 // Slot c of a repair; empty from 592 on.

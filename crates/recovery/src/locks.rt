@@ -1,22 +1,20 @@
-// Whether the locks are right: cause 13. The owed sets are those of `stock::owed_sets`.
+// Whether the locks are right: cause 13. The owed sets are those that `soundness::records` found.
 use crate::Answer;
 use crate::Refusal;
 use image::Field;
 ghost use mathlib.Core.Path.{_≡_};
-ghost use Prim.Native.Nat.{ℕ, _<_, _≤_};
+ghost use Prim.Native.Nat.{_<_, _≤_};
 ghost use lib.ListN.{length};
 ghost use Rattle.image.specs.Place.{lock};
 ghost use Rattle.image.specs.Image.{at, workers, lengthOf};
 ghost use Rattle.recovery.specs.Recovery.{ownerOk, badLock};
-ghost use Rattle.recovery.specs.Repair.{eight, owedAt, claimantsIn};
+ghost use Rattle.recovery.specs.Repair.{eight, owedAt, sharedFrom};
 ghost use Rattle.recovery.specs.Recover.{byLock};
 
 // The lowest lock that two of the first n sets have; 64 where there is none.
 fn shared(sets: &[u64], n: usize) -> u64
     requires { ⌜ n ≤ length (now sets) ⌝ }
-    ensures most { λ r. ⌜ r ≤ 64 ⌝ }
-    ensures below { λ r. ⌜ ((b : ℕ) → b < r → claimantsIn (now (sets .entry)) b n ≤ 1) ⌝ }
-    ensures here { λ r. ⌜ (r < 64 → 1 < claimantsIn (now (sets .entry)) r n) ⌝ }
+    ensures { λ r. ⌜ r ≡ sharedFrom (now (sets .entry)) n 0 64 ⌝ }
 {
     let mut once: u64 = 0;
     let mut twice: u64 = 0;

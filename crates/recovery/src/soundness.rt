@@ -17,18 +17,23 @@ ghost use Rattle.image.specs.Image.{at, workers, lengthOf, Inside};
 ghost use Rattle.section.specs.Check.{check, passes};
 ghost use Rattle.section.specs.Fits.{fits};
 ghost use Rattle.engine.specs.Turn.{codeIn, activeAddr, activeVal};
-ghost use Rattle.recovery.specs.Recovery.{covers, heldNext, owed, sectionOk, entryOk, pcOk, sound, unsound};
-ghost use Rattle.recovery.specs.Repair.{Helds, setLogged, eight, owedAt};
+ghost use Rattle.recovery.specs.Recovery.{covers, heldNext, owed, sectionOk, setLogged, entryOk, pcOk, sound, unsound};
+ghost use Rattle.recovery.specs.Repair.{Helds, eight, owedAt};
 ghost use Rattle.recovery.specs.Recover.{isDone, byRecord};
 
-// Whether the first k instruction words of worker d's record pass the check, which then leaves the held sets.
+// Whether the first k instruction words of worker d's record, each loaded, pass the check, which then leaves the held sets.
 fn section_passes(image: &[u64], d: usize, k: usize, own: usize, held: &mut [u64]) -> bool
     requires { ⌜ (Inside own (now image) d) × (k ≤ 64) × (64 ≤ length (now held)) ⌝ }
     ensures passes { λ r. ⌜ r ≡ passes (check own k (codeIn own (at own (now (image .entry))) d)) ⌝ }
     ensures sets { λ r. ⌜ (r ≡ true → Helds own (at own (now (image .entry))) d k (now (held .exit))) ⌝ }
 {
-    let from = image::step_index(d, 0, own);
-    section::passes(section::check_held(&image[from..from + k], own as u16, held))
+    let mut words = [0u64; 64];
+    let mut i: usize = 0;
+    while i < k {
+        words[i] = image::read_step(image, d, i, own);
+        i += 1;
+    }
+    section::passes(section::check_held(&words[..k], own as u16, held))
 }
 
 // Whether worker d has no section, or one that passes the check, with a number that may be under way. The held sets are left.
@@ -87,10 +92,10 @@ fn set_logged(image: &[u64], d: usize, set: u64, own: usize) -> bool
     logged_value(image, d, own) == set
 }
 
-// Whether the active entry logs the store of an instruction after which `next` is held.
+// Whether the active entry logs the store of an instruction, after which `next` is held.
 fn entry_ok(image: &[u64], d: usize, x: Op, next: u64, own: usize) -> bool
-    requires { ⌜ (Inside own (now image) d) × (fits own x) ⌝ }
-    ensures { λ r. ⌜ (next ≡ heldNext own (at own (now (image .entry))) d → r ≡ entryOk own (at own (now (image .entry))) d x) ⌝ }
+    requires { ⌜ (Inside own (now image) d) × (fits own x) × (next ≡ heldNext own (at own (now image)) d) ⌝ }
+    ensures { λ r. ⌜ r ≡ entryOk own (at own (now (image .entry))) d x ⌝ }
 {
     match x {
         Op::Acquire(_) => set_logged(image, d, next, own),
@@ -111,7 +116,8 @@ struct Found {
 }
 
 fn refused() -> Found
-    ensures { λ r. ⌜ r .ok ≡ false ⌝ }
+    ensures ok { λ r. ⌜ r .ok ≡ false ⌝ }
+    ensures owed { λ r. ⌜ r .owed ≡ 0 ⌝ }
 {
     Found { ok: false, owed: 0 }
 }

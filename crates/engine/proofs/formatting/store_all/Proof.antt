@@ -7,6 +7,9 @@ use Rattle.engine.proofs.Formats.{formattable-true, format-stores}
 use Rattle.engine.proofs.formatting.store_all.Statement.{statement}
 use Rattle.engine.proofs.formatting.store_all.Tie as tie
 
+words-requires : tie.Need-words-requires
+words-requires c κs = search needs
+
 store-requires : tie.Need-store-requires
 store-requires c κs = search needs
 
@@ -15,18 +18,20 @@ store-requires-2 c κs = search needs
 
 sub-clear : tie.Need-sub-clear
 sub-clear c =
-    let S = c .before .before .before .before .before .before .before .before .before .before .before .before in
+    let w = c .before .before .before .before .before .before .before .before .before .before .before in
+    let S = w .before .before .before in
     let A = S .args in
-    omega (arith, formattable-true (A .own) (now (A .image)) (A .workers) (S .pre .1) .2, length-ge (A .own) (A .workers))
+    omega (arith, w .words .ensures, formattable-true (A .own) (now (A .image)) (A .workers) (S .pre .1) .2, length-ge (A .own) (A .workers))
 
 clear-requires : tie.Need-clear-requires
 clear-requires c κs =
     let s2 = c .before .before .before .before in
     let s1 = s2 .before .before .before .before .before in
-    let S = s1 .before .before .before .before in
+    let w = s1 .before .before .before in
+    let S = w .before .before .before in
     let A = S .args in
     let z = formattable-true (A .own) (now (A .image)) (A .workers) (S .pre .1) .2 in
-    omega (arith, z, length-ge (A .own) (A .workers), s2 .store2 .kept .0, s1 .store .kept .0)
+    omega (arith, w .words .ensures, z, length-ge (A .own) (A .workers), s2 .store2 .kept .0, s1 .store .kept .0)
 
 store-requires-3 : tie.Need-store-requires-3
 store-requires-3 c κs = search needs
@@ -40,13 +45,15 @@ returns c =
     let s3 = s4 .before .before .before .before .before in
     let s2 = s3 .before .before .before .before .before in
     let s1 = s2 .before .before .before .before .before in
-    let S = s1 .before .before .before .before in
+    let w = s1 .before .before .before in
+    let S = w .before .before .before in
     let A = S .args in
     let z = formattable-true (A .own) (now (A .image)) (A .workers) (S .pre .1) .2 in
     let g = length-ge (A .own) (A .workers) in (
       rw (
         format-stores (A .mark) (A .own) (now (A .left)) (now (A .image)) (A .workers),
         ← z,
+        ← w .words .ensures,
         ← s1 .store .ensures .1,
         ← s1 .store .ensures .0,
         ← s2 .store2 .ensures .1,
@@ -55,13 +62,14 @@ returns c =
         ← s3 .clear .ensures .0,
       )
           (s4 .store3 .ensures .0),
-      omega (arith, s1 .store .ensures .1, s2 .store2 .ensures .1, s3 .clear .ensures .1, s4 .store3 .ensures .1),
+      omega (arith, w .words .ensures, s1 .store .ensures .1, s2 .store2 .ensures .1, s3 .clear .ensures .1, s4 .store3 .ensures .1),
     )
 
 pub store-all-spec : {M : Type 1} → statement M
 store-all-spec =
     tie.close
     (tie.spec
+    words-requires
     store-requires
     store-requires-2
     sub-clear

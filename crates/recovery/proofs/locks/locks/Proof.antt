@@ -10,7 +10,7 @@ use Rattle.base.proofs.Bools.{denied, granted}
 use Rattle.image.specs.Image.{at, workers}
 use Rattle.recovery.specs.Recover.{byLock}
 use Rattle.recovery.specs.Recovery.{badLock}
-use Rattle.recovery.proofs.Sets.{lock-single, lock-shared, bad-on, bad-here, bad-none}
+use Rattle.recovery.proofs.Sets.{shared-told, lock-single, lock-shared, bad-on, bad-here, bad-none}
 use Rattle.recovery.proofs.locks.locks.Statement.{statement}
 use Rattle.recovery.proofs.locks.locks.Tie as tie
 
@@ -33,7 +33,7 @@ loop-holds c = (omega arith, refl)
 owner-ok-requires : tie.Need-owner-ok-requires Inv-loop μ-loop
 owner-ok-requires c κs =
     let S = c .before .before .before .before .before .before in
-    let h : c .before .loop .b < 64 = omega (arith, c .before .before .shared .ensures .0) in
+    let h : c .before .loop .b < 64 = omega (arith, shared-told _ _ _ (c .before .before .shared .ensures) .0) in
     (S .pre .0, S .pre .1, h, S .pre .3)
 
 returns : tie.Need-returns Inv-loop μ-loop
@@ -44,8 +44,9 @@ returns c =
     let f = c .before .before .before .before .shared in
     let D = workers (now (A .image)) in
     let rd = at (A .own) (now (A .image)) in
-    let h : L .b < 64 = omega (arith, f .ensures .0) in
-    let k = rw (S .pre .2, c .before .before .before .before .before .workers .ensures) at (f .ensures .1 .0 (L .b) (c .before .before .loop-test .taken)) in
+    let low = shared-told _ _ _ (f .ensures) in
+    let h : L .b < 64 = omega (arith, low .0) in
+    let k = rw (S .pre .2, c .before .before .before .before .before .workers .ensures) at (low .1 (L .b) (omega arith) (c .before .before .loop-test .taken)) in
     let e = lock-single (A .own) rd D (L .b) (S .pre .1) k in
     sym (ap byLock (bad-here (A .own) rd D (L .b) h (e ∙ denied (c .before .owner-ok .ensures) (c .if1 .taken)))) ∙ L .inv .1
 
@@ -63,8 +64,9 @@ loop-again c =
     let f = c .before .before .before .before .shared in
     let D = workers (now (A .image)) in
     let rd = at (A .own) (now (A .image)) in
-    let h : L .b < 64 = omega (arith, f .ensures .0) in
-    let k = rw (S .pre .2, c .before .before .before .before .before .workers .ensures) at (f .ensures .1 .0 (L .b) (c .before .before .loop-test .taken)) in
+    let low = shared-told _ _ _ (f .ensures) in
+    let h : L .b < 64 = omega (arith, low .0) in
+    let k = rw (S .pre .2, c .before .before .before .before .before .workers .ensures) at (low .1 (L .b) (omega arith) (c .before .before .loop-test .taken)) in
     let e = lock-single (A .own) rd D (L .b) (S .pre .1) k in
     (omega arith, sym (ap byLock (bad-on (A .own) rd D (L .b) h (e ∙ granted (c .before .owner-ok .ensures) (c .if1 .left)))) ∙ L .inv .1)
 
@@ -76,7 +78,7 @@ returns-2 c =
     let f = c .before .before .before .shared in
     let D = workers (now (A .image)) in
     let rd = at (A .own) (now (A .image)) in
-    let k = rw (S .pre .2, c .before .before .before .before .workers .ensures) at (f .ensures .1 .1 (c .if2 .taken)) in
+    let k = rw (S .pre .2, c .before .before .before .before .workers .ensures) at (shared-told _ _ _ (f .ensures) .2 (c .if2 .taken)) in
     let z : L .b ≡ f .result = omega arith in
     sym (ap byLock (bad-here (A .own) rd D (f .result) (c .if2 .taken) (lock-shared (A .own) rd D (f .result) (S .pre .1) k))) ∙ rw z at (L .inv .1)
 

@@ -11,7 +11,7 @@ use lib.Dec.{ltb}
 use Rattle.mask.specs.Mask.{has}
 use Rattle.recovery.specs.Repair.{claimantsIn}
 use Rattle.recovery.proofs.Lowest.{low-below, low-has}
-use Rattle.recovery.proofs.Sets.{none-has, once-next, twice-next}
+use Rattle.recovery.proofs.Sets.{none-has, once-next, twice-next, shared-is}
 use Rattle.recovery.proofs.locks.shared.Statement.{statement}
 use Rattle.recovery.proofs.locks.shared.Tie as tie
 
@@ -57,9 +57,11 @@ returns c =
     let A = c .before .before .args in
     let L = c .before .loop in
     let e : L .d ≡ A .n = omega arith in
-    let f = rw e at (L .inv .2) in (
+    let f = rw e at (L .inv .2) in
+    shared-is (now (A .sets)) (A .n) _ 64 0 (omega arith) (
       trailing-le 64 (L .twice),
-      (λ b l. ltb-false 1 (claimantsIn (now (A .sets)) b (A .n)) (sym (f b) ∙ low-below 64 (L .twice) b l), λ l. ltb-true 1 _ (sym (f _) ∙ low-has 64 (L .twice) l)),
+      (λ b g l. ltb-false 1 (claimantsIn (now (A .sets)) b (A .n)) (sym (f b) ∙ low-below 64 (L .twice) b l)),
+      λ l. ltb-true 1 _ (sym (f _) ∙ low-has 64 (L .twice) l),
     )
 
 pub shared-spec : {M : Type 1} → statement M

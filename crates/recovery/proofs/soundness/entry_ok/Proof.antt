@@ -35,22 +35,22 @@ enum-told-5 : tie.Need-enum-told-5
 enum-told-5 c = search needs
 
 returns : tie.Need-returns
-returns c = λ e. rw (c .before .enum-told .given .1, ← e) (c .set-logged .ensures)
+returns c = rw (c .before .enum-told .given .1, ← c .before .before .before .before .pre .2) (c .set-logged .ensures)
 
 returns-2 : tie.Need-returns-2
-returns-2 c = λ e. rw (c .before .enum-told2 .given .1, ← e) (c .set-logged2 .ensures)
+returns-2 c = rw (c .before .enum-told2 .given .1, ← c .before .before .before .before .pre .2) (c .set-logged2 .ensures)
 
 returns-3 : tie.Need-returns-3
-returns-3 c = λ e. rw (c .before .before .before .x .given .1, ← c .before .logged-addr .ensures, ← c .operand-index .ensures)
+returns-3 c = rw (c .before .before .before .x .given .1, ← c .before .logged-addr .ensures, ← c .operand-index .ensures)
 
 returns-4 : tie.Need-returns-4
-returns-4 c = λ e. rw (c .enum-told3 .given .1)
+returns-4 c = rw (c .enum-told3 .given .1)
 
 returns-5 : tie.Need-returns-5
-returns-5 c = λ e. rw (c .enum-told4 .given .1)
+returns-5 c = rw (c .enum-told4 .given .1)
 
 returns-6 : tie.Need-returns-6
-returns-6 c = λ e. rw (c .enum-told5 .given .1)
+returns-6 c = rw (c .enum-told5 .given .1)
 
 pub entry-ok-spec : {M : Type 1} → statement M
 entry-ok-spec =

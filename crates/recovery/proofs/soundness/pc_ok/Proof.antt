@@ -36,7 +36,7 @@ returns-2 c =
     let A = c .before .before .before .before .before .before .before .args in
     let pc = c .before .before .before .read-field2 in
     let tests = pc-tests (A .own) (at (A .own) (now (A .image))) (A .d) (pc .result) (pc .ensures) (c .before .before .if1 .left) in
-    (rw (tests, lt-leb 1 (pc .result % 9223372036854775808) (c .before .if2 .taken)) (c .refused .ensures), λ h. absurd (false≢true (sym (c .refused .ensures) ∙ h)))
+    (rw (tests, lt-leb 1 (pc .result % 9223372036854775808) (c .before .if2 .taken)) (c .refused .ensures .0), λ h. absurd (false≢true (sym (c .refused .ensures .0) ∙ h)))
 
 read-field-requires-3 : tie.Need-read-field-requires-3
 read-field-requires-3 c κs = search needs
@@ -52,7 +52,7 @@ returns-3 c =
     let tests = pc-tests (A .own) (at (A .own) (now (A .image))) (A .d) (pc .result) (pc .ensures) (c .before .before .before .before .if1 .left) in
     let low = le-leb 1 (pc .result % 9223372036854775808) (c .before .before .before .if2 .left) in
     let past = le-ltb (pc .result % 9223372036854775808 - 1) (k .result) (c .before .if3 .taken) in
-    (rw (tests, low, ← k .ensures, past) (c .refused2 .ensures), λ h. absurd (false≢true (sym (c .refused2 .ensures) ∙ h)))
+    (rw (tests, low, ← k .ensures, past) (c .refused2 .ensures .0), λ h. absurd (false≢true (sym (c .refused2 .ensures .0) ∙ h)))
 
 sub-s : tie.Need-sub-s
 sub-s c = search needs
@@ -99,7 +99,12 @@ entry-ok-requires c κs =
     let s = c .before .before .before .before .before .before .before .before .read-field2 .result % 9223372036854775808 - 1 in
     let l = rw (c .before .before .before .before .before .read-field3 .ensures) at (c .before .before .before .before .if3 .left) in
     let r = section-reads (A .own) (at (A .own) (now (A .image))) (A .d) (S .pre .1) s l in
-    (S .pre .0, rw (c .before .before .op-of .ensures, c .before .before .before .read-step .ensures) (in-range (A .own) _ (r .1 s l)))
+    let pc = c .before .before .before .before .before .before .before .before .read-field2 in
+    let k = c .before .before .before .before .before .read-field3 in
+    let zero = c .before .before .before .before .before .before .before .if1 .left in
+    let t = pc-rest (A .own) (at (A .own) (now (A .image))) (A .d) (pc .result) (pc .ensures) zero (c .before .before .before .before .before .before .if2 .left) (k .result) (k .ensures) (c .before .before .before .before .if3 .left) in
+    let q = t _ _ _ _ (c .before .before .before .read-step .ensures) (c .before .before .op-of .ensures) (S .pre .3 s l) (c .held-after .ensures) in
+    (S .pre .0, rw (c .before .before .op-of .ensures, c .before .before .before .read-step .ensures) (in-range (A .own) _ (r .1 s l)), q .0)
 
 refused-requires-3 : tie.Need-refused-requires-3
 refused-requires-3 c κs = search needs
@@ -115,7 +120,7 @@ returns-4 c =
     let l = rw (k .ensures) at (e .before .before .before .before .before .if3 .left) in
     let t = pc-rest (A .own) (at (A .own) (now (A .image))) (A .d) (pc .result) (pc .ensures) zero (e .before .before .before .before .before .before .before .if2 .left) (k .result) (k .ensures) (e .before .before .before .before .before .if3 .left) in
     let q = t _ _ _ _ (e .before .before .before .before .read-step .ensures) (e .before .before .before .op-of .ensures) (S .pre .3 (pc .result % 9223372036854775808 - 1) l) (e .before .held-after .ensures) in
-    (rw (q .1, denied (e .entry-ok .ensures (q .0)) (c .before .if4 .taken)) (c .refused3 .ensures), λ h. absurd (false≢true (sym (c .refused3 .ensures) ∙ h)))
+    (rw (q .1, denied (e .entry-ok .ensures) (c .before .if4 .taken)) (c .refused3 .ensures .0), λ h. absurd (false≢true (sym (c .refused3 .ensures .0) ∙ h)))
 
 owned-ok-requires : tie.Need-owned-ok-requires
 owned-ok-requires c κs = search needs
@@ -136,7 +141,7 @@ returns-5 c =
     let q = t _ _ _ _ (e .before .before .before .before .read-step .ensures) (e .before .before .before .op-of .ensures) (S .pre .3 (pc .result % 9223372036854775808 - 1) l) (e .before .held-after .ensures) in
     let owned = e .before .before .before .before .before .before .before .before .before .before .read-field in
     let o = owed-begun (A .own) (at (A .own) (now (A .image))) (A .d) (pc .result) (pc .ensures) zero _ _ _ (e .before .before .before .before .read-step .ensures) (e .before .before .before .op-of .ensures) (q .0) in (
-      rw (q .1, granted (e .entry-ok .ensures (q .0)) (c .before .before .if4 .left), ← owned .ensures) (c .before .owned-ok .ensures),
+      rw (q .1, granted (e .entry-ok .ensures) (c .before .before .if4 .left), ← owned .ensures) (c .before .owned-ok .ensures),
       λ h. rw (o, ← owned .ensures) (c .owed-by .ensures),
     )
 

@@ -20,7 +20,7 @@ same-length c = search needs
 
 returns : tie.Need-returns
 unfolding sound
-returns c = (rw (denied (c .before .before .before .before .section-ok .ensures .0) (c .before .if1 .taken)) (c .refused .ensures), λ h. absurd (false≢true (sym (c .refused .ensures) ∙ h)))
+returns c = (rw (denied (c .before .before .before .before .section-ok .ensures .0) (c .before .if1 .taken)) (c .refused .ensures .0), λ h. absurd (false≢true (sym (c .refused .ensures .0) ∙ h)))
 
 pc-ok-requires : tie.Need-pc-ok-requires
 pc-ok-requires c κs =
