@@ -1,13 +1,12 @@
 -- The cells as a list: its length, its words, and what a store leaves of it. The cells stand in words 8 to 519, so a
--- store at a cell is a store in the list, and one at any other place, from word 520 up, leaves the list.
+-- store at any other place, from word 520 up, leaves the list.
 use Prim.Native.Nat.{ℕ, _+_, _-_, _<_, _≤_}
-use mathlib.Core.Path.{_≡_, refl, ap, _∙_, sym}
+use mathlib.Core.Path.{_≡_, ap, _∙_}
 use mathlib.Core.Bool.{Bool, true, false, true≢false}
 use native.Mathlib.Omega.{arith}
 use lib.ListN.{length, getD, take, drop, set, length-take, length-drop}
-use lib.Seq.{getD-take, getD-drop, take-set-lt, take-set-le, drop-set-add, ext-getD}
+use lib.Seq.{getD-take, getD-drop, take-set-le, drop-set-add}
 use borrow.Author.Tests.{lt-ltb}
-use Rattle.image.specs.declared.Field.{Field}
 use Rattle.image.specs.Place.{Place, cell, lock, field, own, step}
 use Rattle.image.specs.Image.{Image, recordAt, indexOf, at, cellsOf, put}
 use Rattle.image.proofs.Apart.{length-ge}
@@ -37,16 +36,7 @@ module _ (n : ℕ) where
   unfolding cellsOf at indexOf
   cells-at m x h = rw (lt-ltb x 512 h) (getD-take 512 (drop 8 m) x 0 h ∙ getD-drop 8 m x 0)
 
-  pub cells-same : (D E : ℕ) (m o : Image) → Sized n D m → Sized n E o → ((x : ℕ) → x < 512 → at n m (cell x) ≡ at n o (cell x)) → cellsOf m ≡ cellsOf o
-  cells-same D E m o z y e =
-      let a = cells-length D m z in
-      ext-getD 0 (cellsOf m) (cellsOf o) (a ∙ sym (cells-length E o y)) (λ x h. let l : x < 512 = omega arith in cells-at m x l ∙ (e x l ∙ sym (cells-at o x l)))
-
-  -- ---- a store at a cell, and at any other place
-
-  pub cells-set : (m : Image) (x v : ℕ) → x < 512 → cellsOf (set m (indexOf n (cell x)) v) ≡ set (cellsOf m) x v
-  unfolding cellsOf indexOf
-  cells-set m x v h = ap (take 512) (drop-set-add 8 m x v) ∙ take-set-lt 512 (drop 8 m) x v h
+  -- ---- a store at a place that is no cell
 
   pub index-past : (p : Place) → isCell p ≡ false → 520 ≤ indexOf n p
   unfolding indexOf recordAt
@@ -58,15 +48,3 @@ module _ (n : ℕ) where
 
   pub cells-other : (left : ℕ) (m : Image) (p : Place) (v : ℕ) → isCell p ≡ false → cellsOf (put left m (indexOf n p) v) ≡ cellsOf m
   cells-other left m p v h = put-keeps cellsOf left m (indexOf n p) v (cells-past m (indexOf n p) v (index-past p h))
-
-  pub cells-lock : (left : ℕ) (m : Image) (b v : ℕ) → cellsOf (put left m (indexOf n (lock b)) v) ≡ cellsOf m
-  cells-lock left m b v = cells-other left m (lock b) v refl
-
-  pub cells-field : (left : ℕ) (m : Image) (f : Field) (d v : ℕ) → cellsOf (put left m (indexOf n (field f d)) v) ≡ cellsOf m
-  cells-field left m f d v = cells-other left m (field f d) v refl
-
-  pub cells-own : (left : ℕ) (m : Image) (d i v : ℕ) → cellsOf (put left m (indexOf n (own d i)) v) ≡ cellsOf m
-  cells-own left m d i v = cells-other left m (own d i) v refl
-
-  pub cells-step : (left : ℕ) (m : Image) (d i v : ℕ) → cellsOf (put left m (indexOf n (step d i)) v) ≡ cellsOf m
-  cells-step left m d i v = cells-other left m (step d i) v refl

@@ -51,9 +51,6 @@ module _ (n : ℕ) where
   pub header-all : (mark left : ℕ) (m : Image) (ss : List Store) → headerOk mark n (putAll n left m ss) ≡ headerOk mark n m
   header-all mark left m ss = all-keep (headerOk mark n) (header-store n mark) left m ss
 
-  pub sized-all : (D left : ℕ) (m : Image) (ss : List Store) → Sized n D m → Sized n D (putAll n left m ss)
-  sized-all D left m ss z = record { size = length-all left m ss ∙ z .size; has = workers-all left m ss ∙ z .has }
-
   -- ---- cuts
 
   pub putAll-none : (m : Image) (ss : List Store) → putAll n 0 m ss ≡ m

@@ -8,23 +8,22 @@ use mathlib.Core.List.{List, [], _∷_}
 use native.Mathlib.Decide.{ℕ-discrete}
 use native.Mathlib.Omega.{arith}
 use lib.Dec.{leb, ltb, eqb}
-use lib.ListN.{length, List·getD-eq-default}
+use lib.ListN.{length}
 use Rattle.base.proofs.Bools.{and-left, and-right}
 use Rattle.base.proofs.Counting.{left-step, left-none}
 use Rattle.image.specs.declared.Field.the-variants.{Count, Pc, Intent, Owned, Number, Finished}
-use Rattle.image.specs.Place.{field, step, valid, Memory}
-use Rattle.image.specs.Image.{Image, indexOf, at, workers, Inside, lengthOf}
+use Rattle.image.specs.Place.{field, Memory}
+use Rattle.image.specs.Image.{Image, at, workers, Inside, lengthOf}
 use Rattle.section.specs.declared.Op.{Op}
 use Rattle.section.specs.declared.Op.the-variants.{Acquire, Release, Assign, Jump, Finish, Unknown}
 use Rattle.section.specs.declared.Verdict.{Verdict}
 use Rattle.section.specs.declared.Verdict.the-variants.{Pass, Length}
-use Rattle.section.specs.Op.{byKind, opOf}
-use Rattle.section.specs.Table.{kindOf, fieldA, fieldB, fieldC}
+use Rattle.section.specs.Op.{opOf}
 use Rattle.section.specs.Check.{Code, inRange, heldAfter, heldBefore, check, passes}
 use Rattle.section.proofs.Facts.{check-parts}
 use Rattle.section.proofs.Held.{held-step}
 use Rattle.section.proofs.Passing.{passed-is}
-use Rattle.engine.proofs.Planned.{formed-range, range-kind}
+use Rattle.engine.proofs.Planned.{formed-range}
 use Rattle.engine.specs.Turn.{codeIn}
 use Rattle.recovery.specs.Recovery.{namedStep, namedOp, heldNext, owedBy, owed, sectionOk, entryOk, pcOk, covers, sound, unsound}
 use Rattle.recovery.specs.Repair.{Legible, Restorable, owedOf}

@@ -7,7 +7,7 @@ ghost use mathlib.Core.Path.{_≡_};
 ghost use mathlib.Core.Bool.{cond};
 ghost use Rattle.mask.specs.Mask.{with};
 ghost use Rattle.image.specs.Image.{at, workers, Inside};
-ghost use Rattle.engine.specs.Cursor.{stepNo, turnNo, allIdle};
+ghost use Rattle.engine.specs.Cursor.{stepNo, turnNo};
 ghost use Rattle.recovery.specs.Recovery.{unbegun, resumedAt, resumedAll};
 ghost use Rattle.recovery.specs.Repair.{Restorable, eight, owedAt, freedBy, withdrawnBy, repairOf, noRepair};
 

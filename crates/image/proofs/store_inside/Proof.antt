@@ -3,7 +3,6 @@ use borrow.Author.Needs.{needs}
 use mathlib.Core.Path.{refl}
 use native.Mathlib.Omega.{arith}
 use denote.Ref.{now}
-use lib.ListN.{length, length-set}
 use Rattle.image.specs.Image.{put}
 use Rattle.image.proofs.Stores.{put-lots}
 use Rattle.image.proofs.store_inside.Statement.{statement}
