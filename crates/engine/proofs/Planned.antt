@@ -13,7 +13,7 @@ use Rattle.base.proofs.Filling.{getD-inside}
 use Rattle.mask.specs.Mask.{with}
 use Rattle.image.specs.declared.Field.the-variants.{Count, Owned}
 use Rattle.image.specs.Place.{Place, field, Memory}
-use Rattle.section.specs.Table.{kindOf, turnsOf}
+use Rattle.section.specs.Table.{turnsOf}
 use Rattle.section.specs.Op.{opOf}
 use Rattle.section.specs.Fits.{fits}
 use Rattle.section.specs.Check.{inRange, inPlace, wellFormed}
@@ -82,13 +82,6 @@ private-tests false q r s t e = absurd (false≢true e)
 pub formed-range : (own k i w : ℕ) → wellFormed own k i w ≡ true → inRange own w ≡ true
 unfolding wellFormed
 formed-range own k i w e = and-left (inRange own w) (inPlace k i (opOf w)) e
-
--- the kind of a word in its ranges
-pub range-kind : (own w : ℕ) → inRange own w ≡ true → (1 ≤ kindOf w) × (kindOf w ≤ 8)
-unfolding inRange
-range-kind own w e =
-    let h = private-tests (leb 1 (kindOf w)) (leb (kindOf w) 8) _ _ _ e in
-    (leb-true 1 (kindOf w) (h .0), leb-true (kindOf w) 8 (h .1))
 
 -- ---- a cursor that is ready
 
