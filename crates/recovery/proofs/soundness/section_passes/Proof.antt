@@ -92,7 +92,7 @@ returns c =
     let same : (j : ℕ) → j < A .k → getD (L .words) j 0 ≡ code j = λ j l. L .inv .2 j (omega arith) in (
       c .passes .ensures ∙ ap passes (k .ensures .0 ∙ begins-checks (A .k) code (L .words) fits same (A .own)),
       λ t. begins-helds (A .k) code (L .words) fits same (k .last .1 .1 .0)
-      (λ j l. k .ensures .1 j ∙ left-passed _ _ _ _ j (ap passes (sym (k .ensures .0)) ∙ (sym (c .passes .ensures) ∙ t)) l),
+          (λ j l. k .ensures .1 j ∙ left-passed _ _ _ _ j (ap passes (sym (k .ensures .0)) ∙ (sym (c .passes .ensures) ∙ t)) l),
     )
 
 pub section-passes-spec : {M : Type 1} → statement M
