@@ -138,8 +138,8 @@ module _ (own n to round : ℕ) (s₀ s : Counting) (next d : ℕ) (l : Lap own 
   -- halted
   pub lap-halts : d < to → getD (s .world .cursors .turn) d 0 ≢ 255 → tested own (s .world) d ≡ false → sweep own n 0 s₀ ≡ halted (CursorRefused d) s
   lap-halts h o e =
-      let r = refused-at own (s .world) d (l .full) (omega (arith, l .top, l .few)) o e in
-      sym (l .same) ∙ (rw r at (sweep-halts n d (omega (arith, l .top)) own s (rw r refl)))
+      sym (l .same)
+      ∙ sweep-halts n d (omega (arith, l .top)) own s (CursorRefused d) (refused-at own (s .world) d (l .full) (omega (arith, l .top, l .few)) o e)
 
 -- ---- between rounds: from s₀ to s, with `to` the last open worker
 

@@ -2,21 +2,19 @@
 -- search for an open worker, a round or a run goes on from the place that it has reached.
 use Prim.Native.Nat.{ℕ, zero, suc, _+_, _-_, _<_, _≤_, _^_}
 use mathlib.Core.Path.{_≡_, refl}
-use mathlib.Core.Bool.{Bool, true, false, true≢false, false≢true}
+use mathlib.Core.Bool.{true, false, true≢false}
 use native.Mathlib.Omega.{arith}
 use Rattle.base.proofs.Counting.{left-step, left-none}
 use Rattle.image.specs.Image.{workers, headerOk}
 use Rattle.tally.specs.declared.Tally.{Tally}
 use Rattle.tally.specs.Tally.{none, Room}
-use Rattle.engine.specs.declared.Cursors.{Cursors}
 use Rattle.engine.specs.declared.Answer.{Answer}
 use Rattle.engine.specs.declared.Answer.the-variants.{Stored, Passed, Waiting, Idle, Refused}
 use Rattle.engine.specs.declared.Refusal.{Refusal}
 use Rattle.engine.specs.declared.Refusal.the-variants.{Image as ImageRefused}
 use Rattle.engine.specs.declared.End.the-variants.{AllIdle, Spent, Halted}
-use Rattle.engine.specs.Cursor.{isIdle, cursorAt}
 use Rattle.engine.specs.Turn.{Outcome, stored, jumped, unheld, waiting, resting, refused}
-use Rattle.engine.specs.Refusal.{isRefused, refusalOf}
+use Rattle.engine.specs.Refusal.{isRefused}
 use Rattle.engine.specs.World.{World, answerOf, leaves, outcomeAt}
 use Rattle.engine.specs.Run.{anyOpen, counted, countedAs, Counting, counting, Ran, ran, Sweep, through, halted, turned, swept, sweep, afterSweep, roundsOf, runOf}
 
@@ -54,10 +52,6 @@ module _ (n : ℕ) where
   counted-as resting t = refl
   counted-as (refused r) t = refl
 
-  -- what the code's test of the answer says of the turn
-  pub tested : (o : Outcome) {a : Answer} {r b : Bool} → a ≡ answerOf n o → r ≡ isRefused a → r ≡ b → isRefused (answerOf n o) ≡ b
-  tested o e f g = cc
-
   -- a turn that is not refused goes on
   swept-on : (o : Outcome) (s : Counting) (more : Sweep) → isRefused (answerOf n o) ≡ false → swept n o s more ≡ more
   swept-on (stored p v c) s more e = refl
@@ -66,24 +60,6 @@ module _ (n : ℕ) where
   swept-on (waiting b) s more e = refl
   swept-on resting s more e = refl
   swept-on (refused r) s more e = absurd (true≢false e)
-
-  -- one that is halts the round
-  swept-halts : (o : Outcome) (s : Counting) (more : Sweep) → isRefused (answerOf n o) ≡ true → swept n o s more ≡ halted (refusalOf (answerOf n o)) s
-  swept-halts (stored p v c) s more e = absurd (false≢true e)
-  swept-halts (jumped c) s more e = absurd (false≢true e)
-  swept-halts (unheld c) s more e = absurd (false≢true e)
-  swept-halts (waiting b) s more e = absurd (false≢true e)
-  swept-halts resting s more e = absurd (false≢true e)
-  swept-halts (refused r) s more e = refl
-
-  -- and leaves all as it was
-  pub refused-leaves : (w : World) (d : ℕ) (o : Outcome) → isRefused (answerOf n o) ≡ true → leaves n w d o ≡ w
-  refused-leaves w d (stored p v c) e = absurd (false≢true e)
-  refused-leaves w d (jumped c) e = absurd (false≢true e)
-  refused-leaves w d (unheld c) e = absurd (false≢true e)
-  refused-leaves w d (waiting b) e = absurd (false≢true e)
-  refused-leaves w d resting e = absurd (false≢true e)
-  refused-leaves w d (refused r) e = refl
 
   -- what a turn and its count leave is the counted turn
   pub turned-is : (s : Counting) (d : ℕ) (w : World) (a : Answer) (t : Tally)
@@ -98,13 +74,9 @@ module _ (k d : ℕ) (h : d < k) where
   unfolding sweep
   sweep-on n s e = rw (left-step k d h) (swept-on n (outcomeAt n (s .world) d) s (sweep n (k - (d + 1)) (d + 1) (turned n s d)) e)
 
-  pub sweep-halts : (n : ℕ) (s : Counting) → isRefused (answerOf n (outcomeAt n (s .world) d)) ≡ true → sweep n (k - d) d s ≡ halted (refusalOf (answerOf n (outcomeAt n (s .world) d))) s
+  pub sweep-halts : (n : ℕ) (s : Counting) (r : Refusal) → outcomeAt n (s .world) d ≡ refused r → sweep n (k - d) d s ≡ halted r s
   unfolding sweep
-  sweep-halts n s e = rw (left-step k d h) (swept-halts n (outcomeAt n (s .world) d) s (sweep n (k - (d + 1)) (d + 1) (turned n s d)) e)
-
-pub sweep-none : (n k d : ℕ) (s : Counting) → k ≤ d → sweep n (k - d) d s ≡ through s
-unfolding sweep
-sweep-none n k d s h = rw (left-none k d h)
+  sweep-halts n s r e = rw (left-step k d h, e)
 
 -- ---- the rounds from i on, of k
 

@@ -1,5 +1,4 @@
--- One turn: what the code's plan of it does is what its outcome says, and the image keeps its number of workers. With it
--- the three tests of `turn`, one equation for each.
+-- One turn: what the code's plan of it does is what its outcome says. With it the three tests of `turn`, one equation for each.
 use Prim.Native.Nat.{ℕ, zero, suc, _+_, _<_, _≤_}
 use borrow.Author.Tests.{lt-ltb, le-ltb}
 use mathlib.Core.Path.{_≡_, refl}
@@ -12,7 +11,6 @@ use Rattle.section.specs.declared.Op.the-variants.{Acquire, Release, Assign, Ju
 use Rattle.section.specs.Op.{opOf}
 use Rattle.section.specs.Fits.{fits}
 use Rattle.image.specs.Image.{workers, headerOk}
-use Rattle.image.proofs.Stores.{workers-store}
 use Rattle.engine.specs.declared.Refusal.the-variants.{Worker, Image as ImageRefused}
 use Rattle.engine.specs.Cursor.{Cursor, on, cursorAt}
 use Rattle.engine.specs.Turn.{Outcome, stored, jumped, unheld, waiting, resting, refused, codeIn, logged, acquireTurn, finishTurn, opTurn, ready, turnAt}
@@ -98,18 +96,6 @@ module _ (n : ℕ) where
   plan-leaves w d (waiting b) = refl
   plan-leaves w d resting = refl
   plan-leaves w d (refused r) = refl
-
-  workers-leaves : (w : World) (d : ℕ) (o : Outcome) → workers (leaves n w d o .image) ≡ workers (w .image)
-  workers-leaves w d (stored p v c) = workers-store n (w .left) (w .image) p v
-  workers-leaves w d (jumped c) = refl
-  workers-leaves w d (unheld c) = refl
-  workers-leaves w d (waiting b) = refl
-  workers-leaves w d resting = refl
-  workers-leaves w d (refused r) = refl
-
-  -- a turn keeps the number of workers
-  pub workers-turn : (w v : World) (d : ℕ) (o : Outcome) → v ≡ leaves n w d o → workers (v .image) ≡ workers (w .image)
-  workers-turn w v d o e = rw e (workers-leaves w d o)
 
 -- ---- causes 10 and 1, or the turn
 

@@ -1,8 +1,8 @@
 -- Where the workers stand. (Document 01: working places, kept in one working record.)
-use Prim.Native.Nat.{ℕ}
+use Prim.Native.Nat.{ℕ, _<_}
+use mathlib.Core.Path.{_≡_}
 use mathlib.Core.Bool.{Bool, true, false, cond}
-use mathlib.Core.List.{List}
-use lib.ListN.{getD, set, replicate}
+use lib.ListN.{length, getD, set, replicate}
 use lib.Dec.{eqb}
 use Rattle.engine.specs.declared.Cursors.{Cursors}
 
@@ -24,10 +24,6 @@ abbrev pub turnNo : Cursor → ℕ
 turnNo idle = 255
 turnNo (on s t) = t
 
--- the record with these steps and turns
-abbrev pub standing : List ℕ → List ℕ → Cursors
-standing s t = record { step = s; turn = t }
-
 -- worker d's cursor; idle where the record has no such worker
 unfoldable pub cursorAt : Cursors → ℕ → Cursor
 cursorAt c d = cond (eqb (getD (c .turn) d 255) 255) idle (on (getD (c .step) d 0) (getD (c .turn) d 255))
@@ -42,3 +38,9 @@ placed c d x = setAt c d (stepNo x) (turnNo x)
 
 unfoldable pub allIdle : Cursors
 allIdle = record { step = replicate 8 0; turn = replicate 8 255 }
+
+-- the record has worker d, with these numbers
+pub record At (c : Cursors) (d s t : ℕ) : Type 0 where
+  pub inside : d < length (c .turn)
+  pub step : getD (c .step) d 0 ≡ s
+  pub turn : getD (c .turn) d 0 ≡ t

@@ -1,6 +1,7 @@
 pub mod Edition
 pub mod Cursor
 pub mod Refusal
+pub mod Codes
 pub mod Turn
 pub mod World
 pub mod Format

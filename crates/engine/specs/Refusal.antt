@@ -1,4 +1,4 @@
--- Document 01's numbers and values for refusals and answers.
+-- Document 01's numbers and values for refusals.
 use Prim.Native.Nat.{ℕ}
 use mathlib.Core.Bool.{Bool, true, false}
 use Rattle.section.specs.Check.{causeOf as sectionCause, stepOf}
@@ -25,25 +25,9 @@ valueOf (Section v) = stepOf v
 valueOf Image = 0
 valueOf (Cursor d) = d
 
--- the index of a store, the lock waited for, or the cause; 0 where there is none
-abbrev pub answerValue : Answer → ℕ
-answerValue (Stored i) = i
-answerValue Passed = 0
-answerValue (Waiting b) = b
-answerValue Idle = 0
-answerValue (Refused r) = causeOf r
-
 abbrev pub isRefused : Answer → Bool
 isRefused (Stored i) = false
 isRefused Passed = false
 isRefused (Waiting b) = false
 isRefused Idle = false
 isRefused (Refused r) = true
-
--- the refusal of a refused turn
-abbrev pub refusalOf : Answer → Refusal
-refusalOf (Stored i) = Image
-refusalOf Passed = Image
-refusalOf (Waiting b) = Image
-refusalOf Idle = Image
-refusalOf (Refused r) = r

@@ -1,5 +1,6 @@
 -- What the calls read and change: the image, the working record and the stores left; and what one turn leaves of it.
 use Prim.Native.Nat.{ℕ, _-_}
+use mathlib.Core.Path.{_≡_}
 use mathlib.Core.Bool.{cond}
 use lib.Dec.{ltb}
 use Rattle.image.specs.Image.{Image, indexOf, at, workers, headerOk, put}
@@ -11,7 +12,7 @@ use Rattle.engine.specs.declared.Answer.the-variants.{Stored, Passed, Wa
 use Rattle.engine.specs.declared.Did.{Did}
 use Rattle.engine.specs.declared.Did.the-variants.{Stored as DidStore, Passed as DidPass, Waiting as DidWait}
 use Rattle.engine.specs.declared.Plan.{Plan}
-use Rattle.engine.specs.declared.Plan.the-variants.{Store, Pass, Wait, Rest, Refuse}
+use Rattle.engine.specs.declared.Plan.the-variants.{Store, Pass, Wait}
 use Rattle.engine.specs.Cursor.{stepNo, turnNo, cursorAt, setAt, placed}
 use Rattle.engine.specs.Turn.{Outcome, stored, jumped, unheld, waiting, resting, refused, turnAt}
 
@@ -48,23 +49,22 @@ outcomeAt n w d = turnAt n (at n (w .image)) d (cursorAt (w .cursors) d)
 unfoldable pub outcome : ℕ → ℕ → World → ℕ → Outcome
 outcome mark n w d = cond (headerOk mark n (w .image)) (cond (ltb d (workers (w .image))) (outcomeAt n w d) (refused Worker)) (refused ImageRefused)
 
--- ---- how the code says an outcome: the index in place of the place, and the cursor after it by its two numbers
+-- ---- how the code says the outcome of an open worker that is not refused: the index in place of the place, and the cursor after
+-- it by its two numbers. The last two cases, which are no such outcome's, are there for totality; nothing is done at them.
 
 abbrev pub planOf : ℕ → Outcome → Plan
 planOf n (stored p v c) = Store (indexOf n p) v (stepNo c) (turnNo c)
 planOf n (jumped c) = Pass (stepNo c) (turnNo c)
 planOf n (unheld c) = Pass (stepNo c) (turnNo c)
 planOf n (waiting b) = Wait b
-planOf n resting = Rest
-planOf n (refused r) = Refuse r
+planOf n resting = Wait 0
+planOf n (refused r) = Wait 0
 
--- what the turn of a plan did; it matters where the turn is made, so not for a worker that is idle or refused
+-- what the turn of a plan did
 abbrev pub planDid : Plan → Did
 planDid (Store i v s t) = DidStore i
 planDid (Pass s t) = DidPass
 planDid (Wait b) = DidWait b
-planDid Rest = DidPass
-planDid (Refuse r) = DidPass
 
 abbrev pub didAnswer : Did → Answer
 didAnswer (DidStore i) = Stored i
@@ -75,5 +75,8 @@ abbrev pub planLeaves : World → ℕ → Plan → World
 planLeaves w d (Store i v s t) = world (put (w .left) (w .image) i v) (setAt (w .cursors) d s t) (w .left - 1)
 planLeaves w d (Pass s t) = world (w .image) (setAt (w .cursors) d s t) (w .left)
 planLeaves w d (Wait b) = w
-planLeaves w d Rest = w
-planLeaves w d (Refuse r) = w
+
+-- worker d's turn did this, and left that world
+pub record Acts (n : ℕ) (w : World) (d : ℕ) (x : Did) (v : World) : Type 0 where
+  pub did : x ≡ planDid (planOf n (outcomeAt n w d))
+  pub after : v ≡ leaves n w d (outcomeAt n w d)

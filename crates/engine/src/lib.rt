@@ -4,9 +4,9 @@ use section::Verdict;
 use tally::Tally;
 
 pub mod asking;
+pub mod codes;
 mod formatting;
 mod log;
-mod once;
 mod planning;
 mod running;
 mod steps;
@@ -17,9 +17,8 @@ pub mod words;
 pub mod working;
 
 ghost use mathlib.Core.Path.{_≡_};
-ghost use lib.ListN.{length};
 ghost use Rattle.engine.specs.Edition.{mark, ownWords};
-ghost use Rattle.engine.specs.Cursor.{allIdle, standing};
+ghost use Rattle.engine.specs.Cursor.{allIdle};
 ghost use Rattle.engine.specs.Refusal.{causeOf, valueOf};
 ghost use Rattle.engine.specs.World.{world, answerOf, leaves, outcome};
 ghost use Rattle.engine.specs.Format.{imageWords, formatAnswer, formatLeaves, formatLeft};
@@ -59,7 +58,7 @@ pub enum Answer {
     Stored(usize),
     // There was nothing to store.
     Passed,
-    // The lock is another's.
+    // The lock is not free: its owner word is not 0.
     Waiting(u64),
     Idle,
     Refused(Refusal),
@@ -72,8 +71,8 @@ enum Did {
     Waiting(u64),
 }
 
-// What a turn is to do, worked out before anything is stored: a store, or none, with the cursor after it; to wait at a
-// lock; nothing, where the worker is idle; or to refuse.
+// What the turn of an open worker that is not refused is to do, worked out before anything is stored: a store, or none, with
+// the cursor after it; or to wait at a lock.
 enum Plan {
     Store {
         at: usize,
@@ -86,8 +85,13 @@ enum Plan {
         turn: u8,
     },
     Wait(u64),
-    Rest,
-    Refuse(Refusal),
+}
+
+// What it did, and the step and turn behind it.
+struct Acted {
+    did: Did,
+    step: u8,
+    turn: u8,
 }
 
 pub struct Turned {
@@ -120,12 +124,6 @@ pub enum End {
     AllIdle,
     Spent,
     Halted(Refusal),
-}
-
-// How rounds end, and what they count.
-pub struct Over {
-    pub end: End,
-    pub tally: Tally,
 }
 
 pub struct Ran {
@@ -238,94 +236,56 @@ pub fn submit(
     }
 }
 
-// One turn of worker d, on steps and turns of eight workers.
-fn turn_in(image: &mut [u64], step: &mut [u8], turn: &mut [u8], d: usize, left: &mut u64) -> Answer
-    requires { ⌜ (length (now step) ≡ 8) × (length (now turn) ≡ 8) ⌝ }
-    ensures answer { λ r. ⌜ r ≡ answerOf ownWords (outcome mark ownWords (world (now (image .entry)) (standing (now (step .entry)) (now (turn .entry))) (now (left .entry))) d) ⌝ }
-    ensures after { λ r. ⌜ world (now (image .exit)) (standing (now (step .exit)) (now (turn .exit))) (now (left .exit))
-        ≡ leaves ownWords (world (now (image .entry)) (standing (now (step .entry)) (now (turn .entry))) (now (left .entry))) d
-        (outcome mark ownWords (world (now (image .entry)) (standing (now (step .entry)) (now (turn .entry))) (now (left .entry))) d) ⌝ }
-{
-    if !image::header_ok(image, MARK, OWN) {
-        return Answer::Refused(Refusal::Image);
-    }
-    if image::workers(image) <= d as u64 {
-        return Answer::Refused(Refusal::Worker);
-    }
-    if turn[d] == 255 {
-        return Answer::Idle;
-    }
-    if !planning::ready(image, d, OWN, step[d], turn[d]) {
-        return Answer::Refused(Refusal::Cursor(d));
-    }
-    turning::answer(once::turn_on(image, step, turn, d, OWN, left))
-}
-
-// One turn of worker d, the cursors lent: its two numbers are read and written where they stand.
-pub fn turn_lent(
-    image: &mut [u64],
-    step: &mut [u8; 8],
-    turn: &mut [u8; 8],
-    d: usize,
-    left: &mut u64,
-) -> Answer
-    ensures answer { λ r. ⌜ r ≡ answerOf ownWords (outcome mark ownWords (world (now (image .entry)) (standing (now (step .entry)) (now (turn .entry))) (now (left .entry))) d) ⌝ }
-    ensures after { λ r. ⌜ world (now (image .exit)) (standing (now (step .exit)) (now (turn .exit))) (now (left .exit))
-        ≡ leaves ownWords (world (now (image .entry)) (standing (now (step .entry)) (now (turn .entry))) (now (left .entry))) d
-        (outcome mark ownWords (world (now (image .entry)) (standing (now (step .entry)) (now (turn .entry))) (now (left .entry))) d) ⌝ }
-{
-    turn_in(image, step, turn, d, left)
-}
-
 // One turn of worker d.
 pub fn turn(image: &mut [u64], c: Cursors, d: usize, left: &mut u64) -> Turned
     ensures answer { λ r. ⌜ r .answer ≡ answerOf ownWords (outcome mark ownWords (world (now (image .entry)) c (now (left .entry))) d) ⌝ }
     ensures after { λ r. ⌜ world (now (image .exit)) (r .cursors) (now (left .exit))
         ≡ leaves ownWords (world (now (image .entry)) c (now (left .entry))) d (outcome mark ownWords (world (now (image .entry)) c (now (left .entry))) d) ⌝ }
 {
-    let mut step = c.step;
-    let mut turn = c.turn;
-    let answer = turn_lent(image, &mut step, &mut turn, d, left);
-    Turned {
-        answer: answer,
-        cursors: Cursors { step, turn },
-    }
-}
-
-// Rounds of turns until all workers are idle, the cursors lent. The header is tested once.
-pub fn run_lent(
-    image: &mut [u64],
-    step: &mut [u8; 8],
-    turn: &mut [u8; 8],
-    rounds: u16,
-    left: &mut u64,
-) -> Over
-    ensures { λ r. ⌜ ran (r .end) (counting (world (now (image .exit)) (standing (now (step .exit)) (now (turn .exit))) (now (left .exit))) (r .tally))
-        ≡ runOf mark ownWords (world (now (image .entry)) (standing (now (step .entry)) (now (turn .entry))) (now (left .entry))) rounds ⌝ }
-{
     if !image::header_ok(image, MARK, OWN) {
-        return Over {
-            end: End::Halted(Refusal::Image),
-            tally: tally::zero(),
+        return Turned {
+            answer: Answer::Refused(Refusal::Image),
+            cursors: c,
         };
     }
-    let n = image::workers(image) as usize;
-    running::rounds_of(image, step, turn, n, OWN, rounds, left)
+    if image::workers(image) <= d as u64 {
+        return Turned {
+            answer: Answer::Refused(Refusal::Worker),
+            cursors: c,
+        };
+    }
+    if c.turn[d] == 255 {
+        return Turned {
+            answer: Answer::Idle,
+            cursors: c,
+        };
+    }
+    if !planning::ready(image, d, OWN, c.step[d], c.turn[d]) {
+        return Turned {
+            answer: Answer::Refused(Refusal::Cursor(d)),
+            cursors: c,
+        };
+    }
+    let acted = turning::turn_on(image, d, c.step[d], c.turn[d], OWN, left);
+    let did = acted.did;
+    Turned {
+        answer: turning::answer(did),
+        cursors: working::place(c, d, acted.step, acted.turn),
+    }
 }
 
-// Rounds of turns until all workers are idle.
+// Rounds of turns until all workers are idle. The header is tested once.
 pub fn run(image: &mut [u64], c: Cursors, rounds: u16, left: &mut u64) -> Ran
     ensures { λ r. ⌜ ran (r .end) (counting (world (now (image .exit)) (r .cursors) (now (left .exit))) (r .tally))
         ≡ runOf mark ownWords (world (now (image .entry)) c (now (left .entry))) rounds ⌝ }
 {
-    let mut step = c.step;
-    let mut turn = c.turn;
-    let over = run_lent(image, &mut step, &mut turn, rounds, left);
-    let end = over.end;
-    let tally = over.tally;
-    Ran {
-        end: end,
-        cursors: Cursors { step, turn },
-        tally: tally,
+    if !image::header_ok(image, MARK, OWN) {
+        return Ran {
+            end: End::Halted(Refusal::Image),
+            cursors: c,
+            tally: tally::zero(),
+        };
     }
+    let n = image::workers(image) as usize;
+    running::rounds_of(image, c, n, OWN, rounds, left)
 }

@@ -1,31 +1,31 @@
 // Rounds of turns over the workers.
+use crate::Cursors;
 use crate::Did;
 use crate::End;
-use crate::Over;
+use crate::Ran;
 use crate::Refusal;
 use crate::planning;
 use crate::turning;
+use crate::working;
 use tally::Tally;
 ghost use mathlib.Core.Path.{_≡_};
-ghost use Prim.Native.Nat.{ℕ, _+_, _<_, _≤_};
+ghost use Prim.Native.Nat.{_+_, _<_, _≤_};
 ghost use mathlib.Core.Bool.{cond};
-ghost use mathlib.Core.List.{List};
 ghost use lib.Dec.{eqb};
 ghost use lib.ListN.{length};
 ghost use Rattle.image.specs.Image.{workers, lengthOf};
 ghost use Rattle.tally.specs.Tally.{none, Room};
-ghost use Rattle.engine.specs.Cursor.{standing};
 ghost use Rattle.engine.specs.World.{world, didAnswer};
 ghost use Rattle.engine.specs.Run.{countedAs, counting, openTo, ran, roundsOf};
 
 // The workers up to the last open one, of n.
-fn open_to(turn: &[u8], n: usize) -> usize
-    requires { ⌜ n ≤ length (now turn) ⌝ }
-    ensures { λ r. ⌜ ((s : List ℕ) → r ≡ openTo n (standing s (now (turn .entry)))) ⌝ }
+fn open_to(c: Cursors, n: usize) -> usize
+    requires { ⌜ n ≤ 8 ⌝ }
+    ensures { λ r. ⌜ r ≡ openTo n c ⌝ }
 {
     let mut k = n;
     while 0 < k {
-        if turn[k - 1] != 255 {
+        if c.turn[k - 1] != 255 {
             return k;
         }
         k -= 1;
@@ -60,21 +60,20 @@ fn counted(x: Did, t: Tally) -> Tally
 // those above the last open one are not looked at.
 pub fn rounds_of(
     image: &mut [u64],
-    step: &mut [u8],
-    turn: &mut [u8],
+    cursors: Cursors,
     n: usize,
     own: usize,
     rounds: u16,
     left: &mut u64,
-) -> Over
-    requires { ⌜ (own ≤ 64) × (n ≡ workers (now image)) × (n ≤ 8) × (length (now step) ≡ 8) × (length (now turn) ≡ 8)
-        × (length (now image) ≡ lengthOf own n) ⌝ }
-    ensures { λ r. ⌜ ran (r .end) (counting (world (now (image .exit)) (standing (now (step .exit)) (now (turn .exit))) (now (left .exit))) (r .tally))
-        ≡ roundsOf own rounds n (counting (world (now (image .entry)) (standing (now (step .entry)) (now (turn .entry))) (now (left .entry))) none) ⌝ }
+) -> Ran
+    requires { ⌜ (own ≤ 64) × (n ≡ workers (now image)) × (n ≤ 8) × (length (now image) ≡ lengthOf own n) ⌝ }
+    ensures { λ r. ⌜ ran (r .end) (counting (world (now (image .exit)) (r .cursors) (now (left .exit))) (r .tally))
+        ≡ roundsOf own rounds n (counting (world (now (image .entry)) cursors (now (left .entry))) none) ⌝ }
 {
+    let mut c = cursors;
     let mut tally = tally::zero();
     let mut round: u16 = 0;
-    let mut to = open_to(turn, n);
+    let mut to = open_to(c, n);
     let end = 'rounds: loop {
         if to == 0 {
             break End::AllIdle;
@@ -85,8 +84,8 @@ pub fn rounds_of(
         let mut next: usize = 0;
         let mut d: usize = 0;
         while d < to {
-            let s = step[d];
-            let t = turn[d];
+            let s = c.step[d];
+            let t = c.turn[d];
             if t == 255 {
                 d += 1;
                 continue;
@@ -94,16 +93,20 @@ pub fn rounds_of(
             if !planning::ready_in(image, d, own, s, t, round) {
                 break 'rounds End::Halted(Refusal::Cursor(d));
             }
-            let did = turning::turn_on(image, step, turn, d, own, left);
+            let acted = turning::turn_on(image, d, s, t, own, left);
+            c.step[d] = acted.step;
+            c.turn[d] = acted.turn;
+            let did = acted.did;
             tally = counted(did, tally);
-            next = open_with(turn[d], d, next);
+            next = open_with(c.turn[d], d, next);
             d += 1;
         }
         to = next;
         round += 1;
     };
-    Over {
+    Ran {
         end: end,
+        cursors: c,
         tally: tally,
     }
 }

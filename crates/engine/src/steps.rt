@@ -1,6 +1,5 @@
 // One turn of an instruction: the store that document 01 names, as a plan.
 use crate::Plan;
-use crate::Refusal;
 use crate::log;
 use crate::words;
 use image::Field;
@@ -153,6 +152,6 @@ pub fn op_turn(image: &[u64], d: usize, own: usize, s: u8, t: u8, x: Op) -> Plan
         Op::Assign(a, e) => assign_turn(image, d, own, a, e, s, t),
         Op::Jump(a, b) => jump_turn(image, d, own, a, b, s),
         Op::Finish => finish_turn(image, d, own, s, t),
-        Op::Unknown => Plan::Refuse(Refusal::Cursor(d)),
+        Op::Unknown => Plan::Wait(0),
     }
 }

@@ -1,75 +1,59 @@
-// One turn of an open worker: its plan, and at most one store. The steps and turns are lent, so that a turn writes its own
-// worker's numbers and no other.
+// One turn of an open worker: its plan, at most one store, and the record with the step and turn that the plan names.
+use crate::Acted;
 use crate::Answer;
 use crate::Did;
 use crate::Plan;
 use crate::planning;
 ghost use mathlib.Core.Path.{_≡_};
-ghost use Prim.Native.Nat.{_<_};
 ghost use mathlib.Core.Bool.{true};
-ghost use lib.ListN.{length, getD};
+ghost use Prim.Native.Nat.{ℕ};
 ghost use Rattle.image.specs.Image.{at, Inside};
-ghost use Rattle.engine.specs.Cursor.{standing};
 ghost use Rattle.engine.specs.Turn.{ready};
-ghost use Rattle.engine.specs.World.{world, leaves, outcomeAt, planOf, planDid, didAnswer, planLeaves};
+ghost use Rattle.engine.specs.declared.Cursors.{Cursors};
+ghost use Rattle.engine.specs.Cursor.{At, setAt};
+ghost use Rattle.engine.specs.World.{world, Acts, planDid, didAnswer, planLeaves};
 
-// A plan done.
-pub fn done(
-    image: &mut [u64],
-    step: &mut [u8],
-    turn: &mut [u8],
-    p: Plan,
-    d: usize,
-    left: &mut u64,
-) -> Did
-    requires { ⌜ (d < length (now step)) × (d < length (now turn)) ⌝ }
-    ensures did { λ r. ⌜ r ≡ planDid p ⌝ }
-    ensures after { λ r. ⌜ world (now (image .exit)) (standing (now (step .exit)) (now (turn .exit))) (now (left .exit))
-        ≡ planLeaves (world (now (image .entry)) (standing (now (step .entry)) (now (turn .entry))) (now (left .entry))) d p ⌝ }
+// A plan done, with the step and turn behind it: the plan's, or where it waits those that the worker has.
+pub fn done(image: &mut [u64], p: Plan, s: u8, t: u8, left: &mut u64) -> Acted
+    ensures did { λ r. ⌜ r .did ≡ planDid p ⌝ }
+    ensures after { λ r. ⌜ ((c : Cursors) (d : ℕ) → At c d s t
+        → world (now (image .exit)) (setAt c d (r .step) (r .turn)) (now (left .exit)) ≡ planLeaves (world (now (image .entry)) c (now (left .entry))) d p) ⌝ }
 {
     match p {
         Plan::Store {
             at,
             value,
-            step: s,
-            turn: t,
+            step,
+            turn,
         } => {
             image::store(image, at, value, left);
-            step[d] = s;
-            turn[d] = t;
-            Did::Stored(at)
+            Acted {
+                did: Did::Stored(at),
+                step: step,
+                turn: turn,
+            }
         }
-        Plan::Pass { step: s, turn: t } => {
-            step[d] = s;
-            turn[d] = t;
-            Did::Passed
-        }
-        Plan::Wait(b) => Did::Waiting(b),
-        Plan::Rest => Did::Passed,
-        Plan::Refuse(_) => Did::Passed,
+        Plan::Pass { step, turn } => Acted {
+            did: Did::Passed,
+            step: step,
+            turn: turn,
+        },
+        Plan::Wait(b) => Acted {
+            did: Did::Waiting(b),
+            step: s,
+            turn: t,
+        },
     }
 }
 
-// The turn of worker d, which is ready, in a run; once.rt has that of a turn call.
-pub fn turn_on(
-    image: &mut [u64],
-    step: &mut [u8],
-    turn: &mut [u8],
-    d: usize,
-    own: usize,
-    left: &mut u64,
-) -> Did
-    requires { ⌜ (Inside own (now image) d) × (d < length (now step)) × (d < length (now turn))
-        × (ready own (at own (now image)) d (getD (now step) d 0) (getD (now turn) d 0) ≡ true) ⌝ }
-    ensures did { λ r. ⌜ r ≡ planDid (planOf own (outcomeAt own (world (now (image .entry)) (standing (now (step .entry)) (now (turn .entry))) (now (left .entry))) d)) ⌝ }
-    ensures after { λ r. ⌜ world (now (image .exit)) (standing (now (step .exit)) (now (turn .exit))) (now (left .exit))
-        ≡ leaves own (world (now (image .entry)) (standing (now (step .entry)) (now (turn .entry))) (now (left .entry))) d
-        (outcomeAt own (world (now (image .entry)) (standing (now (step .entry)) (now (turn .entry))) (now (left .entry))) d) ⌝ }
+// The turn of worker d, which is ready at step s, turn t.
+pub fn turn_on(image: &mut [u64], d: usize, s: u8, t: u8, own: usize, left: &mut u64) -> Acted
+    requires { ⌜ (Inside own (now image) d) × (ready own (at own (now image)) d s t ≡ true) ⌝ }
+    ensures { λ r. ⌜ ((c : Cursors) → At c d s t
+        → Acts own (world (now (image .entry)) c (now (left .entry))) d (r .did) (world (now (image .exit)) (setAt c d (r .step) (r .turn)) (now (left .exit)))) ⌝ }
 {
-    let s = step[d];
-    let t = turn[d];
     let p = planning::plan(image, d, own, s, t);
-    done(image, step, turn, p, d, left)
+    done(image, p, s, t, left)
 }
 
 // What it answers.

@@ -36,7 +36,8 @@ use Rattle.engine.specs.Submit.{verdictAnswer, isTaken, free, submitAnswer}
 use Rattle.engine.specs.Run.{Counting, counting, Ran, Sweep, through, halted, anyOpen, turned, swept, sweep, afterSweep, roundsOf, runOf}
 use Rattle.recovery.specs.Recovery.{Recovered, accepted, misshapen, unsoundRecord, wrongLock}
 use Rattle.recovery.specs.Recover.{isDone, answerOf}
-use Rattle.zilpanud.specs.Codes.{formatCode, checkCode, submitCode, turnCode, turnDetail, endCode, recoverCode}
+use Rattle.engine.specs.Codes.{formatCode, submitCode, turnCode, turnDetail, endCode}
+use Rattle.zilpanud.specs.Codes.{checkCode, recoverCode}
 use Rattle.zilpanud.specs.Lent.{formatting, submitting, running}
 
 -- ---- turns

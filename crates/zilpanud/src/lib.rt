@@ -1,12 +1,12 @@
 // What C and Rust link: the engine's entry points and three questions, over slices, arrays and numbers. An answer crosses as a
-// number and a detail (codes.rt); the cursors as two arrays, a step and a turn for each worker.
+// number and a detail (codes.rt, and the engine's); the cursors as two arrays, a step and a turn for each worker.
 mod asking;
 mod codes;
 mod cursors;
 
 ghost use mathlib.Core.Path.{_≡_};
-ghost use Rattle.zilpanud.specs.Codes.{formatCode, checkCode, checkDetail, submitCode, submitDetail};
-ghost use Rattle.zilpanud.specs.Codes.{turnCode, turnDetail, endCode, endDetail, recoverCode, recoverDetail};
+ghost use Rattle.engine.specs.Codes.{formatCode, submitCode, submitDetail, turnCode, turnDetail, endCode, endDetail};
+ghost use Rattle.zilpanud.specs.Codes.{checkCode, checkDetail, recoverCode, recoverDetail};
 ghost use Rattle.zilpanud.specs.Lent.{cursors, lent, formatting, formatsTo, checking, submitting, submitsTo};
 ghost use Rattle.zilpanud.specs.Lent.{turning, turnsTo, running, counts, recovering, recoversTo};
 ghost use Rattle.zilpanud.specs.Ask.{askCode, told, idleBit, finishedNo, stands};
@@ -33,7 +33,7 @@ pub extern "C" fn zilpanud_format(
     let next = r.cursors;
     cursors::leave(next, step, turn);
     let a = r.answer;
-    codes::format_code(a)
+    engine::codes::format_code(a)
 }
 
 // The check of a section: 0, or 4 to 9, with the step.
@@ -72,8 +72,8 @@ pub extern "C" fn zilpanud_submit(
     let placed = r.cursors;
     cursors::leave(placed, step, turn);
     let a = r.answer;
-    *detail = codes::submit_detail(a);
-    codes::submit_code(a)
+    *detail = engine::codes::submit_detail(a);
+    engine::codes::submit_code(a)
 }
 
 // One turn of a worker: 16 stored, with the index, 17 passed, 18 waiting, with the lock, 19 idle; or 10, 1, 11 with the worker.
@@ -92,9 +92,13 @@ pub extern "C" fn zilpanud_turn(
     ensures after { λ r. ⌜ lent (now (image .exit)) (now (step .exit)) (now (turn .exit)) (now (left .exit))
         ≡ turnsTo (lent (now (image .entry)) (now (step .entry)) (now (turn .entry)) (now (left .entry))) worker ⌝ }
 {
-    let a = engine::turn_lent(image, step, turn, worker, left);
-    *detail = codes::turn_detail(a);
-    codes::turn_code(a)
+    let c = cursors::lent(step, turn);
+    let r = engine::turn(image, c, worker, left);
+    let next = r.cursors;
+    cursors::leave(next, step, turn);
+    let a = r.answer;
+    *detail = engine::codes::turn_detail(a);
+    engine::codes::turn_code(a)
 }
 
 // Rounds of turns until all workers are idle: 0, 20 spent; or 10, 11 with the worker. The tally: turns, waits, stores.
@@ -116,12 +120,15 @@ pub extern "C" fn zilpanud_run(
     ensures tally { λ r. ⌜ now (tally .exit)
         ≡ counts (running (lent (now (image .entry)) (now (step .entry)) (now (turn .entry)) (now (left .entry))) rounds .after .tally) ⌝ }
 {
-    let r = engine::run_lent(image, step, turn, rounds, left);
+    let c = cursors::lent(step, turn);
+    let r = engine::run(image, c, rounds, left);
+    let next = r.cursors;
+    cursors::leave(next, step, turn);
     let n = r.tally;
     *tally = [n.turns, n.waits, n.stores];
     let e = r.end;
-    *detail = codes::end_detail(e);
-    codes::end_code(e)
+    *detail = engine::codes::end_detail(e);
+    engine::codes::end_code(e)
 }
 
 // Recovers an image after a cut: 0, or 10, 12 with the worker, 13 with the lock. The arrays are lent for the new cursors alone.

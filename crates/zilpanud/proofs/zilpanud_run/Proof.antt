@@ -2,13 +2,19 @@
 use borrow.Author.Needs.{needs}
 use mathlib.Core.Path.{ap, _∙_}
 use Rattle.engine.specs.Run.{Ran}
-use Rattle.zilpanud.specs.Codes.{endCode, endDetail}
+use Rattle.engine.specs.Codes.{endCode, endDetail}
 use Rattle.zilpanud.specs.Lent.{counts}
 use Rattle.zilpanud.proofs.zilpanud_run.Statement.{statement}
 use Rattle.zilpanud.proofs.zilpanud_run.Tie as tie
 
-run-lent-requires : tie.Need-run-lent-requires
-run-lent-requires c κs = search needs
+lent-requires : tie.Need-lent-requires
+lent-requires c κs = search needs
+
+run-requires : tie.Need-run-requires
+run-requires c κs = search needs
+
+leave-requires : tie.Need-leave-requires
+leave-requires c κs = search needs
 
 end-detail-requires : tie.Need-end-detail-requires
 end-detail-requires c κs = search needs
@@ -21,15 +27,24 @@ same-length c = search needs
 
 returns : tie.Need-returns
 returns c =
-    let e = c .before .before .before .before .before .before .run-lent .ensures in (
+    let v = c .before .before .before .before in
+    let t = v .before .before .before .before .before .before in
+    let e = rw (t .before .before .before .lent .ensures) at (t .run .ensures) in (
       c .end-code .ensures ∙ ap (λ (x : Ran). endCode (x .end)) e,
       (
         c .before .end-detail .ensures ∙ ap (λ (x : Ran). endDetail (x .end)) e,
-        (ap (λ (x : Ran). x .after .world) e, ap (λ (x : Ran). counts (x .after .tally)) e),
+        (rw (v .leave .ensures) (ap (λ (x : Ran). x .after .world) e), ap (λ (x : Ran). counts (x .after .tally)) e),
       ),
     )
 
 pub zilpanud-run-spec : {M : Type 1} → statement M
 zilpanud-run-spec =
     tie.close
-    (tie.spec run-lent-requires end-detail-requires end-code-requires same-length returns)
+    (tie.spec
+    lent-requires
+    run-requires
+    leave-requires
+    end-detail-requires
+    end-code-requires
+    same-length
+    returns)

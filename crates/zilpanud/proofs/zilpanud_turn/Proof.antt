@@ -1,10 +1,16 @@
--- `zilpanud_turn` meets its contract: the numbers of the engine's answer.
+-- `zilpanud_turn` meets its contract: the numbers of the engine's answer, and the cursors that it returns.
 use borrow.Author.Needs.{needs}
 use Rattle.zilpanud.proofs.zilpanud_turn.Statement.{statement}
 use Rattle.zilpanud.proofs.zilpanud_turn.Tie as tie
 
-turn-lent-requires : tie.Need-turn-lent-requires
-turn-lent-requires c κs = search needs
+lent-requires : tie.Need-lent-requires
+lent-requires c κs = search needs
+
+turn-requires : tie.Need-turn-requires
+turn-requires c κs = search needs
+
+leave-requires : tie.Need-leave-requires
+leave-requires c κs = search needs
 
 turn-detail-requires : tie.Need-turn-detail-requires
 turn-detail-requires c κs = search needs
@@ -17,10 +23,19 @@ same-length c = search needs
 
 returns : tie.Need-returns
 returns c =
-    let e = c .before .before .before .before .turn-lent .ensures in
-    (rw (← e .0) (c .turn-code .ensures), (rw (← e .0) (c .before .turn-detail .ensures), e .1))
+    let v = c .before .before in
+    let t = v .before .before .before .before .before .before in
+    let e = rw (t .before .before .before .lent .ensures) at (t .turn .ensures) in
+    (rw (← e .0) (c .turn-code .ensures), (rw (← e .0) (c .before .turn-detail .ensures), rw (v .leave .ensures) (e .1)))
 
 pub zilpanud-turn-spec : {M : Type 1} → statement M
 zilpanud-turn-spec =
     tie.close
-    (tie.spec turn-lent-requires turn-detail-requires turn-code-requires same-length returns)
+    (tie.spec
+    lent-requires
+    turn-requires
+    leave-requires
+    turn-detail-requires
+    turn-code-requires
+    same-length
+    returns)
