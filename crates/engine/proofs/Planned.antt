@@ -13,45 +13,55 @@ use Rattle.base.proofs.Filling.{getD-inside}
 use Rattle.mask.specs.Mask.{with}
 use Rattle.image.specs.declared.Field.the-variants.{Count, Owned}
 use Rattle.image.specs.Place.{Place, field, Memory}
+use Rattle.image.specs.Image.{indexOf}
 use Rattle.section.specs.Table.{turnsOf}
 use Rattle.section.specs.Op.{opOf}
 use Rattle.section.specs.Fits.{fits}
 use Rattle.section.specs.Check.{inRange, inPlace, wellFormed}
 use Rattle.section.proofs.Ranges.{in-range, turns-most}
 use Rattle.engine.specs.declared.Cursors.{Cursors}
+use Rattle.engine.specs.declared.Plan.the-variants.{Store}
 use Rattle.engine.specs.Cursor.{Cursor, idle, on, isIdle, cursorAt}
 use Rattle.engine.specs.Turn.{stored, codeIn, activeVal, logged, acquireTurn, finishTurn, ready}
+use Rattle.engine.specs.World.{planOf, loggedPlan}
 
 -- ---- turns by their number
 
-module _ (n : ℕ) (rd : Memory) (d : ℕ) where
-  -- from turn 3 on a logged store stores the logged value at its target
-  pub logged-target : (s t : ℕ) (p : Place) (v : ℕ) (next : Cursor) (j : ℕ) → j ≢ 0 → j ≢ 1 → j ≢ 2
-      → logged n rd d s t p v next j ≡ stored p (rd (field (activeVal n rd d) d)) next
-  logged-target s t p v next zero a b c = absurd (a refl)
-  logged-target s t p v next (suc zero) a b c = absurd (b refl)
-  logged-target s t p v next (suc (suc zero)) a b c = absurd (c refl)
-  logged-target s t p v next (suc (suc (suc j))) a b c = refl
+module _ (n : ℕ) (rd : Memory) (d s t : ℕ) where
+  -- a logged store at a place, as the code says it
+  pub logged-plan : (p : Place) (v ns nt j : ℕ) → planOf n (logged n rd d s t p v (on ns nt) j) ≡ loggedPlan n rd d s t (indexOf n p) v ns nt j
+  logged-plan p v ns nt zero = refl
+  logged-plan p v ns nt (suc zero) = refl
+  logged-plan p v ns nt (suc (suc zero)) = refl
+  logged-plan p v ns nt (suc (suc (suc j))) = refl
 
-  -- the value matters at turn 1 alone
-  pub logged-value : (s t : ℕ) (p : Place) (v w : ℕ) (next : Cursor) (j : ℕ) → j ≢ 1 → logged n rd d s t p v next j ≡ logged n rd d s t p w next j
-  logged-value s t p v w next zero a = refl
-  logged-value s t p v w next (suc zero) a = absurd (a refl)
-  logged-value s t p v w next (suc (suc zero)) a = refl
-  logged-value s t p v w next (suc (suc (suc j))) a = refl
+  -- from turn 3 on it stores the logged value at its target
+  pub target-plan : (i v ns nt j : ℕ) → 2 < j → loggedPlan n rd d s t i v ns nt j ≡ Store i (rd (field (activeVal n rd d) d)) ns nt
+  target-plan i v ns nt zero l = absurd (omega arith)
+  target-plan i v ns nt (suc zero) l = absurd (omega arith)
+  target-plan i v ns nt (suc (suc zero)) l = absurd (omega arith)
+  target-plan i v ns nt (suc (suc (suc j))) l = refl
 
+  -- its value matters at turn 1 alone
+  pub value-plan : (i v ns nt j : ℕ) → j ≢ 1 → loggedPlan n rd d s t i v ns nt j ≡ loggedPlan n rd d s t i 0 ns nt j
+  value-plan i v ns nt zero a = refl
+  value-plan i v ns nt (suc zero) a = absurd (a refl)
+  value-plan i v ns nt (suc (suc zero)) a = refl
+  value-plan i v ns nt (suc (suc (suc j))) a = refl
+
+module _ (n : ℕ) (rd : Memory) (d s : ℕ) where
   -- an acquire from turn 2 on
-  pub acquire-logged : (a s t : ℕ) → t ≢ 0 → t ≢ 1
-      → acquireTurn n rd d a s t ≡ logged n rd d s t (field Owned d) (with (rd (field Owned d)) a) (on (s + 1) 0) (t - 2)
-  acquire-logged a s zero x y = absurd (x refl)
-  acquire-logged a s (suc zero) x y = absurd (y refl)
-  acquire-logged a s (suc (suc t)) x y = let e : suc (suc t) - 2 ≡ t = omega arith in rw e
+  pub acquire-plan : (a t : ℕ) → t ≢ 0 → t ≢ 1
+      → planOf n (acquireTurn n rd d a s t) ≡ loggedPlan n rd d s t (indexOf n (field Owned d)) (with (rd (field Owned d)) a) (s + 1) 0 (t - 2)
+  acquire-plan a zero x y = absurd (x refl)
+  acquire-plan a (suc zero) x y = absurd (y refl)
+  acquire-plan a (suc (suc t)) x y = let e : suc (suc t) - 2 ≡ t = omega arith in rw e (logged-plan n rd d s _ _ _ _ _ t)
 
   -- a finish from turn 2 on
-  pub finish-last : (s t : ℕ) → t ≢ 0 → t ≢ 1 → finishTurn n rd d s t ≡ stored (field Count d) 0 idle
-  finish-last s zero x y = absurd (x refl)
-  finish-last s (suc zero) x y = absurd (y refl)
-  finish-last s (suc (suc t)) x y = refl
+  pub finish-last : (t : ℕ) → t ≢ 0 → t ≢ 1 → finishTurn n rd d s t ≡ stored (field Count d) 0 idle
+  finish-last zero x y = absurd (x refl)
+  finish-last (suc zero) x y = absurd (y refl)
+  finish-last (suc (suc t)) x y = refl
 
 -- ---- where a worker stands
 

@@ -1,8 +1,10 @@
 -- What the calls read and change: the image, the working record and the stores left; and what one turn leaves of it.
-use Prim.Native.Nat.{ℕ, _-_}
+use Prim.Native.Nat.{ℕ, suc, zero, _+_, _-_}
 use mathlib.Core.Path.{_≡_}
 use mathlib.Core.Bool.{cond}
 use lib.Dec.{ltb}
+use Rattle.image.specs.declared.Field.the-variants.{Pc}
+use Rattle.image.specs.Place.{field, Memory}
 use Rattle.image.specs.Image.{Image, indexOf, at, workers, headerOk, put}
 use Rattle.engine.specs.declared.Cursors.{Cursors}
 use Rattle.engine.specs.declared.Refusal.{Refusal}
@@ -14,7 +16,7 @@ use Rattle.engine.specs.declared.Did.the-variants.{Stored as DidStore, P
 use Rattle.engine.specs.declared.Plan.{Plan}
 use Rattle.engine.specs.declared.Plan.the-variants.{Store, Pass, Wait}
 use Rattle.engine.specs.Cursor.{stepNo, turnNo, cursorAt, setAt, placed}
-use Rattle.engine.specs.Turn.{Outcome, stored, jumped, unheld, waiting, resting, refused, turnAt}
+use Rattle.engine.specs.Turn.{Outcome, stored, jumped, unheld, waiting, resting, refused, spareAddr, spareVal, activeVal, switched, turnAt}
 
 pub record World : Type 0 where
   pub image : Image
@@ -59,6 +61,13 @@ planOf n (unheld c) = Pass (stepNo c) (turnNo c)
 planOf n (waiting b) = Wait b
 planOf n resting = Wait 0
 planOf n (refused r) = Wait 0
+
+-- turn j of a logged store at any index, as the code says it: address, value, pc, target
+abbrev pub loggedPlan : (n : ℕ) (rd : Memory) (d s t target v ns nt j : ℕ) → Plan
+loggedPlan n rd d s t target v ns nt zero = Store (indexOf n (field (spareAddr n rd d) d)) target s (t + 1)
+loggedPlan n rd d s t target v ns nt (suc zero) = Store (indexOf n (field (spareVal n rd d) d)) v s (t + 1)
+loggedPlan n rd d s t target v ns nt (suc (suc zero)) = Store (indexOf n (field Pc d)) (switched n rd d s) s (t + 1)
+loggedPlan n rd d s t target v ns nt (suc (suc (suc j))) = Store target (rd (field (activeVal n rd d) d)) ns nt
 
 -- what the turn of a plan did
 abbrev pub planDid : Plan → Did

@@ -4,11 +4,9 @@ use crate::Plan;
 use image::Field;
 ghost use mathlib.Core.Path.{_≡_};
 ghost use Prim.Native.Nat.{ℕ, _+_, _<_};
-ghost use Rattle.image.specs.Place.{Place};
-ghost use Rattle.image.specs.Image.{at, indexOf, Inside};
-ghost use Rattle.engine.specs.Cursor.{Cursor, on};
-ghost use Rattle.engine.specs.Turn.{second, spareAddr, spareVal, activeVal, switched, logged};
-ghost use Rattle.engine.specs.World.{planOf};
+ghost use Rattle.image.specs.Image.{at, Inside};
+ghost use Rattle.engine.specs.Turn.{second, spareAddr, spareVal, activeVal, switched};
+ghost use Rattle.engine.specs.World.{loggedPlan};
 
 // Whether log entry 1 is active.
 fn second(image: &[u64], d: usize, own: usize) -> bool
@@ -71,8 +69,8 @@ struct Word {
 // What turn j of a logged store of v at an index stores in the record, at step s: the address, the value, or the pc.
 fn record_word(image: &[u64], d: usize, own: usize, s: u8, target: usize, v: u64, j: u8) -> Word
     requires { ⌜ (Inside own (now image) d) × (j < 3) ⌝ }
-    ensures { λ r. ⌜ ((p : Place) (t : ℕ) (next : Cursor) → target ≡ indexOf own p
-        → Plan.Store (r .at) (r .value) s (t + 1) ≡ planOf own (logged own (at own (now (image .entry))) d s t p v next j)) ⌝ }
+    ensures { λ r. ⌜ ((t ns nt : ℕ)
+        → Plan.Store (r .at) (r .value) s (t + 1) ≡ loggedPlan own (at own (now (image .entry))) d s t target v ns nt j) ⌝ }
 {
     match j {
         0 => Word {
@@ -104,7 +102,7 @@ pub fn logged(
     j: u8,
 ) -> Plan
     requires { ⌜ (Inside own (now image) d) × (t < 6) ⌝ }
-    ensures { λ r. ⌜ ((p : Place) → target ≡ indexOf own p → r ≡ planOf own (logged own (at own (now (image .entry))) d s t p v (on ns nt) j)) ⌝ }
+    ensures { λ r. ⌜ r ≡ loggedPlan own (at own (now (image .entry))) d s t target v ns nt j ⌝ }
 {
     if 2 < j {
         return Plan::Store {

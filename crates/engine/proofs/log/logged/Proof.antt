@@ -1,10 +1,6 @@
 -- `engine::log::logged` meets its contract: from turn 3 on the target's store, before it a word of the record.
-use denote.Ref.{now}
-use native.Mathlib.Omega.{arith}
 use borrow.Author.Needs.{needs}
-use Rattle.image.specs.Image.{at}
-use Rattle.engine.specs.Cursor.{on}
-use Rattle.engine.proofs.Planned.{logged-target}
+use Rattle.engine.proofs.Planned.{target-plan}
 use Rattle.engine.proofs.log.logged.Statement.{statement}
 use Rattle.engine.proofs.log.logged.Tie as tie
 
@@ -15,12 +11,7 @@ read-field-requires : tie.Need-read-field-requires
 read-field-requires c κs = search needs
 
 returns : tie.Need-returns
-returns c =
-    λ p e.
-    let S = c .before .before .before .before in
-    let A = S .args in
-    let l = c .before .before .if1 .taken in
-    rw (logged-target (A .own) (at (A .own) (now (A .image))) (A .d) (A .s) (A .t) p (A .v) (on (A .ns) (A .nt)) (A .j) (λ q. omega (arith, l, q)) (λ q. omega (arith, l, q)) (λ q. omega (arith, l, q)), ← c .before .active-val .ensures, ← c .read-field .ensures, ← e)
+returns c = rw (target-plan _ _ _ _ _ _ _ _ _ _ (c .before .before .if1 .taken), ← c .before .active-val .ensures, ← c .read-field .ensures)
 
 record-word-requires : tie.Need-record-word-requires
 record-word-requires c κs = search needs
@@ -29,7 +20,7 @@ add-t15 : tie.Need-add-t15
 add-t15 c = search needs
 
 returns-2 : tie.Need-returns-2
-returns-2 c = λ p e. let A = c .before .before .before .args in c .record-word .ensures p (A .t) (on (A .ns) (A .nt)) e
+returns-2 c = let A = c .before .before .before .args in c .record-word .ensures (A .t) (A .ns) (A .nt)
 
 pub logged-spec : {M : Type 1} → statement M
 logged-spec =

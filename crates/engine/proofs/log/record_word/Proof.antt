@@ -24,14 +24,14 @@ switched-requires : tie.Need-switched-requires
 switched-requires c κs = search needs
 
 returns : tie.Need-returns
-returns c = λ p t next e. rw (c .before .before .match .keys1, ← c .before .spare-addr .ensures, ← c .field-index .ensures, ← e)
+returns c = λ t ns nt. rw (c .before .before .match .keys1, ← c .before .spare-addr .ensures, ← c .field-index .ensures)
 
 returns-2 : tie.Need-returns-2
-returns-2 c = λ p t next e. rw (c .before .before .match .keys2, ← c .before .spare-val .ensures, ← c .field-index2 .ensures)
+returns-2 c = λ t ns nt. rw (c .before .before .match .keys2, ← c .before .spare-val .ensures, ← c .field-index2 .ensures)
 
 returns-3 : tie.Need-returns-3
 returns-3 c =
-    λ p t next e.
+    λ t ns nt.
     let S = c .before .before .before .before in
     let r = c .before .before .match .rest in
     let two : S .args .j ≡ 2 = omega (arith, S .pre .1, r .0, r .1) in

@@ -1,10 +1,6 @@
 -- `engine::steps::acquire_turn` meets its contract: turn 0, turn 1, and from turn 2 on a logged store.
-use denote.Ref.{now}
 use borrow.Author.Needs.{needs}
-use Rattle.image.specs.Place.{field}
-use Rattle.image.specs.declared.Field.the-variants.{Owned}
-use Rattle.image.specs.Image.{at}
-use Rattle.engine.proofs.Planned.{acquire-logged}
+use Rattle.engine.proofs.Planned.{acquire-plan}
 use Rattle.engine.proofs.steps.acquire_turn.Statement.{statement}
 use Rattle.engine.proofs.steps.acquire_turn.Tie as tie
 
@@ -46,8 +42,11 @@ logged-requires c κs = search needs
 
 returns-3 : tie.Need-returns-3
 returns-3 c =
-    let A = c .before .before .before .before .before .before .before .args in
-    rw (acquire-logged (A .own) (at (A .own) (now (A .image))) (A .d) (A .a) (A .s) (A .t) (c .before .before .before .before .before .if1 .left) (c .before .before .before .before .if2 .left), ← c .before .before .read-field2 .ensures, ← c .before .with2 .ensures) (c .logged .ensures (field Owned (A .d)) (c .before .before .before .field-index2 .ensures))
+    let u = c .before .before in
+    let v = u .before in
+    let no-first = v .before .before .if1 .left in
+    let no-second = v .before .if2 .left in
+    rw (acquire-plan _ _ _ _ _ _ no-first no-second, ← u .read-field2 .ensures, ← c .before .with2 .ensures, ← v .field-index2 .ensures) (c .logged .ensures)
 
 pub acquire-turn-spec : {M : Type 1} → statement M
 acquire-turn-spec =

@@ -27,7 +27,8 @@ field-index-requires-3 c κs = search needs
 returns-3 : tie.Need-returns-3
 returns-3 c =
     let A = c .before .before .before .before .args in
-    rw (finish-last (A .own) (at (A .own) (now (A .image))) (A .d) (A .s) (A .t) (c .before .before .if1 .left) (c .before .if2 .left), ← c .field-index3 .ensures)
+    let m = at (A .own) (now (A .image)) in
+    rw (finish-last (A .own) m (A .d) (A .s) (A .t) (c .before .before .if1 .left) (c .before .if2 .left), ← c .field-index3 .ensures)
 
 pub finish-turn-spec : {M : Type 1} → statement M
 finish-turn-spec =

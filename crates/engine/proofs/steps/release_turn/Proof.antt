@@ -1,8 +1,7 @@
 -- `engine::steps::release_turn` meets its contract: a logged store at turns 0 to 3, then the lock, and the intent last.
 use borrow.Author.Tests.{lt-ltb, le-ltb, eq-eqb, ne-eqb}
 use borrow.Author.Needs.{needs}
-use Rattle.image.specs.Place.{field}
-use Rattle.image.specs.declared.Field.the-variants.{Owned}
+use Rattle.engine.proofs.Planned.{logged-plan}
 use Rattle.engine.proofs.steps.release_turn.Statement.{statement}
 use Rattle.engine.proofs.steps.release_turn.Tie as tie
 
@@ -20,8 +19,9 @@ logged-requires c κs = search needs
 
 returns : tie.Need-returns
 returns c =
-    let A = c .before .before .before .before .before .before .args in
-    rw (lt-ltb _ _ (c .before .before .before .before .if1 .taken), ← c .before .before .read-field .ensures, ← c .before .without .ensures) (c .logged .ensures (field Owned (A .d)) (c .before .before .before .field-index .ensures))
+    let u = c .before .before in
+    let l = lt-ltb _ _ (u .before .before .if1 .taken) in
+    rw (l, logged-plan _ _ _ _ _ _ _ _ _ _, ← u .read-field .ensures, ← c .before .without .ensures, ← u .before .field-index .ensures) (c .logged .ensures)
 
 unlock-turn-requires : tie.Need-unlock-turn-requires
 unlock-turn-requires c κs = search needs
