@@ -20,7 +20,7 @@ use Rattle.engine.specs.declared.End.the-variants.{AllIdle, Spent, Halte
 use Rattle.engine.specs.Cursor.{on, isIdle, cursorAt}
 use Rattle.engine.specs.Turn.{refused, ready, turnAt}
 use Rattle.engine.specs.World.{World, answerOf, leaves, outcomeAt, planOf, planDid, didAnswer}
-use Rattle.engine.specs.Run.{countedAs, openTo, Counting, counting, ran, through, halted, sweep, roundsOf}
+use Rattle.engine.specs.Run.{counted, openTo, Counting, counting, ran, through, halted, sweep, roundsOf}
 use Rattle.engine.proofs.Planned.{on-is, ready-says}
 use Rattle.engine.proofs.Placed.{Full, open-turn, idle-says}
 use Rattle.engine.proofs.Staying.{tested, Known, known-turn, sized-leaves}
@@ -92,7 +92,7 @@ module _ (own n to round : ℕ) (s₀ s : Counting) (next d : ℕ) (l : Lap own 
       → tested own (s .world) d ≡ true
       → x ≡ planDid (planOf own (outcomeAt own (s .world) d))
       → w ≡ leaves own (s .world) d (outcomeAt own (s .world) d)
-      → t ≡ countedAs (didAnswer x) (s .tally)
+      → t ≡ counted (didAnswer x) (s .tally)
       → m ≡ cond (eqb (getD (w .cursors .turn) d 0) 255) next (d + 1)
       → Lap own n to round s₀ (counting w t) m (d + 1)
   lap-turn w x t m h f test did left count kept =

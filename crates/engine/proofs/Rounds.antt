@@ -16,7 +16,7 @@ use Rattle.engine.specs.declared.End.the-variants.{AllIdle, Spent, Halte
 use Rattle.engine.specs.Turn.{Outcome, stored, jumped, unheld, waiting, resting, refused}
 use Rattle.engine.specs.Refusal.{isRefused}
 use Rattle.engine.specs.World.{World, answerOf, leaves, outcomeAt}
-use Rattle.engine.specs.Run.{anyOpen, counted, countedAs, Counting, counting, Ran, ran, Sweep, through, halted, turned, swept, sweep, afterSweep, roundsOf, runOf}
+use Rattle.engine.specs.Run.{anyOpen, counted, Counting, counting, Ran, ran, Sweep, through, halted, turned, swept, sweep, afterSweep, roundsOf, runOf}
 
 -- ---- a turn by its answer
 
@@ -33,7 +33,7 @@ pub most-more : (k m : ℕ) {t : Tally} → Most k t → k ≤ m → Most m t
 most-more k m b h = record { turns = omega arith; waits = omega arith; stores = omega arith }
 
 -- a count adds at most one to each
-pub most-counted : (k : ℕ) (a : Answer) {t : Tally} → Most k t → Most (k + 1) (countedAs a t)
+pub most-counted : (k : ℕ) (a : Answer) {t : Tally} → Most k t → Most (k + 1) (counted a t)
 most-counted k (Stored i) b = record { turns = omega arith; waits = omega arith; stores = omega arith }
 most-counted k Passed b = record { turns = omega arith; waits = omega arith; stores = omega arith }
 most-counted k (Waiting l) b = record { turns = omega arith; waits = omega arith; stores = omega arith }
@@ -44,14 +44,6 @@ pub most-room : (k : ℕ) {t : Tally} → Most k t → k + 1 < 2 ^ 64 → Room t
 most-room k b h = (omega arith, omega arith, omega arith)
 
 module _ (n : ℕ) where
-  counted-as : (o : Outcome) (t : Tally) → countedAs (answerOf n o) t ≡ counted o t
-  counted-as (stored p v c) t = refl
-  counted-as (jumped c) t = refl
-  counted-as (unheld c) t = refl
-  counted-as (waiting b) t = refl
-  counted-as resting t = refl
-  counted-as (refused r) t = refl
-
   -- a turn that is not refused goes on
   swept-on : (o : Outcome) (s : Counting) (more : Sweep) → isRefused (answerOf n o) ≡ false → swept n o s more ≡ more
   swept-on (stored p v c) s more e = refl
@@ -63,9 +55,10 @@ module _ (n : ℕ) where
 
   -- what a turn and its count leave is the counted turn
   pub turned-is : (s : Counting) (d : ℕ) (w : World) (a : Answer) (t : Tally)
-      → w ≡ leaves n (s .world) d (outcomeAt n (s .world) d) → a ≡ answerOf n (outcomeAt n (s .world) d) → t ≡ countedAs a (s .tally) → counting w t ≡ turned n s d
+      → w ≡ leaves n (s .world) d (outcomeAt n (s .world) d) → a ≡ answerOf n (outcomeAt n (s .world) d) → t ≡ counted a (s .tally)
+      → counting w t ≡ turned n s d
   unfolding turned
-  turned-is s d w a t e f g = rw (g, e, f, counted-as (outcomeAt n (s .world) d) (s .tally))
+  turned-is s d w a t e f g = rw (g, e, f)
 
 -- ---- the workers from d on, of k
 

@@ -14,29 +14,20 @@ use Rattle.engine.specs.declared.End.{End}
 use Rattle.engine.specs.declared.End.the-variants.{AllIdle, Spent, Halted}
 use Rattle.engine.specs.Cursor.{isIdle, cursorAt}
 use Rattle.engine.specs.Turn.{Outcome, stored, jumped, unheld, waiting, resting, refused}
-use Rattle.engine.specs.World.{World, leaves, outcomeAt}
+use Rattle.engine.specs.World.{World, answerOf, leaves, outcomeAt}
 
 -- one of k workers from d on is open, that is, not idle
 unfoldable pub anyOpen : ℕ → ℕ → Cursors → Bool
 anyOpen zero d c = false
 anyOpen (suc k) d c = cond (isIdle (cursorAt c d)) (anyOpen k (d + 1) c) true
 
--- what a turn adds to the tally: a turn of an idle worker is none, and a refused one is not counted
-abbrev pub counted : Outcome → Tally → Tally
-counted (stored p v c) t = withStored t
-counted (jumped c) t = withPassed t
-counted (unheld c) t = withPassed t
-counted (waiting b) t = withWaiting t
-counted resting t = t
-counted (refused r) t = t
-
--- the same by the turn's answer
-abbrev pub countedAs : Answer → Tally → Tally
-countedAs (Stored i) t = withStored t
-countedAs Passed t = withPassed t
-countedAs (Waiting b) t = withWaiting t
-countedAs Idle t = t
-countedAs (Refused r) t = t
+-- what a turn adds to the tally, by its answer: a turn of an idle worker is none, and a refused one is not counted
+abbrev pub counted : Answer → Tally → Tally
+counted (Stored i) t = withStored t
+counted Passed t = withPassed t
+counted (Waiting b) t = withWaiting t
+counted Idle t = t
+counted (Refused r) t = t
 
 -- the workers up to the last open one, of k
 unfoldable pub openTo : ℕ → Cursors → ℕ
@@ -67,7 +58,7 @@ pub data Sweep : Type 0 where
 module _ (n : ℕ) where
   -- worker d's turn, counted
   unfoldable pub turned : Counting → ℕ → Counting
-  turned s d = counting (leaves n (s .world) d (outcomeAt n (s .world) d)) (counted (outcomeAt n (s .world) d) (s .tally))
+  turned s d = counting (leaves n (s .world) d (outcomeAt n (s .world) d)) (counted (answerOf n (outcomeAt n (s .world) d)) (s .tally))
 
   -- after a turn with this outcome: halted where it was refused
   abbrev pub swept : Outcome → Counting → Sweep → Sweep

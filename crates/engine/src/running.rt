@@ -16,7 +16,7 @@ ghost use lib.ListN.{length};
 ghost use Rattle.image.specs.Image.{workers, lengthOf};
 ghost use Rattle.tally.specs.Tally.{none, Room};
 ghost use Rattle.engine.specs.World.{world, didAnswer};
-ghost use Rattle.engine.specs.Run.{countedAs, counting, openTo, ran, roundsOf};
+ghost use Rattle.engine.specs.Run.{counted, counting, openTo, ran, roundsOf};
 
 // The workers up to the last open one, of n.
 fn open_to(c: Cursors, n: usize) -> usize
@@ -47,7 +47,7 @@ fn open_with(t: u8, d: usize, below: usize) -> usize
 // The tally with a turn counted by what it did.
 fn counted(x: Did, t: Tally) -> Tally
     requires { ⌜ Room t ⌝ }
-    ensures { λ r. ⌜ r ≡ countedAs (didAnswer x) t ⌝ }
+    ensures { λ r. ⌜ r ≡ counted (didAnswer x) t ⌝ }
 {
     match x {
         Did::Stored(_) => tally::stored(t),
