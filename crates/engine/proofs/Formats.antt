@@ -13,7 +13,7 @@ use lib.Dec.{leb, eqb}
 use Rattle.image.specs.Place.{Place, valid}
 use Rattle.image.specs.Image.{Image, lengthOf, indexOf, workers, at, zeros, headerOk, put}
 use Rattle.image.proofs.Apart.{length-ge, index-ge}
-use Rattle.image.proofs.Header.{Sized, header-last}
+use Rattle.image.proofs.Header.{header-last}
 use Rattle.image.proofs.Stores.{put-lots}
 use Rattle.engine.specs.Format.{putFrom, formattable, formTail, formatStores, formatted}
 use Rattle.engine.proofs.Rows.{replicate-zero}
@@ -66,16 +66,9 @@ pub format-enough : (mark n left : ℕ) (m : Image) (D : ℕ) → lengthOf n D <
 format-enough mark n left m D h f = private-whole mark n left m D h (formattable-true n m D f .2)
 
 module _ (mark n D : ℕ) where
-  pub formatted-workers : workers (formatted mark n D) ≡ D
-  unfolding workers formatted
-  formatted-workers = refl
-
   pub formatted-length : length (formatted mark n D) ≡ lengthOf n D
   unfolding formatted
   formatted-length = tail-length n D
-
-  pub formatted-sized : Sized n D (formatted mark n D)
-  formatted-sized = record { size = formatted-length; has = formatted-workers }
 
 zeros-replicate : (j k : ℕ) → zeros (take j (replicate k 0)) ≡ true
 zeros-replicate zero k = refl

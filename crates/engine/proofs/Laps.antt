@@ -1,6 +1,6 @@
 -- What the loops of a run keep: within a round, that the turns of the workers from d on are left of it; between rounds, that
 -- the rounds that are left are those of the whole run. One law for each way that a loop goes on or ends.
-use Prim.Native.Nat.{ℕ, suc, _+_, _*_, _-_, _<_, _≤_}
+use Prim.Native.Nat.{ℕ, _+_, _*_, _-_, _<_, _≤_}
 use mathlib.Core.Path.{_≡_, refl, sym, ap, _∙_}
 use mathlib.Core.Bool.{Bool, true, false, cond}
 use mathlib.Core.Logic.{_≢_}
@@ -13,12 +13,11 @@ use Rattle.base.proofs.Counting.{left-all}
 use Rattle.image.specs.Image.{at}
 use Rattle.image.proofs.Header.{Sized}
 use Rattle.tally.specs.declared.Tally.{Tally}
-use Rattle.tally.specs.Tally.{none}
 use Rattle.engine.specs.declared.Did.{Did}
 use Rattle.engine.specs.declared.Refusal.the-variants.{Cursor as CursorRefused}
 use Rattle.engine.specs.declared.End.the-variants.{AllIdle, Spent, Halted}
 use Rattle.engine.specs.Cursor.{on, isIdle, cursorAt}
-use Rattle.engine.specs.Turn.{refused, ready, turnAt}
+use Rattle.engine.specs.Turn.{refused, turnAt}
 use Rattle.engine.specs.World.{World, answerOf, leaves, outcomeAt, planOf, planDid, didAnswer}
 use Rattle.engine.specs.Run.{counted, openTo, Counting, counting, ran, through, halted, sweep, roundsOf}
 use Rattle.engine.proofs.Planned.{on-is, ready-says}
@@ -26,7 +25,8 @@ use Rattle.engine.proofs.Placed.{Full, open-turn, idle-says}
 use Rattle.engine.proofs.Staying.{tested, Known, known-turn, sized-leaves}
 use Rattle.engine.proofs.Turns.{Made, made-ready, made-goes, did-answers, leaves-other}
 use Rattle.engine.proofs.Idling.{Idle, sweep-idle, sweep-rest, to-zero, to-most, to-idle, to-none, to-some, to-cut, to-same, to-below, to-with}
-use Rattle.engine.proofs.Rounds.{Most, most-none, most-more, most-counted, turned-is, sweep-on, sweep-halts, rounds-idle, rounds-spent, rounds-on, after-through, after-halted}
+use Rattle.engine.proofs.Rounds.{Most, most-more, most-counted, turned-is, sweep-on, sweep-halts}
+use Rattle.engine.proofs.Rounds.{rounds-idle, rounds-spent, rounds-on, after-through, after-halted}
 
 -- ---- the turn of an open worker
 

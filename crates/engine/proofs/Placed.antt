@@ -1,9 +1,9 @@
 -- One worker's cursor in the working record: what it is after it was placed, at the same worker and at another.
-use Prim.Native.Nat.{ℕ, _<_, _≤_}
-use mathlib.Core.Path.{_≡_, refl, ap, _∙_, sym}
-use mathlib.Core.Bool.{Bool, true, false, cond, true≢false}
+use Prim.Native.Nat.{ℕ, _<_}
+use mathlib.Core.Path.{_≡_, refl, _∙_, sym}
+use mathlib.Core.Bool.{Bool, true, false, cond}
 use mathlib.Core.Logic.{_≢_}
-use lib.ListN.{length, getD, set}
+use lib.ListN.{length, getD}
 use lib.Seq.{getD-set-same, getD-set-other}
 use lib.Dec.{eqb}
 use borrow.Author.Tests.{eq-eqb, ne-eqb, eqb-true}
@@ -53,9 +53,6 @@ idle-turn c d h e = idle-by c d ∙ eq-eqb _ 255 (getD-inside (c .turn) d 255 0 
 
 pub open-turn : (c : Cursors) (d : ℕ) → d < length (c .turn) → getD (c .turn) d 0 ≢ 255 → isIdle (cursorAt c d) ≡ false
 open-turn c d h e = idle-by c d ∙ ne-eqb _ 255 (λ q. e (sym (getD-inside (c .turn) d 255 0 h) ∙ q))
-
-pub open-not : (c : Cursors) (d : ℕ) → d < length (c .turn) → isIdle (cursorAt c d) ≡ false → getD (c .turn) d 0 ≢ 255
-open-not c d h e q = true≢false (sym (idle-turn c d h q) ∙ e)
 
 pub idle-says : (c : Cursors) (d : ℕ) → d < length (c .turn) → isIdle (cursorAt c d) ≡ true → getD (c .turn) d 0 ≡ 255
 idle-says c d h e = sym (getD-inside (c .turn) d 255 0 h) ∙ eqb-true _ 255 (sym (idle-by c d) ∙ e)

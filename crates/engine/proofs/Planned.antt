@@ -1,6 +1,6 @@
 -- What the plan of a turn rests on: the cases of the definitions that go by the number of a turn, for a turn that is known
 -- only by what it is not; where a worker stands; and what a cursor that is ready says of its instruction.
-use Prim.Native.Nat.{ℕ, suc, zero, _+_, _-_, _<_, _≤_}
+use Prim.Native.Nat.{ℕ, suc, zero, _+_, _-_, _<_}
 use mathlib.Core.Path.{_≡_, refl, ap, _∙_}
 use mathlib.Core.Bool.{Bool, true, false, cond, _&&_, false≢true, true≢false}
 use mathlib.Core.Logic.{_≢_}

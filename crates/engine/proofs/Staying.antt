@@ -1,18 +1,18 @@
 -- A cursor that is past the first turn of its step stays ready while turns are made: a turn goes on to a later turn of the
 -- same step, or to the first of another, and stores no word that the test of cause 11 reads, but for the last turn of a
 -- finish, which leaves its worker idle. So a run tests the first turn of a step alone, after its first round.
-use Prim.Native.Nat.{ℕ, suc, zero, _+_, _-_, _<_, _≤_}
-use mathlib.Core.Path.{_≡_, refl, sym, ap, _∙_}
-use mathlib.Core.Bool.{Bool, true, false, cond, _&&_}
+use Prim.Native.Nat.{ℕ, suc, zero, _+_, _-_, _<_}
+use mathlib.Core.Path.{_≡_, refl, _∙_}
+use mathlib.Core.Bool.{Bool, true, false, cond}
 use mathlib.Core.Logic.{_≢_}
 use native.Mathlib.Omega.{arith}
 use native.Mathlib.Decide.{ℕ-discrete}
-use lib.ListN.{length, getD, set}
+use lib.ListN.{getD}
 use lib.Seq.{getD-set-same, getD-set-other}
-use lib.Dec.{leb, ltb, eqb}
-use borrow.Author.Tests.{lt-ltb, ltb-true, ltb-false, ne-eqb}
+use lib.Dec.{ltb, eqb}
+use borrow.Author.Tests.{lt-ltb, ltb-false, ne-eqb}
 use Rattle.image.specs.declared.Field.{Field}
-use Rattle.image.specs.declared.Field.the-variants.{Count, Pc, Addr0, Val0, Addr1, Val1, Intent, Owned, Number, Finished}
+use Rattle.image.specs.declared.Field.the-variants.{Count, Pc, Addr0, Val0, Addr1, Val1, Intent, Owned, Finished}
 use Rattle.image.specs.Place.{Place, cell, lock, field, own, step, sameField, same, valid, Memory}
 use Rattle.image.specs.Image.{Image, indexOf, at, put}
 use Rattle.image.proofs.Header.{Sized}
@@ -22,9 +22,8 @@ use Rattle.section.specs.declared.Op.the-variants.{Acquire, Release, Assign, Ju
 use Rattle.section.specs.Table.{turnsOf}
 use Rattle.section.specs.Op.{opOf}
 use Rattle.section.specs.Fits.{fits}
-use Rattle.section.specs.Check.{wellFormed}
 use Rattle.section.proofs.Ranges.{opTurns, turns-op}
-use Rattle.engine.specs.Cursor.{Cursor, idle, on, stepNo, turnNo, cursorAt, setAt, placed}
+use Rattle.engine.specs.Cursor.{Cursor, idle, on, stepNo, turnNo, setAt, placed}
 use Rattle.engine.specs.Turn.{Outcome, stored, jumped, unheld, waiting, resting, refused, operand, codeIn, second, spareAddr, spareVal, logged, acquireTurn, finishTurn, opTurn, ready, turnAt}
 use Rattle.engine.specs.World.{World, world, leaves, outcomeAt}
 use Rattle.engine.proofs.Planned.{on-is, ready-says, ready-turn}

@@ -1,6 +1,6 @@
 -- One turn of a worker, over a memory of places: at most one store. (Document 01, 'Turns'.)
 use Prim.Native.Nat.{ℕ, suc, zero, _+_, _-_, _/_, _^_}
-use mathlib.Core.Bool.{Bool, true, false, cond, _&&_, not}
+use mathlib.Core.Bool.{Bool, cond, _&&_, not}
 use lib.Dec.{leb, ltb, eqb}
 use Rattle.mask.specs.Mask.{with, without}
 use Rattle.image.specs.declared.Field.{Field}

@@ -7,7 +7,6 @@ use Rattle.image.specs.declared.Field.the-variants.{Pc}
 use Rattle.image.specs.Place.{field, Memory}
 use Rattle.image.specs.Image.{Image, indexOf, at, workers, headerOk, put}
 use Rattle.engine.specs.declared.Cursors.{Cursors}
-use Rattle.engine.specs.declared.Refusal.{Refusal}
 use Rattle.engine.specs.declared.Refusal.the-variants.{Worker, Image as ImageRefused}
 use Rattle.engine.specs.declared.Answer.{Answer}
 use Rattle.engine.specs.declared.Answer.the-variants.{Stored, Passed, Waiting, Idle, Refused}

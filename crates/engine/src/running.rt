@@ -6,7 +6,6 @@ use crate::Ran;
 use crate::Refusal;
 use crate::planning;
 use crate::turning;
-use crate::working;
 use tally::Tally;
 ghost use mathlib.Core.Path.{_≡_};
 ghost use Prim.Native.Nat.{_+_, _<_, _≤_};

@@ -6,13 +6,11 @@ use crate::storing;
 use crate::working;
 use image::Field;
 ghost use mathlib.Core.Path.{_≡_};
-ghost use Prim.Native.Nat.{ℕ, _-_, _≤_, _<_};
-ghost use lib.ListN.{length, replicate};
-ghost use Rattle.image.specs.Place.{own, step};
+ghost use Prim.Native.Nat.{ℕ, _-_, _≤_};
+ghost use lib.ListN.{length};
 ghost use Rattle.image.specs.Image.{putAll, Inside};
-ghost use Rattle.section.specs.Check.{codeOf, check};
 ghost use Rattle.engine.specs.World.{world};
-ghost use Rattle.engine.specs.Submit.{assigns, submission, verdictAnswer, free, submitAnswer, isTaken};
+ghost use Rattle.engine.specs.Submit.{submission, verdictAnswer, free, submitAnswer, isTaken};
 
 // The stores of a section that is taken.
 pub fn store_section(

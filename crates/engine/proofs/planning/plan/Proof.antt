@@ -2,7 +2,7 @@
 use borrow.Author.Needs.{needs}
 use denote.Ref.{now}
 use Rattle.image.specs.Image.{at}
-use Rattle.engine.specs.Turn.{ready, turnAt}
+use Rattle.engine.specs.Turn.{turnAt}
 use Rattle.engine.proofs.Planned.{ready-says}
 use Rattle.engine.proofs.planning.plan.Statement.{statement}
 use Rattle.engine.proofs.planning.plan.Tie as tie

@@ -4,7 +4,6 @@ use Prim.Native.Nat.{_-_, _<_}
 use borrow.Author.Needs.{needs}
 use mathlib.Core.Path.{_≡_, refl, sym, _∙_}
 use native.Mathlib.Omega.{arith}
-use denote.Ref.{now}
 use lib.ListN.{length, length-set}
 use Rattle.base.proofs.Counting.{left-all}
 use Rattle.base.proofs.Bools.{denied, granted}

@@ -1,9 +1,6 @@
 -- `engine::submitting::judge` meets its contract: its tests are the definition's, in the same order, each past those before it.
-use Prim.Native.Nat.{ℕ, _≤_, _<_}
 use borrow.Author.Tests.{lt-ltb, le-ltb}
 use borrow.Author.Needs.{needs}
-use mathlib.Core.Path.{_≡_}
-use mathlib.Core.Bool.{true}
 use denote.Ref.{now}
 use Rattle.base.proofs.Bools.{denied, granted}
 use Rattle.image.proofs.Header.{header-inside}

@@ -3,17 +3,15 @@
 use borrow.Author.Needs.{needs}
 use borrow.Author.Tests.{lt-ltb}
 use Rattle.base.proofs.Bools.{and-both}
-use Prim.Native.Nat.{ℕ, _+_, _-_, _<_, _≤_}
+use Prim.Native.Nat.{ℕ, _+_, _-_}
 use mathlib.Core.Path.{_≡_}
 use native.Mathlib.Omega.{arith}
 use denote.Ref.{now}
-use lib.ListN.{length, replicate, length-replicate}
+use lib.ListN.{length}
 use Rattle.image.specs.Place.{own, step}
-use Rattle.image.specs.Image.{Image, indexOf, putAll}
+use Rattle.image.specs.Image.{indexOf}
 use Rattle.image.proofs.Apart.{index-small}
 use Rattle.image.proofs.Stores.{inside-own, inside-steps}
-use Rattle.engine.specs.Format.{putFrom}
-use Rattle.engine.specs.Submit.{assigns}
 use Rattle.engine.proofs.Rows.{row-words}
 use Rattle.engine.proofs.Submission.{submission-stores, submission-left}
 use Rattle.engine.proofs.submitting.store_section.Statement.{statement}

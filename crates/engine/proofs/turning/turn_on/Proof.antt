@@ -1,11 +1,9 @@
 -- `engine::turning::turn_on` meets its contract: a worker that is ready is open, the plan is the outcome's, and what is done of
 -- it is what the outcome leaves.
 use borrow.Author.Needs.{needs}
-use Prim.Native.Nat.{_<_}
-use mathlib.Core.Path.{_≡_, ap, _∙_, sym}
+use mathlib.Core.Path.{_≡_, ap, _∙_}
 use native.Mathlib.Omega.{arith}
 use denote.Ref.{now}
-use lib.ListN.{length, getD}
 use Rattle.image.specs.Image.{at}
 use Rattle.engine.specs.World.{world, outcomeAt, planOf, planDid, planLeaves}
 use Rattle.engine.proofs.Planned.{on-is, ready-says}

@@ -1,6 +1,5 @@
 -- `engine::words::eval` meets its contract: a literal says its value, and the three others' words are read alike.
 use native.Mathlib.Omega.{arith}
-use mathlib.Core.Path.{_≡_}
 use mathlib.Core.Logic.{⊎-elim}
 use denote.Ref.{now}
 use borrow.Author.Needs.{needs}
