@@ -16,7 +16,7 @@ use Rattle.engine.specs.declared.Refusal.{Refusal}
 use Rattle.engine.specs.declared.Refusal.the-variants.{Cursor as CursorRefused}
 use Rattle.engine.specs.Cursor.{Cursor, idle, on}
 
--- what a turn does: a store, and the cursor after it; a jump, or a release whose lock names somebody else, both with no
+-- what a turn does: a store, and the cursor after it; a jump, or a release whose lock does not name this worker, both with no
 -- store (document 01 answers passed for both); waiting at a lock; nothing, when idle; or a refusal
 pub data Outcome : Type 0 where
   stored : Place → ℕ → Cursor → Outcome

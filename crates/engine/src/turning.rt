@@ -1,4 +1,4 @@
-// One turn of an open worker: its plan, at most one store, and the record with the step and turn that the plan names.
+// One turn of an open worker: its plan, at most one store, and the step and turn behind it, which the caller puts in the record.
 use crate::Acted;
 use crate::Answer;
 use crate::Did;
