@@ -13,7 +13,7 @@ use Rattle.recovery.specs.declared.Answer.{Answer as Recovery}
 use Rattle.recovery.specs.declared.Answer.the-variants.{Done, Refused as RecoveryRefused}
 use Rattle.recovery.specs.declared.Slot.{Slot}
 use Rattle.recovery.specs.declared.Slot.the-variants.{Empty, Store}
-use Rattle.recovery.specs.Recover.{causeOf as recoveryCause}
+use Rattle.recovery.specs.Codes.{causeOf as recoveryCause}
 use Rattle.frames.specs.declared.Printed.{Printed}
 use Rattle.frames.specs.declared.Printed.the-variants.{Nothing, Line}
 use Rattle.frames.specs.Hex.{digitAt}

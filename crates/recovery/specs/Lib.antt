@@ -1,3 +1,4 @@
 pub mod Recovery
 pub mod Repair
 pub mod Recover
+pub mod Codes

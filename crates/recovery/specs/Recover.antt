@@ -8,39 +8,17 @@ use Rattle.image.specs.Image.{Image, putAll}
 use Rattle.engine.specs.declared.Cursors.{Cursors}
 use Rattle.engine.specs.Cursor.{allIdle}
 use Rattle.recovery.specs.declared.Repair.{Repair}
-use Rattle.recovery.specs.declared.Refusal.{Refusal}
 use Rattle.recovery.specs.declared.Refusal.the-variants.{Image as ImageRefused, Record, Lock}
 use Rattle.recovery.specs.declared.Answer.{Answer}
 use Rattle.recovery.specs.declared.Answer.the-variants.{Done, Refused}
 use Rattle.recovery.specs.Recovery.{Recovered, accepted, misshapen, unsoundRecord, wrongLock}
 use Rattle.recovery.specs.Repair.{repairOf, noRepair}
 
--- ---- document 01's number of a refusal, and the worker or lock that goes with it; 0 where there is none
-
-abbrev pub causeOf : Refusal → ℕ
-causeOf ImageRefused = 10
-causeOf (Record d) = 12
-causeOf (Lock b) = 13
-
-abbrev pub valueOf : Refusal → ℕ
-valueOf ImageRefused = 0
-valueOf (Record d) = d
-valueOf (Lock b) = b
-
 -- ---- answers
 
 abbrev pub isDone : Answer → Bool
 isDone Done = true
 isDone (Refused r) = false
-
--- the cause of an answer, and its value; 0 where it is done
-abbrev pub answerCause : Answer → ℕ
-answerCause Done = 0
-answerCause (Refused r) = causeOf r
-
-abbrev pub answerValue : Answer → ℕ
-answerValue Done = 0
-answerValue (Refused r) = valueOf r
 
 -- by the first record that is not sound
 abbrev pub byRecord : List ℕ → Answer

@@ -4,6 +4,7 @@
 use engine::Cursors;
 
 mod begun;
+pub mod codes;
 mod locks;
 mod soundness;
 mod stock;
@@ -17,7 +18,8 @@ ghost use Rattle.image.specs.Image.{at, workers, headerOk};
 ghost use Rattle.engine.specs.Edition.{mark, ownWords};
 ghost use Rattle.recovery.specs.Recovery.{recovery};
 ghost use Rattle.recovery.specs.Repair.{eight, owedAt, slotAt, slotOf};
-ghost use Rattle.recovery.specs.Recover.{causeOf, valueOf, isDone, answerOf, cursorsOf, repairBy, recoveryLeaves, recoveryLeft};
+ghost use Rattle.recovery.specs.Codes.{causeOf, valueOf};
+ghost use Rattle.recovery.specs.Recover.{isDone, answerOf, cursorsOf, repairBy, recoveryLeaves, recoveryLeft};
 
 // The edition of images that the entry points serve: word 0, and the own words of a record.
 const MARK: u64 = 1;

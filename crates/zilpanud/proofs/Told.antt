@@ -34,10 +34,12 @@ use Rattle.engine.specs.World.{World, outcomeAt}
 use Rattle.engine.specs.Format.{formattable, formatAnswer}
 use Rattle.engine.specs.Submit.{verdictAnswer, isTaken, free, submitAnswer}
 use Rattle.engine.specs.Run.{Counting, counting, Ran, Sweep, through, halted, anyOpen, turned, swept, sweep, afterSweep, roundsOf, runOf}
-use Rattle.recovery.specs.Recovery.{Recovered, accepted, misshapen, unsoundRecord, wrongLock}
-use Rattle.recovery.specs.Recover.{isDone, answerOf}
 use Rattle.engine.specs.Codes.{formatCode, submitCode, turnCode, turnDetail, endCode}
-use Rattle.zilpanud.specs.Codes.{checkCode, recoverCode}
+use Rattle.recovery.specs.declared.Refusal.the-variants.{Image as NotAnImage, Record, Lock}
+use Rattle.recovery.specs.declared.Answer.{Answer as Recovery}
+use Rattle.recovery.specs.declared.Answer.the-variants.{Done as RecoveryDone, Refused as RecoveryRefused}
+use Rattle.recovery.specs.Recover.{isDone}
+use Rattle.recovery.specs.Codes.{recoverCode}
 use Rattle.zilpanud.specs.Lent.{formatting, submitting, running}
 
 -- ---- turns
@@ -90,7 +92,7 @@ format-zero m D = by (formattable ownWords m D)
     by true = refl
     by false = refl
 
-pub check-zero : (v : Verdict) → passes v ≡ eqb (checkCode v) 0
+pub check-zero : (v : Verdict) → passes v ≡ eqb (checkCause v) 0
 check-zero Pass = refl
 check-zero Length = refl
 check-zero (Malformed i) = refl
@@ -99,11 +101,11 @@ check-zero (Unordered i) = refl
 check-zero (Unguarded i) = refl
 check-zero (Unlevel i) = refl
 
-pub recover-zero : (x : Recovered) → isDone (answerOf x) ≡ eqb (recoverCode x) 0
-recover-zero (accepted ss cs) = refl
-recover-zero misshapen = refl
-recover-zero (unsoundRecord d) = refl
-recover-zero (wrongLock b) = refl
+pub recover-zero : (a : Recovery) → isDone a ≡ eqb (recoverCode a) 0
+recover-zero RecoveryDone = refl
+recover-zero (RecoveryRefused NotAnImage) = refl
+recover-zero (RecoveryRefused (Record d)) = refl
+recover-zero (RecoveryRefused (Lock b)) = refl
 
 -- ---- submitting
 

@@ -17,8 +17,9 @@ use Rattle.engine.specs.Format.{formatAnswer, formatLeaves, formatLeft}
 use Rattle.engine.specs.Submit.{submitAnswer, submitLeaves}
 use Rattle.engine.specs.Cursor.{allIdle}
 use Rattle.engine.specs.Run.{Ran, runOf}
-use Rattle.recovery.specs.Recovery.{Recovered, recovery}
-use Rattle.recovery.specs.Recover.{cursorsOf, recoveryLeaves, recoveryLeft}
+use Rattle.recovery.specs.declared.Answer.{Answer as Recovery}
+use Rattle.recovery.specs.Recovery.{recovery}
+use Rattle.recovery.specs.Recover.{answerOf as recoveryAnswer, cursorsOf, recoveryLeaves, recoveryLeft}
 
 -- a step and a turn for each worker
 abbrev pub cursors : List ℕ → List ℕ → Cursors
@@ -66,8 +67,10 @@ counts t = t .turns ∷ t .waits ∷ t .stores ∷ []
 
 -- ---- recovery, of which the cursors lent do not matter
 
-abbrev pub recovering : Image → Recovered
-recovering m = recovery mark ownWords m
+abbrev pub recovering : Image → Recovery
+recovering m = recoveryAnswer (recovery mark ownWords m)
 
 abbrev pub recoversTo : Image → ℕ → World
-recoversTo m left = world (recoveryLeaves ownWords left m (recovering m)) (cursorsOf (recovering m)) (recoveryLeft left (recovering m))
+recoversTo m left =
+    let x = recovery mark ownWords m in
+    world (recoveryLeaves ownWords left m x) (cursorsOf x) (recoveryLeft left x)

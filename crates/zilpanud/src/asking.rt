@@ -2,6 +2,7 @@
 use crate::MARK;
 use crate::OWN;
 use engine::Cursors;
+use engine::Refusal;
 use engine::Standing;
 use image::Field;
 ghost use mathlib.Core.Path.{_≡_};
@@ -14,10 +15,10 @@ pub fn code(image: &[u64], d: usize) -> u64
     ensures { λ r. ⌜ r ≡ askCode (now (image .entry)) d ⌝ }
 {
     if !image::header_ok(image, MARK, OWN) {
-        return 10;
+        return engine::cause(Refusal::Image);
     }
     if image::workers(image) <= d as u64 {
-        return 1;
+        return engine::cause(Refusal::Worker);
     }
     0
 }

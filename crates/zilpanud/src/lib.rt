@@ -1,12 +1,12 @@
 // What C and Rust link: the engine's entry points and three questions, over slices, arrays and numbers. An answer crosses as a
-// number and a detail (codes.rt, and the engine's); the cursors as two arrays, a step and a turn for each worker.
+// number and a detail (`codes` of engine and recovery, `cause` and `step` of section); the cursors as two arrays, a step and a turn for each worker.
 mod asking;
-mod codes;
 mod cursors;
 
 ghost use mathlib.Core.Path.{_≡_};
+ghost use Rattle.section.specs.Check.{causeOf, stepOf};
 ghost use Rattle.engine.specs.Codes.{formatCode, submitCode, submitDetail, turnCode, turnDetail, endCode, endDetail};
-ghost use Rattle.zilpanud.specs.Codes.{checkCode, checkDetail, recoverCode, recoverDetail};
+ghost use Rattle.recovery.specs.Codes.{recoverCode, recoverDetail};
 ghost use Rattle.zilpanud.specs.Lent.{cursors, lent, formatting, formatsTo, checking, submitting, submitsTo};
 ghost use Rattle.zilpanud.specs.Lent.{turning, turnsTo, running, counts, recovering, recoversTo};
 ghost use Rattle.zilpanud.specs.Ask.{askCode, told, idleBit, finishedNo, stands};
@@ -39,8 +39,8 @@ pub extern "C" fn zilpanud_format(
 // The check of a section: 0, or 4 to 9, with the step.
 #[no_mangle]
 pub extern "C" fn zilpanud_check(words: &[u64], detail: &mut u64) -> u64
-    ensures code { λ r. ⌜ r ≡ checkCode (checking (now (words .entry))) ⌝ }
-    ensures detail { λ r. ⌜ now (detail .exit) ≡ checkDetail (checking (now (words .entry))) ⌝ }
+    ensures code { λ r. ⌜ r ≡ causeOf (checking (now (words .entry))) ⌝ }
+    ensures detail { λ r. ⌜ now (detail .exit) ≡ stepOf (checking (now (words .entry))) ⌝ }
 {
     let v = section::check(words, OWN as u16);
     *detail = section::step(v) as u64;
@@ -149,8 +149,8 @@ pub extern "C" fn zilpanud_recover(
     let next = r.cursors;
     cursors::leave(next, step, turn);
     let a = r.answer;
-    *detail = codes::recover_detail(a);
-    codes::recover_code(a)
+    *detail = recovery::codes::recover_detail(a);
+    recovery::codes::recover_code(a)
 }
 
 // Whether a worker is idle, 1 or 0. It returns 0, or 10, 1, as all questions do, and answers 0 where it is refused.

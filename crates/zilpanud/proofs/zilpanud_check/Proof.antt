@@ -1,7 +1,7 @@
 -- `zilpanud_check` meets its contract: the numbers of the verdict.
 use borrow.Author.Needs.{needs}
 use mathlib.Core.Path.{ap, _∙_}
-use Rattle.zilpanud.specs.Codes.{checkCode, checkDetail}
+use Rattle.section.specs.Check.{causeOf, stepOf}
 use Rattle.zilpanud.proofs.zilpanud_check.Statement.{statement}
 use Rattle.zilpanud.proofs.zilpanud_check.Tie as tie
 
@@ -20,7 +20,7 @@ cause-requires c κs = search needs
 returns : tie.Need-returns
 returns c =
     let e = c .before .before .check .ensures in
-    (c .cause .ensures ∙ ap checkCode e, c .before .step .ensures ∙ ap checkDetail e)
+    (c .cause .ensures ∙ ap causeOf e, c .before .step .ensures ∙ ap stepOf e)
 
 pub zilpanud-check-spec : {M : Type 1} → statement M
 zilpanud-check-spec =

@@ -1,7 +1,7 @@
 -- `zilpanud_recover` meets its contract: the numbers of the recovery's answer, and the cursors that it returns.
 use borrow.Author.Needs.{needs}
 use mathlib.Core.Path.{ap, _∙_}
-use Rattle.recovery.specs.Recover.{answerCause, answerValue}
+use Rattle.recovery.specs.Codes.{recoverCode, recoverDetail}
 use Rattle.zilpanud.proofs.zilpanud_recover.Statement.{statement}
 use Rattle.zilpanud.proofs.zilpanud_recover.Tie as tie
 
@@ -24,8 +24,8 @@ returns : tie.Need-returns
 returns c =
     let v = c .before .before in
     let e = v .before .before .before .before .before .before .recover .ensures in (
-      c .recover-code .ensures ∙ ap answerCause (e .0),
-      (c .before .recover-detail .ensures ∙ ap answerValue (e .0), rw (v .leave .ensures, e .1 .0, e .1 .1 .1 .0, e .1 .1 .1 .1)),
+      c .recover-code .ensures ∙ ap recoverCode (e .0),
+      (c .before .recover-detail .ensures ∙ ap recoverDetail (e .0), rw (v .leave .ensures, e .1 .0, e .1 .1 .1 .0, e .1 .1 .1 .1)),
     )
 
 pub zilpanud-recover-spec : {M : Type 1} → statement M
