@@ -84,7 +84,7 @@ fn first(fd: i32, image: &mut [u64], out: &mut [u8], s: Day, text: &[u8]) -> Day
 {
     let o = frames::first(text);
     match o {
-        Opening::Malformed => refuse(fd, out, s, 14),
+        Opening::Malformed => refuse(fd, out, s, frames::MALFORMED),
         Opening::Workers(d) => format(fd, image, out, s, d),
     }
 }

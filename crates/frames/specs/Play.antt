@@ -27,7 +27,7 @@ use Rattle.frames.specs.declared.Job.{Job}
 use Rattle.frames.specs.declared.Job.the-variants.{Turns as TurnsLeft, Stores, Next, Stop}
 use Rattle.frames.specs.declared.Played.{Played}
 use Rattle.frames.specs.Line.{frameOf, argumentsOf, stepsPart, wordsOf}
-use Rattle.frames.specs.Print.{refusal, submitPrints, turnPrints, recoverPrints, slotPrints}
+use Rattle.frames.specs.Print.{malformed, refusal, submitPrints, turnPrints, recoverPrints, slotPrints}
 
 -- an image with where the playing of a line on it stands
 pub record Day : Type 0 where
@@ -100,7 +100,7 @@ abbrev pub beginFrame : Image → Cursors → List ℕ → Frame → Day
 beginFrame m c l (Submit d k) = submitDay m c l d k
 beginFrame m c l (Turns d k) = day m (played c Nothing (TurnsLeft d k) noRepair)
 beginFrame m c l Recover = recovered m (recovery mark ownWords m)
-beginFrame m c l Malformed = day m (played c (refusal 14) Stop noRepair)
+beginFrame m c l Malformed = day m (played c (refusal malformed) Stop noRepair)
 
 abbrev pub begin : Image → Cursors → List ℕ → Day
 begin m c l = beginFrame m c l (frameOf l)

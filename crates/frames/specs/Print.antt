@@ -18,6 +18,10 @@ use Rattle.frames.specs.declared.Printed.{Printed}
 use Rattle.frames.specs.declared.Printed.the-variants.{Nothing, Line}
 use Rattle.frames.specs.Hex.{digitAt}
 
+-- the number of a malformed line
+abbrev pub malformed : ℕ
+malformed = 14
+
 abbrev pub refusal : ℕ → Printed
 refusal cause = Line 65535 cause
 

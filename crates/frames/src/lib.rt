@@ -13,6 +13,9 @@ ghost use Rattle.frames.specs.Line.{firstOf, frameOf, stepsPart};
 ghost use Rattle.frames.specs.Print.{refusal, textOf};
 ghost use Rattle.frames.specs.Play.{day, begin, goOn};
 
+// The number of a malformed line.
+pub const MALFORMED: u64 = 14;
+
 // What the first line says.
 pub enum Opening {
     Workers(u64),

@@ -16,7 +16,7 @@ ghost use Rattle.recovery.specs.Repair.{noRepair};
 ghost use Rattle.recovery.specs.Recovery.{recovery};
 ghost use Rattle.frames.specs.declared.Printed.the-variants.{Nothing};
 ghost use Rattle.frames.specs.declared.Job.the-variants.{Turns as TurnsLeft, Next, Stop};
-ghost use Rattle.frames.specs.Print.{refusal};
+ghost use Rattle.frames.specs.Print.{malformed, refusal};
 ghost use Rattle.frames.specs.Play.{day, played, submitDay, recovered, printJob, goesOn, turnDay, slotDay};
 
 // 01: the section is submitted.
@@ -81,11 +81,11 @@ fn print_job(a: recovery::Answer) -> Job
 }
 
 pub fn malformed(c: Cursors) -> Played
-    ensures { λ r. ⌜ r ≡ played c (refusal 14) Stop noRepair ⌝ }
+    ensures { λ r. ⌜ r ≡ played c (refusal malformed) Stop noRepair ⌝ }
 {
     Played {
         cursors: c,
-        printed: saying::refusal(14),
+        printed: saying::refusal(crate::MALFORMED),
         job: Job::Stop,
         repair: recovery::no_repair(),
     }
