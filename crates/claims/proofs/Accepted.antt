@@ -20,7 +20,7 @@ use Rattle.section.proofs.Held.{after-assign}
 use Rattle.section.proofs.Passing.{passed-is}
 use Rattle.engine.specs.Cursor.{idle, on}
 use Rattle.engine.specs.Turn.{codeIn, activeAddr, activeVal}
-use Rattle.recovery.specs.Recovery.{targetOf, targetTurn, owed, owedBy, namedStep, namedOp, sectionOk, entryOk, pcOk, resumed}
+use Rattle.recovery.specs.Recovery.{targetOf, targetTurn, owedOf, owed, namedStep, namedOp, sectionOk, entryOk, pcOk, resumed}
 use Rattle.claims.specs.Reference.{Given}
 use Rattle.claims.proofs.Invariant.{opAt, heldAt, Sectioned, logsHeld, Named, Due, Phase, resting, due}
 use Rattle.claims.proofs.LiveCrashed.{owed-none}
@@ -112,7 +112,7 @@ module _ (n : ℕ) (rd : Memory) (d : ℕ) where
 
   private-due : (x : Op) (locks : ℕ) → opAt n rd d (namedStep n rd d) ≡ x → entryOk n rd d x ≡ true
       → (rd (field Owned d) ≡ heldAt n rd d (namedStep n rd d)) ⊎ (rd (field Owned d) ≡ heldAt n rd d (suc (namedStep n rd d)))
-      → rd (field Intent d) ≡ locks → locks ≡ owedBy n rd d x → Due n rd d (namedStep n rd d) locks x
+      → rd (field Intent d) ≡ locks → locks ≡ owedOf x (heldAt n rd d (suc (namedStep n rd d))) (rd (field Owned d)) → Due n rd d (namedStep n rd d) locks x
   private-due (Acquire a) locks x h o i l = (o, i ∙ l, l)
   private-due (Release a) locks x h o i l = (private-release _ _ _ _ (i ∙ l) o, sym i)
   private-due (Assign a e) locks x h o i l =
@@ -133,7 +133,8 @@ module _ (n : ℕ) (rd : Memory) (d : ℕ) where
   unfolding resumed namedOp
   private-on z = rw z
 
-  private-owed : eqb (rd (field Pc d)) 0 ≡ false → owed n rd d ≡ owedBy n rd d (opAt n rd d (namedStep n rd d))
+  private-owed : eqb (rd (field Pc d)) 0 ≡ false
+      → owed n rd d ≡ owedOf (opAt n rd d (namedStep n rd d)) (heldAt n rd d (suc (namedStep n rd d))) (rd (field Owned d))
   unfolding owed namedOp
   private-owed z = rw z
 

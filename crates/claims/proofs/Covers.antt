@@ -47,32 +47,32 @@ all-covers big small (suc k) h =
 
 -- ---- claimants of a lock
 
-module _ (n : ℕ) (rd : Memory) (D b : ℕ) where
-  private-some : (k d : ℕ) → d < k → has (owed n rd d) b ≡ true → 1 ≤ claimants n rd D b k
+module _ (n : ℕ) (rd : Memory) (b : ℕ) where
+  private-some : (k d : ℕ) → d < k → has (owed n rd d) b ≡ true → 1 ≤ claimants (owed n rd) b k
   unfolding claimants
   private-some zero d l h = absurd (omega arith)
   private-some (suc k) d l h = by (private-some k d) (ℕ-discrete d k)
     where
-      by : (d < k → has (owed n rd d) b ≡ true → 1 ≤ claimants n rd D b k) → Dec (d ≡ k) → 1 ≤ cond (has (owed n rd k) b) 1 0 + claimants n rd D b k
+      by : (d < k → has (owed n rd d) b ≡ true → 1 ≤ claimants (owed n rd) b k) → Dec (d ≡ k) → 1 ≤ cond (has (owed n rd k) b) 1 0 + claimants (owed n rd) b k
       by more (yes e) = rw (← e, h) (omega arith)
       by more (no e) = let m = more (omega arith) h in omega arith
 
-  private-two : (k d e : ℕ) → d < e → e < k → has (owed n rd d) b ≡ true → has (owed n rd e) b ≡ true → 2 ≤ claimants n rd D b k
+  private-two : (k d e : ℕ) → d < e → e < k → has (owed n rd d) b ≡ true → has (owed n rd e) b ≡ true → 2 ≤ claimants (owed n rd) b k
   unfolding claimants
   private-two zero d e l m g h = absurd (omega arith)
   private-two (suc k) d e l m g h = by (private-two k d e l) (ℕ-discrete e k)
     where
-      by : (e < k → has (owed n rd d) b ≡ true → has (owed n rd e) b ≡ true → 2 ≤ claimants n rd D b k) → Dec (e ≡ k)
-          → 2 ≤ cond (has (owed n rd k) b) 1 0 + claimants n rd D b k
-      by more (yes i) = let s : 1 ≤ claimants n rd D b k = private-some k d (omega arith) g in rw (← i, h) (rw i (omega arith))
+      by : (e < k → has (owed n rd d) b ≡ true → has (owed n rd e) b ≡ true → 2 ≤ claimants (owed n rd) b k) → Dec (e ≡ k)
+          → 2 ≤ cond (has (owed n rd k) b) 1 0 + claimants (owed n rd) b k
+      by more (yes i) = let s : 1 ≤ claimants (owed n rd) b k = private-some k d (omega arith) g in rw (← i, h) (rw i (omega arith))
       by more (no i) = let s = more (omega arith) g h in omega arith
 
-  private-none : (k : ℕ) → ((d : ℕ) → d < k → has (owed n rd d) b ≡ true → ⊥) → claimants n rd D b k ≡ 0
+  private-none : (k : ℕ) → ((d : ℕ) → d < k → has (owed n rd d) b ≡ true → ⊥) → claimants (owed n rd) b k ≡ 0
   unfolding claimants
   private-none zero h = refl
   private-none (suc k) h = by (has (owed n rd k) b) refl (private-none k (λ d l. h d (omega arith)))
     where
-      by : (t : Bool) → has (owed n rd k) b ≡ t → claimants n rd D b k ≡ 0 → cond t 1 0 + claimants n rd D b k ≡ 0
+      by : (t : Bool) → has (owed n rd k) b ≡ t → claimants (owed n rd) b k ≡ 0 → cond t 1 0 + claimants (owed n rd) b k ≡ 0
       by true e z = absurd (h k (omega arith) e)
       by false e z = omega arith
 
@@ -80,23 +80,23 @@ module _ (n : ℕ) (rd : Memory) (D b : ℕ) where
   abbrev pub Alone : ℕ → Type 0
   Alone k = (d e : ℕ) → d < k → e < k → has (owed n rd d) b ≡ true → has (owed n rd e) b ≡ true → d ≡ e
 
-  pub one-claimants : (k : ℕ) → Alone k → claimants n rd D b k ≤ 1
+  pub one-claimants : (k : ℕ) → Alone k → claimants (owed n rd) b k ≤ 1
   unfolding claimants
   one-claimants zero h = omega arith
   one-claimants (suc k) h = by (has (owed n rd k) b) refl (one-claimants k (λ d e l m. h d e (omega arith) (omega arith)))
     where
-      by : (t : Bool) → has (owed n rd k) b ≡ t → claimants n rd D b k ≤ 1 → cond t 1 0 + claimants n rd D b k ≤ 1
+      by : (t : Bool) → has (owed n rd k) b ≡ t → claimants (owed n rd) b k ≤ 1 → cond t 1 0 + claimants (owed n rd) b k ≤ 1
       by true e z =
-          let none : claimants n rd D b k ≡ 0 = private-none k (λ d l g. let i : d ≡ k = h d k (omega arith) (omega arith) g e in omega arith) in
+          let none : claimants (owed n rd) b k ≡ 0 = private-none k (λ d l g. let i : d ≡ k = h d k (omega arith) (omega arith) g e in omega arith) in
           omega arith
       by false e z = omega arith
 
-  pub claimants-one : (k : ℕ) → claimants n rd D b k ≤ 1 → Alone k
+  pub claimants-one : (k : ℕ) → claimants (owed n rd) b k ≤ 1 → Alone k
   claimants-one k h d e l m g i = by (decLt d e) (decLt e d)
     where
       by : Dec (d < e) → Dec (e < d) → d ≡ e
-      by (yes p) q = let t : 2 ≤ claimants n rd D b k = private-two k d e p m g i in absurd (omega arith)
-      by (no p) (yes q) = let t : 2 ≤ claimants n rd D b k = private-two k e d q l i g in absurd (omega arith)
+      by (yes p) q = let t : 2 ≤ claimants (owed n rd) b k = private-two k d e p m g i in absurd (omega arith)
+      by (no p) (yes q) = let t : 2 ≤ claimants (owed n rd) b k = private-two k e d q l i g in absurd (omega arith)
       by (no p) (no q) = omega arith
 
 -- ---- a lock is right
@@ -119,17 +119,17 @@ module _ (n : ℕ) (rd : Memory) (D b : ℕ) where
   private-named zero h = refl
   private-named (suc w) h = let r = h w (omega arith) in and-both (ltb w D) (has (rd (field Intent w)) b) (lt-ltb w D (r .0)) (r .1)
 
-  pub lock-parts : lockOk n rd D b ≡ true → Alone n rd D b D × Names D rd b
+  pub lock-parts : lockOk n rd D b ≡ true → Alone n rd b D × Names D rd b
   unfolding lockOk
   lock-parts h = (
-    claimants-one n rd D b D (leb-true _ _ (and-left (leb (claimants n rd D b D) 1) (ownerOk n rd D b (rd (lock b))) h)),
-    λ d e. private-names (rd (lock b)) d (and-right (leb (claimants n rd D b D) 1) (ownerOk n rd D b (rd (lock b))) h) e,
+    claimants-one n rd b D (leb-true _ _ (and-left (leb (claimants (owed n rd) b D) 1) (ownerOk n rd D b (rd (lock b))) h)),
+    λ d e. private-names (rd (lock b)) d (and-right (leb (claimants (owed n rd) b D) 1) (ownerOk n rd D b (rd (lock b))) h) e,
   )
 
-  pub parts-lock : Alone n rd D b D → Names D rd b → lockOk n rd D b ≡ true
+  pub parts-lock : Alone n rd b D → Names D rd b → lockOk n rd D b ≡ true
   unfolding lockOk
   parts-lock a h =
-      and-both (leb (claimants n rd D b D) 1) (ownerOk n rd D b (rd (lock b))) (le-leb _ _ (one-claimants n rd D b D a)) (private-named (rd (lock b)) h)
+      and-both (leb (claimants (owed n rd) b D) 1) (ownerOk n rd D b (rd (lock b))) (le-leb _ _ (one-claimants n rd b D a)) (private-named (rd (lock b)) h)
 
 -- ---- a record is sound
 
@@ -158,7 +158,7 @@ pub record Parts (n D : ℕ) (rd : Memory) : Type 0 where
   pub section : (d : ℕ) → d < D → sectionOk n rd d ≡ true
   pub pc : (d : ℕ) → d < D → pcOk n rd d ≡ true
   pub meant : (d : ℕ) → d < D → Covered (owed n rd d) (rd (field Intent d))
-  pub alone : (b : ℕ) → b < 64 → Alone n rd D b D
+  pub alone : (b : ℕ) → b < 64 → Alone n rd b D
   pub names : (b : ℕ) → b < 64 → Names D rd b
 
 pub crashed-parts : (n D : ℕ) (rd : Memory) → Crashed n D rd → Parts n D rd

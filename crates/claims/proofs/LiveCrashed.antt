@@ -19,7 +19,7 @@ use Rattle.section.proofs.Facts.{valid-passed}
 use Rattle.section.proofs.Held.{after-release}
 use Rattle.engine.specs.Cursor.{Cursor}
 use Rattle.engine.specs.Turn.{codeIn, activeAddr}
-use Rattle.recovery.specs.Recovery.{targetOf, owed, owedBy, namedStep, namedOp, sectionOk, entryOk, pcOk}
+use Rattle.recovery.specs.Recovery.{targetOf, owedOf, owed, namedStep, namedOp, sectionOk, entryOk, pcOk}
 use Rattle.claims.specs.Reference.{Given}
 use Rattle.claims.proofs.Invariant.{opAt, heldAt, Sectioned, logsHeld, Named, Nearing, Due, Phase, resting, fresh, due, unlocking, unlocked, between, ended, Live, Crashed}
 use Rattle.claims.proofs.Covers.{Covered, Parts, parts-crashed}
@@ -64,25 +64,12 @@ module _ (n : ℕ) (rd : Memory) (d : ℕ) where
   named-some s e = ne-eqb (rd (field Pc d)) 0 (λ z. omega arith)
 
   -- what is owed at step s
-  abbrev pub dueTo : ℕ → Op → ℕ
-  dueTo s (Acquire a) = heldAt n rd d (suc s)
-  dueTo s (Release a) = rd (field Owned d)
-  dueTo s (Assign a e) = rd (field Owned d)
-  dueTo s (Jump a b) = rd (field Owned d)
-  dueTo s Finish = rd (field Owned d)
-  dueTo s Unknown = rd (field Owned d)
-
-  private-due : (s : ℕ) (x : Op) → namedStep n rd d ≡ s → owedBy n rd d x ≡ dueTo s x
-  private-due s (Acquire a) e = rw e
-  private-due s (Release a) e = refl
-  private-due s (Assign a x) e = refl
-  private-due s (Jump a b) e = refl
-  private-due s Finish e = refl
-  private-due s Unknown e = refl
+  abbrev dueTo : ℕ → Op → ℕ
+  dueTo s x = owedOf x (heldAt n rd d (suc s)) (rd (field Owned d))
 
   pub owed-named : (s : ℕ) → rd (field Pc d) % 2 ^ 63 ≡ suc s → owed n rd d ≡ dueTo s (opAt n rd d s)
   unfolding owed namedOp
-  owed-named s e = rw (named-some s e, named-step n rd d s e) (private-due s (opAt n rd d s) (named-step n rd d s e))
+  owed-named s e = rw (named-some s e, named-step n rd d s e)
 
   private-entry : (s : ℕ) (x : Op) → namedStep n rd d ≡ s → rd (field (activeAddr n rd d) d) ≡ indexOf n (targetOf d x) → logsHeld n rd d s x → entryOk n rd d x ≡ true
   private-entry s (Acquire a) e h l = rw e (and-both _ _ (eq-eqb _ _ h) (eq-eqb _ _ l))

@@ -11,7 +11,7 @@ use Rattle.section.specs.Check.{heldBefore}
 use Rattle.section.proofs.Facts.{check-cong}
 use Rattle.section.proofs.Held.{held-cong}
 use Rattle.engine.specs.Turn.{codeIn, activeAddr, activeVal}
-use Rattle.recovery.specs.Recovery.{owed, owedBy, namedStep, namedOp, sectionOk, entryOk, pcOk, targetTurn, resumed}
+use Rattle.recovery.specs.Recovery.{owed, namedStep, namedOp, sectionOk, entryOk, pcOk, targetTurn, resumed}
 use Rattle.claims.proofs.Fields.{active-addr-kept, active-val-kept}
 use Rattle.claims.proofs.Entries.{named-cong}
 
@@ -31,18 +31,10 @@ module _ (n : ℕ) (rd rd′ : Memory) (d : ℕ) (f : Framed n rd rd′ d) where
   unfolding namedOp
   frame-op = rw (named-cong n rd rd′ d (f .pc), f .code (namedStep n rd d))
 
-  private-owed : (x : Op) → owedBy n rd′ d x ≡ owedBy n rd d x
-  private-owed (Acquire a) = rw (named-cong n rd rd′ d (f .pc)) (frame-held (suc (namedStep n rd d)))
-  private-owed (Release a) = f .owned
-  private-owed (Assign a e) = f .owned
-  private-owed (Jump a b) = f .owned
-  private-owed Finish = f .owned
-  private-owed Unknown = f .owned
-
   -- what is owed
   pub owed-frame : owed n rd′ d ≡ owed n rd d
   unfolding owed
-  owed-frame = rw (f .pc, frame-op, private-owed (namedOp n rd d))
+  owed-frame = rw (f .pc, frame-op, named-cong n rd rd′ d (f .pc), frame-held (suc (namedStep n rd d)), f .owned)
 
   private-entry : (x : Op) → entryOk n rd′ d x ≡ entryOk n rd d x
   private-entry (Acquire a) = rw (active-addr-kept n rd rd′ d (f .pc), active-val-kept n rd rd′ d (f .pc), f .addr, f .val, named-cong n rd rd′ d (f .pc), frame-held (suc (namedStep n rd d)))

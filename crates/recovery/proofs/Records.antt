@@ -15,7 +15,6 @@ use Rattle.image.specs.declared.Field.the-variants.{Count, Pc, Intent, Owned, N
 use Rattle.image.specs.Place.{field, Memory}
 use Rattle.image.specs.Image.{Image, at, workers, Inside, lengthOf}
 use Rattle.section.specs.declared.Op.{Op}
-use Rattle.section.specs.declared.Op.the-variants.{Acquire, Release, Assign, Jump, Finish, Unknown}
 use Rattle.section.specs.declared.Verdict.{Verdict}
 use Rattle.section.specs.declared.Verdict.the-variants.{Pass, Length}
 use Rattle.section.specs.Op.{opOf}
@@ -25,8 +24,8 @@ use Rattle.section.proofs.Held.{held-step}
 use Rattle.section.proofs.Passing.{passed-is}
 use Rattle.engine.proofs.Planned.{formed-range}
 use Rattle.engine.specs.Turn.{codeIn}
-use Rattle.recovery.specs.Recovery.{namedStep, namedOp, heldNext, owedBy, owed, sectionOk, entryOk, pcOk, covers, sound, unsound}
-use Rattle.recovery.specs.Repair.{Legible, Restorable, owedOf}
+use Rattle.recovery.specs.Recovery.{namedStep, namedOp, heldNext, owedOf, owed, sectionOk, entryOk, pcOk, covers, sound, unsound}
+use Rattle.recovery.specs.Repair.{Legible, Restorable}
 
 private-not : (b x y : Bool) → cond b x y ≡ true → b ≡ false → y ≡ true
 private-not b x y e h = sym (ap (λ (t : Bool). cond t x y) h) ∙ e
@@ -79,16 +78,6 @@ module _ (n : ℕ) (rd : Memory) (d : ℕ) where
       let b = l (λ z. h (e ∙ z)) in
       rw e (b .some, b .named, b .most)
 
-  -- ---- the owed set by the instruction alone
-
-  pub owed-of : (x : Op) → owedBy n rd d x ≡ owedOf x (heldNext n rd d) (rd (field Owned d))
-  owed-of (Acquire a) = refl
-  owed-of (Release a) = refl
-  owed-of (Assign a e) = refl
-  owed-of (Jump a b) = refl
-  owed-of Finish = refl
-  owed-of Unknown = refl
-
   -- ---- the tests and the owed set at a step that the code has worked out from the pc
 
   module _ (pc : ℕ) (e : pc ≡ rd (field Pc d)) (h : pc ≡ 0 → ⊥) where
@@ -98,7 +87,7 @@ module _ (n : ℕ) (rd : Memory) (d : ℕ) where
     pub owed-begun : (w next : ℕ) (x : Op) → w ≡ codeIn n rd d stepAt → x ≡ opOf w → next ≡ heldNext n rd d → owed n rd d ≡ owedOf x next (rd (field Owned d))
     unfolding owed namedOp namedStep
     owed-begun w next x word op held =
-        rw (held, op, word, e, ne-eqb (rd (field Pc d)) 0 (λ z. h (e ∙ z))) (owed-of (opOf (codeIn n rd d (rd (field Pc d) % 9223372036854775808 - 1))))
+        rw (held, op, word, e, ne-eqb (rd (field Pc d)) 0 (λ z. h (e ∙ z)))
 
     held-begun : heldNext n rd d ≡ heldAfter (heldBefore (codeIn n rd d) stepAt) (opOf (codeIn n rd d stepAt))
     unfolding namedStep

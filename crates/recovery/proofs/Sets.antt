@@ -20,7 +20,7 @@ use Rattle.image.specs.declared.Field.the-variants.{Intent}
 use Rattle.image.specs.Place.{lock, field, Memory}
 use Rattle.engine.specs.Cursor.{stepNo, turnNo}
 use Rattle.recovery.specs.Recovery.{unbegun, owed, claimants, ownerOk, lockOk, badLock, intended, resumedAt, resumedAll}
-use Rattle.recovery.specs.Repair.{eight, owedAt, claimantsIn, sharedFrom, freedBy, withdrawnBy}
+use Rattle.recovery.specs.Repair.{eight, owedAt, setsIn, sharedFrom, freedBy, withdrawnBy}
 use Rattle.recovery.proofs.Members.{has-and, has-or}
 
 -- ---- lists of eight
@@ -85,12 +85,12 @@ withdrawn-has rd (suc k) d h = private-pick rd k d h (withdrawn-has rd k d)
 
 -- ---- locks
 
-claimants-zero : (sets : List ℕ) (b : ℕ) → claimantsIn sets b 0 ≡ 0
-unfolding claimantsIn
+claimants-zero : (sets : ℕ → ℕ) (b : ℕ) → claimants sets b 0 ≡ 0
+unfolding claimants
 claimants-zero sets b = refl
 
-pub claimants-next : (sets : List ℕ) (b k : ℕ) → claimantsIn sets b (k + 1) ≡ cond (has (getD sets k 0) b) 1 0 + claimantsIn sets b k
-unfolding claimantsIn
+pub claimants-next : (sets : ℕ → ℕ) (b k : ℕ) → claimants sets b (k + 1) ≡ cond (has (sets k) b) 1 0 + claimants sets b k
+unfolding claimants
 claimants-next sets b k = rw (add-one k)
 
 -- the locks that a set has once or twice more
@@ -108,27 +108,27 @@ private-twice true false false k e f = let l = ltb-false 0 k e in sym (le-ltb 1 
 private-twice false true false k e f = let l = ltb-false 1 k f in sym (le-ltb 1 (0 + k) (omega arith))
 private-twice false false false k e f = let l = ltb-false 1 k f in sym (le-ltb 1 (0 + k) (omega arith))
 
-module _ (sets : List ℕ) (d b once : ℕ) (e : has once b ≡ ltb 0 (claimantsIn sets b d)) where
-  pub once-next : has (bitOr once (getD sets d 0)) b ≡ ltb 0 (claimantsIn sets b (d + 1))
+module _ (sets : ℕ → ℕ) (d b once : ℕ) (e : has once b ≡ ltb 0 (claimants sets b d)) where
+  pub once-next : has (bitOr once (sets d)) b ≡ ltb 0 (claimants sets b (d + 1))
   once-next =
-      rw (claimants-next sets b d, has-or once (getD sets d 0) b)
-      (private-once (has (getD sets d 0) b) (has once b) (claimantsIn sets b d) (sym e))
+      rw (claimants-next sets b d, has-or once (sets d) b)
+      (private-once (has (sets d) b) (has once b) (claimants sets b d) (sym e))
 
-  pub twice-next : (twice : ℕ) → has twice b ≡ ltb 1 (claimantsIn sets b d) → has (bitOr twice (bitAnd once (getD sets d 0))) b ≡ ltb 1 (claimantsIn sets b (d + 1))
+  pub twice-next : (twice : ℕ) → has twice b ≡ ltb 1 (claimants sets b d) → has (bitOr twice (bitAnd once (sets d))) b ≡ ltb 1 (claimants sets b (d + 1))
   twice-next twice f =
-      rw (claimants-next sets b d, has-or twice (bitAnd once (getD sets d 0)) b, has-and once (getD sets d 0) b)
-      (private-twice (has (getD sets d 0) b) (has once b) (has twice b) (claimantsIn sets b d) (sym e) (sym f))
+      rw (claimants-next sets b d, has-or twice (bitAnd once (sets d)) b, has-and once (sets d) b)
+      (private-twice (has (sets d) b) (has once b) (has twice b) (claimants sets b d) (sym e) (sym f))
 
 -- no set has a lock
-pub none-has : (sets : List ℕ) (b k : ℕ) → has 0 b ≡ ltb k (claimantsIn sets b 0)
+pub none-has : (sets : ℕ → ℕ) (b k : ℕ) → has 0 b ≡ ltb k (claimants sets b 0)
 none-has sets b k = rw (has-none b, claimants-zero sets b) (sym (le-ltb k 0 (omega arith)))
 
 -- ---- the lowest lock that two sets have
 
-module _ (sets : List ℕ) (n : ℕ) where
+module _ (sets : ℕ → ℕ) (n : ℕ) where
   -- what is known of r, the lowest from b on and below e
   abbrev Lowest : ℕ → ℕ → ℕ → Type 0
-  Lowest b e r = (r ≤ e) × ((c : ℕ) → b ≤ c → c < r → claimantsIn sets c n ≤ 1) × (r < e → 1 < claimantsIn sets r n)
+  Lowest b e r = (r ≤ e) × ((c : ℕ) → b ≤ c → c < r → claimants sets c n ≤ 1) × (r < e → 1 < claimants sets r n)
 
   -- it is the definition's
   pub shared-is : (r k b : ℕ) → b ≤ r → Lowest 0 (b + k) r → r ≡ sharedFrom sets n b k
@@ -136,22 +136,22 @@ module _ (sets : List ℕ) (n : ℕ) where
   shared-is r zero b l f = omega (arith, f .0)
   shared-is r (suc k) b l f = by (ℕ-discrete r b) (λ g. shared-is r k (b + 1) g (omega (arith, f .0), f .1, λ h. f .2 (omega arith)))
     where
-      by : Dec (r ≡ b) → (b + 1 ≤ r → r ≡ sharedFrom sets n (b + 1) k) → r ≡ cond (leb (claimantsIn sets b n) 1) (sharedFrom sets n (b + 1) k) b
-      by (yes p) rest = rw (lt-leb (claimantsIn sets b n) 1 (rw p at (f .2 (omega arith)))) p
-      by (no p) rest = rw (le-leb (claimantsIn sets b n) 1 (f .1 b (omega arith) (omega arith))) (rest (omega arith))
+      by : Dec (r ≡ b) → (b + 1 ≤ r → r ≡ sharedFrom sets n (b + 1) k) → r ≡ cond (leb (claimants sets b n) 1) (sharedFrom sets n (b + 1) k) b
+      by (yes p) rest = rw (lt-leb (claimants sets b n) 1 (rw p at (f .2 (omega arith)))) p
+      by (no p) rest = rw (le-leb (claimants sets b n) 1 (f .1 b (omega arith) (omega arith))) (rest (omega arith))
 
   shared-from : (k b : ℕ) → Lowest b (b + k) (sharedFrom sets n b k)
   unfolding sharedFrom
   shared-from zero b = (omega arith, (λ c l h. absurd (omega arith)), λ h. absurd (omega arith))
-  shared-from (suc k) b = by (leb (claimantsIn sets b n) 1) refl (sharedFrom sets n (b + 1) k) (shared-from k (b + 1))
+  shared-from (suc k) b = by (leb (claimants sets b n) 1) refl (sharedFrom sets n (b + 1) k) (shared-from k (b + 1))
     where
-      below : (r c : ℕ) → claimantsIn sets b n ≤ 1 → Lowest (b + 1) (b + 1 + k) r → b ≤ c → c < r → Dec (c ≡ b) → claimantsIn sets c n ≤ 1
+      below : (r c : ℕ) → claimants sets b n ≤ 1 → Lowest (b + 1) (b + 1 + k) r → b ≤ c → c < r → Dec (c ≡ b) → claimants sets c n ≤ 1
       below r c e f l h (yes p) = rw p e
       below r c e f l h (no p) = f .1 c (omega arith) h
 
-      by : (t : Bool) → leb (claimantsIn sets b n) 1 ≡ t → (r : ℕ) → Lowest (b + 1) (b + 1 + k) r → Lowest b (b + suc k) (cond t r b)
-      by true e r f = (omega (arith, f .0), (λ c l h. below r c (leb-true (claimantsIn sets b n) 1 e) f l h (ℕ-discrete c b)), λ h. f .2 (omega arith))
-      by false e r f = (omega arith, (λ c l h. absurd (omega arith)), λ h. leb-false (claimantsIn sets b n) 1 e)
+      by : (t : Bool) → leb (claimants sets b n) 1 ≡ t → (r : ℕ) → Lowest (b + 1) (b + 1 + k) r → Lowest b (b + suc k) (cond t r b)
+      by true e r f = (omega (arith, f .0), (λ c l h. below r c (leb-true (claimants sets b n) 1 e) f l h (ℕ-discrete c b)), λ h. f .2 (omega arith))
+      by false e r f = (omega arith, (λ c l h. absurd (omega arith)), λ h. leb-false (claimants sets b n) 1 e)
 
   -- and what the definition's is
   pub shared-told : (r : ℕ) → r ≡ sharedFrom sets n 0 64 → Lowest 0 64 r
@@ -171,8 +171,8 @@ module _ (n : ℕ) (rd : Memory) (D : ℕ) where
       by (yes l) = rw (lt-ltb j d l, lt-ltb j (d + 1) (omega arith))
       by (no g) = rw (le-ltb j d (omega arith), le-ltb j (d + 1) (omega arith))
 
-  pub claimants-are : (b k : ℕ) → k ≤ D → D ≤ 8 → claimantsIn (eight (owedAt n rd D)) b k ≡ claimants n rd D b k
-  unfolding claimantsIn claimants
+  pub claimants-are : (b k : ℕ) → k ≤ D → D ≤ 8 → claimants (setsIn (eight (owedAt n rd D))) b k ≡ claimants (owed n rd) b k
+  unfolding claimants
   claimants-are b zero h g = refl
   claimants-are b (suc k) h g = rw (eight-at (owedAt n rd D) k (omega arith), owed-inside k (omega arith), claimants-are b k (omega arith) g)
 
@@ -188,13 +188,13 @@ module _ (n : ℕ) (rd : Memory) (D : ℕ) where
       by j l (no p) = getD-set-other sets d j v 0 p ∙ (ap (λ (s : List ℕ). getD s j 0) e ∙ (eight-at (owedAt n rd d) j l ∙ private-wider d j p))
 
   -- a lock that one worker at most is owed, and one that two are owed
-  pub lock-single : (b : ℕ) → D ≤ 8 → claimantsIn (eight (owedAt n rd D)) b D ≤ 1 → lockOk n rd D b ≡ ownerOk n rd D b (rd (lock b))
+  pub lock-single : (b : ℕ) → D ≤ 8 → claimants (setsIn (eight (owedAt n rd D))) b D ≤ 1 → lockOk n rd D b ≡ ownerOk n rd D b (rd (lock b))
   unfolding lockOk
-  lock-single b few h = rw (← claimants-are b D (omega arith) few, le-leb (claimantsIn (eight (owedAt n rd D)) b D) 1 h)
+  lock-single b few h = rw (← claimants-are b D (omega arith) few, le-leb (claimants (setsIn (eight (owedAt n rd D))) b D) 1 h)
 
-  pub lock-shared : (b : ℕ) → D ≤ 8 → 1 < claimantsIn (eight (owedAt n rd D)) b D → lockOk n rd D b ≡ false
+  pub lock-shared : (b : ℕ) → D ≤ 8 → 1 < claimants (setsIn (eight (owedAt n rd D))) b D → lockOk n rd D b ≡ false
   unfolding lockOk
-  lock-shared b few h = rw (← claimants-are b D (omega arith) few, lt-leb (claimantsIn (eight (owedAt n rd D)) b D) 1 h)
+  lock-shared b few h = rw (← claimants-are b D (omega arith) few, lt-leb (claimants (setsIn (eight (owedAt n rd D))) b D) 1 h)
 
   -- an owner word that is not 0 names the worker below it
   pub owner-named : (b w : ℕ) → (w ≡ 0 → ⊥) → ownerOk n rd D b w ≡ (ltb (w - 1) D && has (rd (field Intent (w - 1))) b)

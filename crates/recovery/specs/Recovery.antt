@@ -37,6 +37,20 @@ targetOf d Unknown = field Owned d
 abbrev pub unbegun : Memory → ℕ → Bool
 unbegun rd d = eqb (rd (field Pc d)) 0 && not (eqb (rd (field Count d)) 0)
 
+-- what is owed at an instruction, from the held set after it and the set owned: an acquire's lock may be taken and not yet owned
+abbrev pub owedOf : Op → ℕ → ℕ → ℕ
+owedOf (Acquire a) next owned = next
+owedOf (Release a) next owned = owned
+owedOf (Assign a e) next owned = owned
+owedOf (Jump a b) next owned = owned
+owedOf Finish next owned = owned
+owedOf Unknown next owned = owned
+
+-- how many of the first k sets have lock b
+unfoldable pub claimants : (ℕ → ℕ) → ℕ → ℕ → ℕ
+claimants sets b zero = 0
+claimants sets b (suc k) = cond (has (sets k) b) 1 0 + claimants sets b k
+
 -- n: own words in a record
 module _ (n : ℕ) (rd : Memory) where
   module _ (d : ℕ) where
@@ -53,17 +67,9 @@ module _ (n : ℕ) (rd : Memory) where
     abbrev pub heldNext : ℕ
     heldNext = heldBefore (codeIn n rd d) (suc namedStep)
 
-    abbrev pub owedBy : Op → ℕ
-    owedBy (Acquire a) = heldNext
-    owedBy (Release a) = rd (field Owned d)
-    owedBy (Assign a e) = rd (field Owned d)
-    owedBy (Jump a b) = rd (field Owned d)
-    owedBy Finish = rd (field Owned d)
-    owedBy Unknown = rd (field Owned d)
-
     -- the locks that worker d is to have (document 01: the owed set)
     unfoldable pub owed : ℕ
-    owed = cond (eqb (rd (field Pc d)) 0) 0 (owedBy namedOp)
+    owed = cond (eqb (rd (field Pc d)) 0) 0 (owedOf namedOp heldNext (rd (field Owned d)))
 
     -- no section, or one that passes the check, with a number that may be under way
     unfoldable pub sectionOk : Bool
@@ -114,11 +120,6 @@ module _ (n : ℕ) (rd : Memory) where
     unsound d zero = []
     unsound d (suc k) = cond (sound d) (unsound (d + 1) k) (d ∷ [])
 
-    -- how many of the first k workers are owed lock b
-    unfoldable pub claimants : ℕ → ℕ → ℕ
-    claimants b zero = 0
-    claimants b (suc k) = cond (has (owed k) b) 1 0 + claimants b k
-
     -- an owner word that is not 0 names a worker that intends the lock
     abbrev pub ownerOk : ℕ → ℕ → Bool
     ownerOk b zero = true
@@ -126,7 +127,7 @@ module _ (n : ℕ) (rd : Memory) where
 
     -- no two workers are owed lock b, and its owner word is right (else cause 13)
     unfoldable pub lockOk : ℕ → Bool
-    lockOk b = leb (claimants b D) 1 && ownerOk b (rd (lock b))
+    lockOk b = leb (claimants owed b D) 1 && ownerOk b (rd (lock b))
 
     -- the first lock, of k from b on, that is not
     unfoldable pub badLock : ℕ → ℕ → List ℕ

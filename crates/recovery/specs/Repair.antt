@@ -11,14 +11,12 @@ use Rattle.mask.specs.Mask.{has, with}
 use Rattle.image.specs.declared.Field.the-variants.{Count, Pc, Intent}
 use Rattle.image.specs.Place.{lock, field, Memory, Store}
 use Rattle.image.specs.Image.{Image, lengthOf, indexOf, at, workers, put}
-use Rattle.section.specs.declared.Op.{Op}
-use Rattle.section.specs.declared.Op.the-variants.{Acquire, Release, Assign, Jump, Finish, Unknown}
 use Rattle.section.specs.Check.{inRange, heldBefore}
 use Rattle.engine.specs.Turn.{codeIn}
 use Rattle.recovery.specs.declared.Repair.{Repair}
 use Rattle.recovery.specs.declared.Slot.{Slot}
 use Rattle.recovery.specs.declared.Slot.the-variants.{Empty, Store as Filled}
-use Rattle.recovery.specs.Recovery.{_≔_, namedStep, owed, unbegun}
+use Rattle.recovery.specs.Recovery.{_≔_, claimants, namedStep, owed, unbegun}
 
 -- ---- what the functions that read a begun section ask
 
@@ -46,28 +44,18 @@ Helds n rd d k held = (j : ℕ) → j < k → getD held j 0 ≡ heldBefore (code
 
 -- ---- the sets
 
--- an instruction's owed set, from the held set after it and the set owned
-abbrev pub owedOf : Op → ℕ → ℕ → ℕ
-owedOf (Acquire a) next owned = next
-owedOf (Release a) next owned = owned
-owedOf (Assign a e) next owned = owned
-owedOf (Jump a b) next owned = owned
-owedOf Finish next owned = owned
-owedOf Unknown next owned = owned
-
 -- worker d's owed set; empty for one that the image has not
 abbrev pub owedAt : ℕ → Memory → ℕ → ℕ → ℕ
 owedAt n rd D d = cond (ltb d D) (owed n rd d) 0
 
--- how many of the first k sets of a list have lock b
-unfoldable pub claimantsIn : List ℕ → ℕ → ℕ → ℕ
-claimantsIn sets b zero = 0
-claimantsIn sets b (suc k) = cond (has (getD sets k 0) b) 1 0 + claimantsIn sets b k
+-- the sets of a list
+abbrev pub setsIn : List ℕ → ℕ → ℕ
+setsIn l d = getD l d 0
 
--- the lowest lock, of k from b on, that two of the first n sets of a list have; b + k where there is none
-unfoldable pub sharedFrom : List ℕ → ℕ → ℕ → ℕ → ℕ
+-- the lowest lock, of k from b on, that two of the first n sets have; b + k where there is none
+unfoldable pub sharedFrom : (ℕ → ℕ) → ℕ → ℕ → ℕ → ℕ
 sharedFrom sets n b zero = b
-sharedFrom sets n b (suc k) = cond (leb (claimantsIn sets b n) 1) (sharedFrom sets n (b + 1) k) b
+sharedFrom sets n b (suc k) = cond (leb (claimants sets b n) 1) (sharedFrom sets n (b + 1) k) b
 
 -- the locks that the first k workers intend
 unfoldable pub freedBy : Memory → ℕ → ℕ

@@ -7,8 +7,8 @@ ghost use Prim.Native.Nat.{ℕ};
 ghost use Rattle.image.specs.Place.{Memory};
 ghost use Rattle.image.specs.Image.{at, Inside};
 ghost use Rattle.engine.specs.Cursor.{stepNo, turnNo};
-ghost use Rattle.recovery.specs.Recovery.{targetTurn, resumed};
-ghost use Rattle.recovery.specs.Repair.{Legible, owedOf};
+ghost use Rattle.recovery.specs.Recovery.{owedOf, targetTurn, resumed};
+ghost use Rattle.recovery.specs.Repair.{Legible};
 
 // The owed set at an instruction: of an acquire the held set after it, since its lock may be taken and not yet owned.
 pub fn owed_by(x: Op, next: u64, owned: u64) -> u64

@@ -8,13 +8,13 @@ ghost use lib.ListN.{length};
 ghost use Rattle.image.specs.Place.{lock};
 ghost use Rattle.image.specs.Image.{at, workers, lengthOf};
 ghost use Rattle.recovery.specs.Recovery.{ownerOk, badLock};
-ghost use Rattle.recovery.specs.Repair.{eight, owedAt, sharedFrom};
+ghost use Rattle.recovery.specs.Repair.{eight, owedAt, setsIn, sharedFrom};
 ghost use Rattle.recovery.specs.Recover.{byLock};
 
 // The lowest lock that two of the first n sets have; 64 where there is none.
 fn shared(sets: &[u64], n: usize) -> u64
     requires { ⌜ n ≤ length (now sets) ⌝ }
-    ensures { λ r. ⌜ r ≡ sharedFrom (now (sets .entry)) n 0 64 ⌝ }
+    ensures { λ r. ⌜ r ≡ sharedFrom (setsIn (now (sets .entry))) n 0 64 ⌝ }
 {
     let mut once: u64 = 0;
     let mut twice: u64 = 0;

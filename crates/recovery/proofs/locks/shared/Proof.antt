@@ -9,7 +9,8 @@ use denote.Ref.{now}
 use lib.Count.{trailing-le}
 use lib.Dec.{ltb}
 use Rattle.mask.specs.Mask.{has}
-use Rattle.recovery.specs.Repair.{claimantsIn}
+use Rattle.recovery.specs.Recovery.{claimants}
+use Rattle.recovery.specs.Repair.{setsIn}
 use Rattle.recovery.proofs.Lowest.{low-below, low-has}
 use Rattle.recovery.proofs.Sets.{none-has, once-next, twice-next, shared-is}
 use Rattle.recovery.proofs.locks.shared.Statement.{statement}
@@ -17,13 +18,13 @@ use Rattle.recovery.proofs.locks.shared.Tie as tie
 
 abbrev Inv-loop : tie.InvT-loop
 Inv-loop sets n once₀ twice₀ d₀ once twice d =
-    (d ≤ n) × ((b : ℕ) → has once b ≡ ltb 0 (claimantsIn sets b d)) × ((b : ℕ) → has twice b ≡ ltb 1 (claimantsIn sets b d))
+    (d ≤ n) × ((b : ℕ) → has once b ≡ ltb 0 (claimants (setsIn sets) b d)) × ((b : ℕ) → has twice b ≡ ltb 1 (claimants (setsIn sets) b d))
 
 abbrev μ-loop : tie.MeasureT-loop
 μ-loop sets n once₀ twice₀ d₀ once twice d = n - d
 
 loop-holds : tie.Need-loop-holds Inv-loop μ-loop
-loop-holds c = let s = now (c .args .sets) in (omega arith, λ b. none-has s b 0, λ b. none-has s b 1)
+loop-holds c = let s = setsIn (now (c .args .sets)) in (omega arith, λ b. none-has s b 0, λ b. none-has s b 1)
 
 mul-twice : tie.Need-mul-twice Inv-loop μ-loop
 mul-twice c = search needs
@@ -45,7 +46,7 @@ loop-less c = omega arith
 
 loop-again : tie.Need-loop-again Inv-loop μ-loop
 loop-again c =
-    let s = now (c .before .before .before .before .args .sets) in
+    let s = setsIn (now (c .before .before .before .before .args .sets)) in
     let L = c .before .before .before .loop in
     (omega arith, λ b. once-next s (L .d) b (L .once) (L .inv .1 b), λ b. twice-next s (L .d) b (L .once) (L .inv .1 b) (L .twice) (L .inv .2 b))
 
@@ -58,9 +59,10 @@ returns c =
     let L = c .before .loop in
     let e : L .d ≡ A .n = omega arith in
     let f = rw e at (L .inv .2) in
-    shared-is (now (A .sets)) (A .n) _ 64 0 (omega arith) (
+    let s = setsIn (now (A .sets)) in
+    shared-is s (A .n) _ 64 0 (omega arith) (
       trailing-le 64 (L .twice),
-      (λ b g l. ltb-false 1 (claimantsIn (now (A .sets)) b (A .n)) (sym (f b) ∙ low-below 64 (L .twice) b l)),
+      (λ b g l. ltb-false 1 (claimants s b (A .n)) (sym (f b) ∙ low-below 64 (L .twice) b l)),
       λ l. ltb-true 1 _ (sym (f _) ∙ low-has 64 (L .twice) l),
     )
 
