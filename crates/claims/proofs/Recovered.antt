@@ -18,89 +18,85 @@ use Rattle.image.specs.declared.Field.{Field}
 use Rattle.image.specs.declared.Field.the-variants.{Count, Pc, Intent}
 use Rattle.image.specs.Place.{Place, lock, field, same, Memory, updAll}
 use Rattle.image.proofs.Lists.{allValid}
-use Rattle.recovery.specs.Recovery.{_≔_, owed, intended, unlocks, intents, withdraws, allRelocks, plan, resumed}
+use Rattle.recovery.specs.Recovery.{_≔_, rows, owed, intended, intend, withdraw, relock, relocks, unlock, plan, resumed}
 use Rattle.claims.specs.Reference.{Given}
 use Rattle.claims.proofs.Invariant.{Phase, Live, Crashed}
 use Rattle.claims.proofs.Covers.{Parts, crashed-parts}
-use Rattle.claims.proofs.StoreRows.{rows, updAll-append, Leaves, Sets, Writes, leaves-one, leaves-cond, leaves-rows, sets-rows, sets-one, sets-cond, writes-rows, writes-cond, valid-append, valid-cond, valid-rows}
+use Rattle.claims.proofs.StoreRows.{updAll-append, Leaves, Sets, Writes, leaves-one, leaves-cond, leaves-rows, sets-rows, sets-one, sets-cond, writes-rows, writes-cond, valid-append, valid-cond, valid-rows}
 use Rattle.claims.proofs.RecoveryFrame.{owed-frame, resumed-frame}
-use Rattle.claims.proofs.Stages.{unlockRow, intentRow, withdrawRow, relockRow, unlocks-rows, intents-rows, withdraws-rows, all-relocks-rows, Kept, kept-framed, kept-parts, unlocked-free, plan-kept}
+use Rattle.claims.proofs.Stages.{Kept, kept-framed, kept-parts, unlocked-free, plan-kept}
 use Rattle.claims.proofs.Accepted.{settled-phase}
 
 module _ (n : ℕ) (rd : Memory) (D : ℕ) where
   -- ---- what the stages leave
 
-  unlocks-leave : (f : Field) (d : ℕ) → Leaves (field f d) (unlocks n rd D 0 64)
-  unlocks-leave f d = rw (unlocks-rows n rd D 0 64) (leaves-rows (field f d) (unlockRow n rd D) 0 64 (λ b. leaves-cond (field f d) (intended n rd D b D) (lock b ≔ 0) refl))
+  unlocks-leave : (f : Field) (d : ℕ) → Leaves (field f d) (rows (unlock n rd D) 0 64)
+  unlocks-leave f d = leaves-rows (field f d) (unlock n rd D) 0 64 (λ b. leaves-cond (field f d) (intended n rd D b) (lock b ≔ 0) refl)
 
-  intents-leave-count : (d : ℕ) → Leaves (field Count d) (intents n rd D 0 D)
-  intents-leave-count d = rw (intents-rows n rd D 0 D) (leaves-rows (field Count d) (intentRow n rd D) 0 D (λ e. leaves-one (field Count d) (field Intent e ≔ owed n rd e) refl))
+  intents-leave-count : (d : ℕ) → Leaves (field Count d) (rows (intend n rd) 0 D)
+  intents-leave-count d = leaves-rows (field Count d) (intend n rd) 0 D (λ e. leaves-one (field Count d) (field Intent e ≔ owed n rd e) refl)
 
-  intents-leave-lock : (b : ℕ) → Leaves (lock b) (intents n rd D 0 D)
-  intents-leave-lock b = rw (intents-rows n rd D 0 D) (leaves-rows (lock b) (intentRow n rd D) 0 D (λ e. leaves-one (lock b) (field Intent e ≔ owed n rd e) refl))
+  intents-leave-lock : (b : ℕ) → Leaves (lock b) (rows (intend n rd) 0 D)
+  intents-leave-lock b = leaves-rows (lock b) (intend n rd) 0 D (λ e. leaves-one (lock b) (field Intent e ≔ owed n rd e) refl)
 
-  withdraws-leave : (q : Place) → ((e : ℕ) → same q (field Count e) ≡ false) → Leaves q (withdraws n rd D 0 D)
-  withdraws-leave q h = rw (withdraws-rows n rd D 0 D) (leaves-rows q (withdrawRow n rd D) 0 D (λ e. leaves-cond q (eqb (rd (field Pc e)) 0 && not (eqb (rd (field Count e)) 0)) (field Count e ≔ 0) (h e)))
+  withdraws-leave : (q : Place) → ((e : ℕ) → same q (field Count e) ≡ false) → Leaves q (rows (withdraw n rd) 0 D)
+  withdraws-leave q h = leaves-rows q (withdraw n rd) 0 D (λ e. leaves-cond q (eqb (rd (field Pc e)) 0 && not (eqb (rd (field Count e)) 0)) (field Count e ≔ 0) (h e))
 
-  relocks-leave : (f : Field) (d : ℕ) → Leaves (field f d) (allRelocks n rd D 0 D)
+  relocks-leave : (f : Field) (d : ℕ) → Leaves (field f d) (rows (relocks n rd) 0 D)
   relocks-leave f d =
-      rw (all-relocks-rows n rd D 0 D)
-      (leaves-rows (field f d) (λ e. rows (relockRow n rd D e) 0 64) 0 D (λ e. leaves-rows (field f d) (relockRow n rd D e) 0 64 (λ b. leaves-cond (field f d) (has (owed n rd e) b) (lock b ≔ e + 1) refl)))
+      leaves-rows (field f d) (relocks n rd) 0 D (λ e. leaves-rows (field f d) (relock n rd e) 0 64 (λ b. leaves-cond (field f d) (has (owed n rd e) b) (lock b ≔ e + 1) refl))
 
   -- ---- what they write
 
-  intents-write : (d : ℕ) → d < D → Writes (field Intent d) (owed n rd d) (intents n rd D 0 D)
+  intents-write : (d : ℕ) → d < D → Writes (field Intent d) (owed n rd d) (rows (intend n rd) 0 D)
   intents-write d l =
-      rw (intents-rows n rd D 0 D)
-      (writes-rows (field Intent d) (owed n rd d) (intentRow n rd D) 0 D
+      writes-rows (field Intent d) (owed n rd d) (intend n rd) 0 D
       (λ e g h. sets-one (field Intent d) (owed n rd d) (field Intent e ≔ owed n rd e) (λ i. ap (owed n rd) (sym (eqb-true d e i))))
-      d (omega arith) (omega arith) (writes-cond true (field Intent d ≔ owed n rd d) refl))
+      d (omega arith) (omega arith) (writes-cond true (field Intent d ≔ owed n rd d) refl)
 
-  private-zero : (d e : ℕ) → Sets (field Count d) 0 (withdrawRow n rd D e)
+  private-zero : (d e : ℕ) → Sets (field Count d) 0 (withdraw n rd e)
   private-zero d e = sets-cond (field Count d) 0 (eqb (rd (field Pc e)) 0 && not (eqb (rd (field Count e)) 0)) (field Count e ≔ 0) (λ t s. refl)
 
   -- a count that is 0 stays 0, another is set to 0 where the pc is 0
-  withdraws-zero : (rd′ : Memory) (d : ℕ) → d < D → rd (field Pc d) ≡ 0 → rd′ (field Count d) ≡ rd (field Count d) → updAll rd′ (withdraws n rd D 0 D) (field Count d) ≡ 0
-  withdraws-zero rd′ d l z c = rw (withdraws-rows n rd D 0 D) (by (eqb (rd (field Count d)) 0) refl)
+  withdraws-zero : (rd′ : Memory) (d : ℕ) → d < D → rd (field Pc d) ≡ 0 → rd′ (field Count d) ≡ rd (field Count d) → updAll rd′ (rows (withdraw n rd) 0 D) (field Count d) ≡ 0
+  withdraws-zero rd′ d l z c = by (eqb (rd (field Count d)) 0) refl
     where
-      by : (t : Bool) → eqb (rd (field Count d)) 0 ≡ t → updAll rd′ (rows (withdrawRow n rd D) 0 D) (field Count d) ≡ 0
-      by true e = sets-rows (field Count d) 0 (withdrawRow n rd D) 0 D (λ j g h. private-zero d j) rd′ (c ∙ eqb-true _ _ e)
+      by : (t : Bool) → eqb (rd (field Count d)) 0 ≡ t → updAll rd′ (rows (withdraw n rd) 0 D) (field Count d) ≡ 0
+      by true e = sets-rows (field Count d) 0 (withdraw n rd) 0 D (λ j g h. private-zero d j) rd′ (c ∙ eqb-true _ _ e)
       by false e =
           let t : (eqb (rd (field Pc d)) 0 && not (eqb (rd (field Count d)) 0)) ≡ true = rw (z, e) in
-          writes-rows (field Count d) 0 (withdrawRow n rd D) 0 D (λ j g h. private-zero d j) d (omega arith) (omega arith)
+          writes-rows (field Count d) 0 (withdraw n rd) 0 D (λ j g h. private-zero d j) d (omega arith) (omega arith)
           (writes-cond (eqb (rd (field Pc d)) 0 && not (eqb (rd (field Count d)) 0)) (field Count d ≔ 0) t) rd′
 
   -- the stores of worker e to lock b
-  private-relock : (b v e : ℕ) → (has (owed n rd e) b ≡ true → e + 1 ≡ v) → Sets (lock b) v (rows (relockRow n rd D e) 0 64)
+  private-relock : (b v e : ℕ) → (has (owed n rd e) b ≡ true → e + 1 ≡ v) → Sets (lock b) v (rows (relock n rd e) 0 64)
   private-relock b v e h =
-      sets-rows (lock b) v (relockRow n rd D e) 0 64
+      sets-rows (lock b) v (relock n rd e) 0 64
       (λ c l m. sets-cond (lock b) v (has (owed n rd e) c) (lock c ≔ e + 1) (λ t s. h (rw (← eqb-true b c s) at t)))
 
-  relocks-write : Parts n D rd → (b d : ℕ) → b < 64 → d < D → has (owed n rd d) b ≡ true → Writes (lock b) (d + 1) (allRelocks n rd D 0 D)
+  relocks-write : Parts n D rd → (b d : ℕ) → b < 64 → d < D → has (owed n rd d) b ≡ true → Writes (lock b) (d + 1) (rows (relocks n rd) 0 D)
   relocks-write p b d u l t =
       let only : (e : ℕ) → e < D → has (owed n rd e) b ≡ true → e + 1 ≡ d + 1 = λ e m h. let i : e ≡ d = p .alone b u e d m l h t in omega arith in
-      rw (all-relocks-rows n rd D 0 D)
-      (writes-rows (lock b) (d + 1) (λ e. rows (relockRow n rd D e) 0 64) 0 D (λ e g h. private-relock b (d + 1) e (only e (omega arith)))
+      writes-rows (lock b) (d + 1) (relocks n rd) 0 D (λ e g h. private-relock b (d + 1) e (only e (omega arith)))
       d (omega arith) (omega arith)
-      (writes-rows (lock b) (d + 1) (relockRow n rd D d) 0 64
+      (writes-rows (lock b) (d + 1) (relock n rd d) 0 64
       (λ c g h. sets-cond (lock b) (d + 1) (has (owed n rd d) c) (lock c ≔ d + 1) (λ s i. refl))
-      b (omega arith) (omega arith) (writes-cond (has (owed n rd d) b) (lock b ≔ d + 1) t)))
+      b (omega arith) (omega arith) (writes-cond (has (owed n rd d) b) (lock b ≔ d + 1) t))
 
-  relocks-free : (b : ℕ) → ((e : ℕ) → e < D → has (owed n rd e) b ≡ false) → Sets (lock b) 0 (allRelocks n rd D 0 D)
+  relocks-free : (b : ℕ) → ((e : ℕ) → e < D → has (owed n rd e) b ≡ false) → Sets (lock b) 0 (rows (relocks n rd) 0 D)
   relocks-free b h =
-      rw (all-relocks-rows n rd D 0 D)
-      (sets-rows (lock b) 0 (λ e. rows (relockRow n rd D e) 0 64) 0 D (λ e g m. private-relock b 0 e (λ t. absurd (true≢false (sym t ∙ h e (omega arith))))))
+      sets-rows (lock b) 0 (relocks n rd) 0 D (λ e g m. private-relock b 0 e (λ t. absurd (true≢false (sym t ∙ h e (omega arith)))))
 
   -- ---- the memory after the plan
 
   abbrev pub after : Memory
   after = updAll rd (plan n rd D)
 
-  private-after : after ≡ updAll (updAll (updAll (updAll rd (unlocks n rd D 0 64)) (intents n rd D 0 D)) (withdraws n rd D 0 D)) (allRelocks n rd D 0 D)
+  private-after : after ≡ updAll (updAll (updAll (updAll rd (rows (unlock n rd D) 0 64)) (rows (intend n rd) 0 D)) (rows (withdraw n rd) 0 D)) (rows (relocks n rd) 0 D)
   unfolding plan
   private-after =
-      updAll-append rd (unlocks n rd D 0 64) _ ∙ (updAll-append (updAll rd (unlocks n rd D 0 64)) (intents n rd D 0 D) _
-      ∙ updAll-append (updAll (updAll rd (unlocks n rd D 0 64)) (intents n rd D 0 D)) (withdraws n rd D 0 D) (allRelocks n rd D 0 D))
+      updAll-append rd (rows (unlock n rd D) 0 64) _ ∙ (updAll-append (updAll rd (rows (unlock n rd D) 0 64)) (rows (intend n rd) 0 D) _
+      ∙ updAll-append (updAll (updAll rd (rows (unlock n rd D) 0 64)) (rows (intend n rd) 0 D)) (rows (withdraw n rd) 0 D) (rows (relocks n rd) 0 D))
 
   pub after-intent : (d : ℕ) → d < D → after (field Intent d) ≡ owed n rd d
   after-intent d l =
@@ -175,16 +171,15 @@ module _ (n : ℕ) (rd : Memory) (D : ℕ) where
   pub plan-valid : allValid D n (plan n rd D) ≡ true
   unfolding plan
   plan-valid =
-      let us = rows (unlockRow n rd D) 0 64 in
-      let is = rows (intentRow n rd D) 0 D in
-      let ws = rows (withdrawRow n rd D) 0 D in
-      let rs = rows (λ e. rows (relockRow n rd D e) 0 64) 0 D in
-      let u = valid-rows D n (unlockRow n rd D) 0 64 (λ b l m. valid-cond D n (intended n rd D b D) (lock b ≔ 0) (lt-ltb b 64 (omega arith))) in
-      let i = valid-rows D n (intentRow n rd D) 0 D (λ d l m. valid-cond D n true (field Intent d ≔ owed n rd d) (lt-ltb d D (omega arith))) in
-      let w = valid-rows D n (withdrawRow n rd D) 0 D (λ d l m. valid-cond D n (eqb (rd (field Pc d)) 0 && not (eqb (rd (field Count d)) 0)) (field Count d ≔ 0) (lt-ltb d D (omega arith))) in
+      let us = rows (unlock n rd D) 0 64 in
+      let is = rows (intend n rd) 0 D in
+      let ws = rows (withdraw n rd) 0 D in
+      let rs = rows (relocks n rd) 0 D in
+      let u = valid-rows D n (unlock n rd D) 0 64 (λ b l m. valid-cond D n (intended n rd D b) (lock b ≔ 0) (lt-ltb b 64 (omega arith))) in
+      let i = valid-rows D n (intend n rd) 0 D (λ d l m. valid-cond D n true (field Intent d ≔ owed n rd d) (lt-ltb d D (omega arith))) in
+      let w = valid-rows D n (withdraw n rd) 0 D (λ d l m. valid-cond D n (eqb (rd (field Pc d)) 0 && not (eqb (rd (field Count d)) 0)) (field Count d ≔ 0) (lt-ltb d D (omega arith))) in
       let r =
-      valid-rows D n (λ e. rows (relockRow n rd D e) 0 64) 0 D
-      (λ e l m. valid-rows D n (relockRow n rd D e) 0 64 (λ b g h. valid-cond D n (has (owed n rd e) b) (lock b ≔ e + 1) (lt-ltb b 64 (omega arith))))
+      valid-rows D n (relocks n rd) 0 D
+      (λ e l m. valid-rows D n (relock n rd e) 0 64 (λ b g h. valid-cond D n (has (owed n rd e) b) (lock b ≔ e + 1) (lt-ltb b 64 (omega arith))))
       in
-      rw (unlocks-rows n rd D 0 64, intents-rows n rd D 0 D, withdraws-rows n rd D 0 D, all-relocks-rows n rd D 0 D)
-      (valid-append D n us (is ++ (ws ++ rs)) u (valid-append D n is (ws ++ rs) i (valid-append D n ws rs w r)))
+      valid-append D n us (is ++ (ws ++ rs)) u (valid-append D n is (ws ++ rs) i (valid-append D n ws rs w r))

@@ -21,11 +21,11 @@ use Rattle.section.specs.declared.Op.{Op}
 use Rattle.section.specs.declared.Op.the-variants.{Acquire, Release, Assign, Jump, Finish, Unknown}
 use Rattle.engine.specs.Cursor.{Cursor, idle, on, stepNo, turnNo, cursorAt}
 use Rattle.engine.proofs.Placed.{Full, sayable}
-use Rattle.recovery.specs.Recovery.{plan, owed, intended, namedStep, namedOp, targetTurn, resumed, resumedAt, resumedAll}
+use Rattle.recovery.specs.Recovery.{rows, owed, intended, intend, withdraw, relock, relocks, unlock, plan, namedStep, namedOp, targetTurn, resumed, resumedAt, resumedAll}
+use Rattle.recovery.proofs.Sets.{eight-at}
 use Rattle.claims.specs.Reference.{Given}
 use Rattle.claims.proofs.Invariant.{Live, Crashed}
-use Rattle.claims.proofs.StoreRows.{rows}
-use Rattle.claims.proofs.Stages.{unlockRow, intentRow, withdrawRow, relockRow, unlocks-rows, intents-rows, withdraws-rows, all-relocks-rows, plan-prefix}
+use Rattle.claims.proofs.Stages.{plan-prefix}
 use Rattle.claims.proofs.Recovered.{plan-valid, recovered-live}
 use Rattle.claims.proofs.LiveTurn.{live-cursors}
 
@@ -34,27 +34,11 @@ use Rattle.claims.proofs.LiveTurn.{live-cursors}
 module _ (n : ℕ) (rd : Memory) (D : ℕ) where
   private-turn : (d : ℕ) → d < 8 → getD (resumedAll n rd D .turn) d 255 ≡ turnNo (resumedAt n rd D d)
   unfolding resumedAll
-  private-turn zero l = refl
-  private-turn (suc zero) l = refl
-  private-turn (suc (suc zero)) l = refl
-  private-turn (suc (suc (suc zero))) l = refl
-  private-turn (suc (suc (suc (suc zero)))) l = refl
-  private-turn (suc (suc (suc (suc (suc zero))))) l = refl
-  private-turn (suc (suc (suc (suc (suc (suc zero)))))) l = refl
-  private-turn (suc (suc (suc (suc (suc (suc (suc zero))))))) l = refl
-  private-turn (suc (suc (suc (suc (suc (suc (suc (suc d)))))))) l = absurd (omega arith)
+  private-turn d l = eight-at (λ e. turnNo (resumedAt n rd D e)) 255 d l
 
   private-step : (d : ℕ) → d < 8 → getD (resumedAll n rd D .step) d 0 ≡ stepNo (resumedAt n rd D d)
   unfolding resumedAll
-  private-step zero l = refl
-  private-step (suc zero) l = refl
-  private-step (suc (suc zero)) l = refl
-  private-step (suc (suc (suc zero))) l = refl
-  private-step (suc (suc (suc (suc zero)))) l = refl
-  private-step (suc (suc (suc (suc (suc zero))))) l = refl
-  private-step (suc (suc (suc (suc (suc (suc zero)))))) l = refl
-  private-step (suc (suc (suc (suc (suc (suc (suc zero))))))) l = refl
-  private-step (suc (suc (suc (suc (suc (suc (suc (suc d)))))))) l = absurd (omega arith)
+  private-step d l = eight-at (λ e. stepNo (resumedAt n rd D e)) 0 d l
 
   pub resumed-full : Full (resumedAll n rd D)
   unfolding resumedAll
@@ -104,16 +88,15 @@ module _ (n : ℕ) (rd : Memory) (D : ℕ) where
   pub plan-length : D ≤ 8 → length (plan n rd D) ≤ 592
   unfolding plan
   plan-length h =
-      let us = rows (unlockRow n rd D) 0 64 in
-      let is = rows (intentRow n rd D) 0 D in
-      let ws = rows (withdrawRow n rd D) 0 D in
-      let rs = rows (λ e. rows (relockRow n rd D e) 0 64) 0 D in
-      let u : length us ≤ 64 * 1 = rows-length (unlockRow n rd D) 0 64 1 (λ b. cond-length (intended n rd D b D) _) in
-      let i : length is ≤ D * 1 = rows-length (intentRow n rd D) 0 D 1 (λ d. omega arith) in
-      let w : length ws ≤ D * 1 = rows-length (withdrawRow n rd D) 0 D 1 (λ d. cond-length (eqb (rd (field Pc d)) 0 && not (eqb (rd (field Count d)) 0)) _) in
-      let r : length rs ≤ D * 64 = rows-length (λ e. rows (relockRow n rd D e) 0 64) 0 D 64 (λ e. let q : length (rows (relockRow n rd D e) 0 64) ≤ 64 * 1 = rows-length (relockRow n rd D e) 0 64 1 (λ b. cond-length (has (owed n rd e) b) _) in omega arith) in
-      rw (unlocks-rows n rd D 0 64, intents-rows n rd D 0 D, withdraws-rows n rd D 0 D, all-relocks-rows n rd D 0 D)
-      (rw (length-append us (is ++ (ws ++ rs)), length-append is (ws ++ rs), length-append ws rs) (omega arith))
+      let us = rows (unlock n rd D) 0 64 in
+      let is = rows (intend n rd) 0 D in
+      let ws = rows (withdraw n rd) 0 D in
+      let rs = rows (relocks n rd) 0 D in
+      let u : length us ≤ 64 * 1 = rows-length (unlock n rd D) 0 64 1 (λ b. cond-length (intended n rd D b) _) in
+      let i : length is ≤ D * 1 = rows-length (intend n rd) 0 D 1 (λ d. omega arith) in
+      let w : length ws ≤ D * 1 = rows-length (withdraw n rd) 0 D 1 (λ d. cond-length (eqb (rd (field Pc d)) 0 && not (eqb (rd (field Count d)) 0)) _) in
+      let r : length rs ≤ D * 64 = rows-length (relocks n rd) 0 D 64 (λ e. let q : length (rows (relock n rd e) 0 64) ≤ 64 * 1 = rows-length (relock n rd e) 0 64 1 (λ b. cond-length (has (owed n rd e) b) _) in omega arith) in
+      rw (length-append us (is ++ (ws ++ rs)), length-append is (ws ++ rs), length-append ws rs) (omega arith)
 
 -- ---- the image
 

@@ -5,7 +5,7 @@
 use Prim.Native.Nat.{ℕ, suc, zero, _+_, _<_}
 use mathlib.Core.Path.{_≡_, refl, ap, sym, _∙_}
 use mathlib.Core.Bool.{Bool, true, false, cond, _&&_, _||_, not}
-use mathlib.Core.List.{List, [], _∷_, _++_}
+use mathlib.Core.List.{_++_}
 use mathlib.Core.Logic.{_⊎_, inl, inr}
 use native.Mathlib.Omega.{arith}
 use native.Mathlib.Decide.{ℕ-discrete}
@@ -15,55 +15,15 @@ use borrow.Author.Tests.{eqb-true}
 use Rattle.base.proofs.Bools.{and-left}
 use Rattle.mask.specs.Mask.{has}
 use Rattle.image.specs.declared.Field.the-variants.{Count, Pc, Addr0, Val0, Addr1, Val1, Intent, Owned, Number, Finished}
-use Rattle.image.specs.Place.{Place, cell, lock, field, own, step, sameField, Memory, upd, Store, updAll}
+use Rattle.image.specs.Place.{Place, cell, lock, field, own, step, sameField, Memory, upd, updAll}
 use Rattle.engine.specs.Turn.{second, activeAddr, activeVal}
-use Rattle.recovery.specs.Recovery.{_≔_, owed, sectionOk, pcOk, intended, unlocks, intents, withdraws, relocks, allRelocks, plan}
+use Rattle.recovery.specs.Recovery.{_≔_, rows, owed, sectionOk, pcOk, intended, intend, withdraw, relock, relocks, unlock, plan}
 use Rattle.claims.proofs.Invariant.{Crashed}
 use Rattle.claims.proofs.Covers.{Names, Covered, Parts, crashed-parts, parts-crashed}
 use Rattle.claims.proofs.LiveCrashed.{section-none, covered-same}
-use Rattle.claims.proofs.StoreRows.{rows, row-cond, Keeps, keeps-one, keeps-cond, keeps-rows, keeps-append, keeps-whole, prefix-append, sets-rows, sets-cond, writes-rows, writes-cond, Sets}
+use Rattle.claims.proofs.StoreRows.{Keeps, keeps-one, keeps-cond, keeps-rows, keeps-append, keeps-whole, prefix-append, sets-rows, sets-cond, writes-rows, writes-cond, Sets}
 use Rattle.claims.proofs.RecoveryFrame.{Framed, owed-frame, pc-frame, section-frame}
 use Rattle.claims.proofs.Entries.{apart-of}
-
--- ---- the stages as rows
-
-module _ (n : ℕ) (rd : Memory) (D : ℕ) where
-  abbrev pub unlockRow : ℕ → List Store
-  unlockRow b = cond (intended n rd D b D) ((lock b ≔ 0) ∷ []) []
-
-  abbrev pub intentRow : ℕ → List Store
-  intentRow d = (field Intent d ≔ owed n rd d) ∷ []
-
-  abbrev pub withdrawRow : ℕ → List Store
-  withdrawRow d = cond (eqb (rd (field Pc d)) 0 && not (eqb (rd (field Count d)) 0)) ((field Count d ≔ 0) ∷ []) []
-
-  abbrev pub relockRow : ℕ → ℕ → List Store
-  relockRow d b = cond (has (owed n rd d) b) ((lock b ≔ d + 1) ∷ []) []
-
-  pub unlocks-rows : (b k : ℕ) → unlocks n rd D b k ≡ rows unlockRow b k
-  unfolding unlocks rows
-  unlocks-rows b zero = refl
-  unlocks-rows b (suc k) = row-cond (intended n rd D b D) (lock b ≔ 0) _ _ (unlocks-rows (b + 1) k)
-
-  pub intents-rows : (d k : ℕ) → intents n rd D d k ≡ rows intentRow d k
-  unfolding intents rows
-  intents-rows d zero = refl
-  intents-rows d (suc k) = ap (λ (l : List Store). (field Intent d ≔ owed n rd d) ∷ l) (intents-rows (d + 1) k)
-
-  pub withdraws-rows : (d k : ℕ) → withdraws n rd D d k ≡ rows withdrawRow d k
-  unfolding withdraws rows
-  withdraws-rows d zero = refl
-  withdraws-rows d (suc k) = row-cond (eqb (rd (field Pc d)) 0 && not (eqb (rd (field Count d)) 0)) (field Count d ≔ 0) _ _ (withdraws-rows (d + 1) k)
-
-  pub relocks-rows : (d b k : ℕ) → relocks n rd D d b k ≡ rows (relockRow d) b k
-  unfolding relocks rows
-  relocks-rows d b zero = refl
-  relocks-rows d b (suc k) = row-cond (has (owed n rd d) b) (lock b ≔ d + 1) _ _ (relocks-rows d (b + 1) k)
-
-  pub all-relocks-rows : (d k : ℕ) → allRelocks n rd D d k ≡ rows (λ e. rows (relockRow e) 0 64) d k
-  unfolding allRelocks rows
-  all-relocks-rows d zero = refl
-  all-relocks-rows d (suc k) = rw (relocks-rows d 0 64, all-relocks-rows (d + 1) k)
 
 -- ---- what no store of a recovery touches
 
@@ -198,7 +158,7 @@ module _ (n D : ℕ) (rd : Memory) where
 
   -- ---- the first stage frees every lock
 
-  private-intended : (b k d : ℕ) → d < k → has (rd (field Intent d)) b ≡ true → intended n rd D b k ≡ true
+  private-intended : (b k d : ℕ) → d < k → has (rd (field Intent d)) b ≡ true → intended n rd k b ≡ true
   unfolding intended
   private-intended b zero d l h = absurd (omega arith)
   private-intended b (suc k) d l h = by (private-intended b k d) (ℕ-discrete d k)
@@ -207,56 +167,52 @@ module _ (n D : ℕ) (rd : Memory) where
       last true = refl
       last false = refl
 
-      by : (d < k → has (rd (field Intent d)) b ≡ true → intended n rd D b k ≡ true) → Dec (d ≡ k) → (intended n rd D b k || has (rd (field Intent k)) b) ≡ true
-      by more (yes e) = rw (← e, h) (last (intended n rd D b d))
+      by : (d < k → has (rd (field Intent d)) b ≡ true → intended n rd k b ≡ true) → Dec (d ≡ k) → (intended n rd k b || has (rd (field Intent k)) b) ≡ true
+      by more (yes e) = rw (← e, h) (last (intended n rd d b))
       by more (no e) = rw (more (omega arith) h)
 
-  private-zero : (b j : ℕ) → Sets (lock b) 0 (unlockRow n rd D j)
-  private-zero b j = sets-cond (lock b) 0 (intended n rd D j D) (lock j ≔ 0) (λ t s. refl)
+  private-zero : (b j : ℕ) → Sets (lock b) 0 (unlock n rd D j)
+  private-zero b j = sets-cond (lock b) 0 (intended n rd D j) (lock j ≔ 0) (λ t s. refl)
 
-  pub unlocked-free : Parts n D rd → Free (updAll rd (unlocks n rd D 0 64))
-  unlocked-free p b u = rw (unlocks-rows n rd D 0 64) (by (rd (lock b)) refl)
+  pub unlocked-free : Parts n D rd → Free (updAll rd (rows (unlock n rd D) 0 64))
+  unlocked-free p b u = by (rd (lock b)) refl
     where
-      by : (w : ℕ) → rd (lock b) ≡ w → updAll rd (rows (unlockRow n rd D) 0 64) (lock b) ≡ 0
-      by zero e = sets-rows (lock b) 0 (unlockRow n rd D) 0 64 (λ j l m. private-zero b j) rd e
+      by : (w : ℕ) → rd (lock b) ≡ w → updAll rd (rows (unlock n rd D) 0 64) (lock b) ≡ 0
+      by zero e = sets-rows (lock b) 0 (unlock n rd D) 0 64 (λ j l m. private-zero b j) rd e
       by (suc d) e =
           let o = p .names b u d (omega arith) in
           let i = private-intended b D d (o .0) (o .1) in
-          writes-rows (lock b) 0 (unlockRow n rd D) 0 64 (λ j l m. private-zero b j) b (omega arith) (omega arith) (writes-cond (intended n rd D b D) (lock b ≔ 0) i) rd
+          writes-rows (lock b) 0 (unlock n rd D) 0 64 (λ j l m. private-zero b j) b (omega arith) (omega arith) (writes-cond (intended n rd D b) (lock b ≔ 0) i) rd
 
   -- ---- the stages
 
-  unlocks-keep : Keeps Kept (unlocks n rd D 0 64)
+  unlocks-keep : Keeps Kept (rows (unlock n rd D) 0 64)
   unlocks-keep =
-      rw (unlocks-rows n rd D 0 64)
-      (keeps-rows Kept (unlockRow n rd D) 0 64 (λ b l m. keeps-cond Kept (intended n rd D b D) (lock b ≔ 0) (λ t rd′ k. kept-lock b 0 rd′ (λ d e. absurd (omega arith)) k)))
+      keeps-rows Kept (unlock n rd D) 0 64 (λ b l m. keeps-cond Kept (intended n rd D b) (lock b ≔ 0) (λ t rd′ k. kept-lock b 0 rd′ (λ d e. absurd (omega arith)) k))
 
   abbrev KeptFree : Memory → Type 0
   KeptFree rd′ = Kept rd′ × Free rd′
 
-  intents-keep : Keeps KeptFree (intents n rd D 0 D)
+  intents-keep : Keeps KeptFree (rows (intend n rd) 0 D)
   intents-keep =
-      rw (intents-rows n rd D 0 D)
-      (keeps-rows KeptFree (intentRow n rd D) 0 D (λ d l m. keeps-one KeptFree (field Intent d ≔ owed n rd d) (λ rd′ k. (kept-intent d rd′ (k .0) (k .1), k .1))))
+      keeps-rows KeptFree (intend n rd) 0 D (λ d l m. keeps-one KeptFree (field Intent d ≔ owed n rd d) (λ rd′ k. (kept-intent d rd′ (k .0) (k .1), k .1)))
 
-  withdraws-keep : Keeps Kept (withdraws n rd D 0 D)
+  withdraws-keep : Keeps Kept (rows (withdraw n rd) 0 D)
   withdraws-keep =
-      rw (withdraws-rows n rd D 0 D)
-      (keeps-rows Kept (withdrawRow n rd D) 0 D
+      keeps-rows Kept (withdraw n rd) 0 D
       (λ d l m.
       keeps-cond Kept (eqb (rd (field Pc d)) 0 && not (eqb (rd (field Count d)) 0)) (field Count d ≔ 0)
-      (λ t rd′ k. kept-count d rd′ (eqb-true _ _ (and-left (eqb (rd (field Pc d)) 0) (not (eqb (rd (field Count d)) 0)) t)) k)))
+      (λ t rd′ k. kept-count d rd′ (eqb-true _ _ (and-left (eqb (rd (field Pc d)) 0) (not (eqb (rd (field Count d)) 0)) t)) k))
 
-  private-relock : Parts n D rd → (d : ℕ) → d < D → (b : ℕ) → b < 64 → Keeps Kept (relockRow n rd D d b)
+  private-relock : Parts n D rd → (d : ℕ) → d < D → (b : ℕ) → b < 64 → Keeps Kept (relock n rd d b)
   private-relock p d l b u =
       keeps-cond Kept (has (owed n rd d) b) (lock b ≔ d + 1)
       (λ t rd′ k. kept-lock b (d + 1) rd′ (λ e i. let j : d ≡ e = omega arith in rw (← j) (l, kept-meant p rd′ k d l b u t)) k)
 
-  relocks-keep : Parts n D rd → Keeps Kept (allRelocks n rd D 0 D)
+  relocks-keep : Parts n D rd → Keeps Kept (rows (relocks n rd) 0 D)
   relocks-keep p =
-      rw (all-relocks-rows n rd D 0 D)
-      (keeps-rows Kept (λ e. rows (relockRow n rd D e) 0 64) 0 D
-      (λ d l m. keeps-rows Kept (relockRow n rd D d) 0 64 (λ b g h. private-relock p d (omega arith) b (omega arith))))
+      keeps-rows Kept (relocks n rd) 0 D
+      (λ d l m. keeps-rows Kept (relock n rd d) 0 64 (λ b g h. private-relock p d (omega arith) b (omega arith)))
 
   -- ---- the plan
 
@@ -264,14 +220,14 @@ module _ (n D : ℕ) (rd : Memory) where
   unfolding plan
   plan-kept p =
       let one = unlocks-keep rd (kept-start p) in
-      let rd₁ = updAll rd (unlocks n rd D 0 64) in
-      let k₁ : KeptFree rd₁ = (keeps-whole Kept (unlocks n rd D 0 64) unlocks-keep rd (kept-start p), unlocked-free p) in
+      let rd₁ = updAll rd (rows (unlock n rd D) 0 64) in
+      let k₁ : KeptFree rd₁ = (keeps-whole Kept (rows (unlock n rd D) 0 64) unlocks-keep rd (kept-start p), unlocked-free p) in
       let two = intents-keep rd₁ k₁ in
-      let rd₂ = updAll rd₁ (intents n rd D 0 D) in
-      let k₂ : KeptFree rd₂ = keeps-whole KeptFree (intents n rd D 0 D) intents-keep rd₁ k₁ in
-      let three = keeps-append Kept (withdraws n rd D 0 D) (allRelocks n rd D 0 D) withdraws-keep (relocks-keep p) rd₂ (k₂ .0) in
-      prefix-append Kept (unlocks n rd D 0 64) (intents n rd D 0 D ++ (withdraws n rd D 0 D ++ allRelocks n rd D 0 D)) rd one
-      (prefix-append Kept (intents n rd D 0 D) (withdraws n rd D 0 D ++ allRelocks n rd D 0 D) rd₁ (λ j. two j .0) three)
+      let rd₂ = updAll rd₁ (rows (intend n rd) 0 D) in
+      let k₂ : KeptFree rd₂ = keeps-whole KeptFree (rows (intend n rd) 0 D) intents-keep rd₁ k₁ in
+      let three = keeps-append Kept (rows (withdraw n rd) 0 D) (rows (relocks n rd) 0 D) withdraws-keep (relocks-keep p) rd₂ (k₂ .0) in
+      prefix-append Kept (rows (unlock n rd D) 0 64) (rows (intend n rd) 0 D ++ (rows (withdraw n rd) 0 D ++ rows (relocks n rd) 0 D)) rd one
+      (prefix-append Kept (rows (intend n rd) 0 D) (rows (withdraw n rd) 0 D ++ rows (relocks n rd) 0 D) rd₁ (λ j. two j .0) three)
 
   pub plan-prefix : Crashed n D rd → (k : ℕ) → Crashed n D (updAll rd (take k (plan n rd D)))
   plan-prefix c k = let p = crashed-parts n D rd c in parts-crashed n D _ (kept-parts p _ (plan-kept p k))

@@ -3,7 +3,7 @@
 -- there if it stands there already (`Sets`), or writes there (`Writes`). A prefix of two lists is one of the first, or the
 -- first and a prefix of the second (`cut-append`).
 use Prim.Native.Nat.{ℕ, suc, zero, _+_, _<_, _≤_}
-use mathlib.Core.Path.{_≡_, refl, ap, _∙_}
+use mathlib.Core.Path.{_≡_, refl, _∙_}
 use mathlib.Core.Bool.{Bool, true, false, cond}
 use mathlib.Core.List.{List, [], _∷_, _++_}
 use native.Mathlib.Omega.{arith}
@@ -14,6 +14,7 @@ use Rattle.base.proofs.Bools.{and-left, and-right, and-both}
 use Rattle.image.specs.Place.{Place, same, valid, Memory, upd, Store, updAll}
 use Rattle.image.proofs.Places.{upd-same, upd-other}
 use Rattle.image.proofs.Lists.{allValid, updAll-nil}
+use Rattle.recovery.specs.Recovery.{rows}
 
 pub updAll-append : (rd : Memory) (ss ts : List Store) → updAll rd (ss ++ ts) ≡ updAll (updAll rd ss) ts
 unfolding updAll
@@ -29,16 +30,6 @@ pub cut-append : (Q : List Store → Type 0) (k : ℕ) (xs ys : List Store) → 
 cut-append Q zero xs ys a b = a 0
 cut-append Q (suc k) [] ys a b = b (suc k)
 cut-append Q (suc k) (x ∷ xs) ys a b = cut-append (λ l. Q (x ∷ l)) k xs ys (λ j. a (suc j)) (λ j. b j)
-
--- the stores of k numbers from i on
-unfoldable pub rows : (ℕ → List Store) → ℕ → ℕ → List Store
-rows f i zero = []
-rows f i (suc k) = f i ++ rows f (i + 1) k
-
--- a store that is made where a test passes, before the others
-pub row-cond : (t : Bool) (s : Store) (r r′ : List Store) → r ≡ r′ → cond t (s ∷ r) r ≡ cond t (s ∷ []) [] ++ r′
-row-cond true s r r′ e = ap (λ (l : List Store). s ∷ l) e
-row-cond false s r r′ e = e
 
 -- ---- what every prefix keeps
 

@@ -5,15 +5,15 @@
 use Prim.Native.Nat.{ℕ, suc, zero, _+_, _-_, _/_, _<_, _≤_}
 use mathlib.Core.Path.{_≡_, refl, sym, subst, _∙_}
 use mathlib.Core.Logic.{inl, inr}
-use mathlib.Core.Bool.{Bool, true, false, cond, not, _&&_, _||_, false≢true}
+use mathlib.Core.Bool.{Bool, true, false, cond, not, _||_, false≢true}
 use mathlib.Core.List.{List, [], _∷_, _++_}
-use lib.Dec.{ltb, eqb}
+use lib.Dec.{ltb}
 use lib.ListN.{length, replicate}
 use borrow.Author.Tests.{ltb-true}
 use native.Mathlib.Omega.{arith}
 use Rattle.base.proofs.Bools.{and-left, and-right}
 use Rattle.mask.specs.Mask.{has}
-use Rattle.image.specs.declared.Field.the-variants.{Count, Pc, Intent, Number}
+use Rattle.image.specs.declared.Field.the-variants.{Count, Intent, Number}
 use Rattle.image.specs.Place.{Place, cell, lock, field, own, step, Memory, Store}
 use Rattle.image.specs.Image.{Image, indexOf, at, workers, cellsOf, headerOk, put, putAll}
 use Rattle.image.proofs.Cells.{isCell, cells-other}
@@ -26,7 +26,7 @@ use Rattle.engine.specs.Turn.{stored, turnAt}
 use Rattle.engine.specs.World.{outcomeAt}
 use Rattle.engine.specs.Run.{anyOpen}
 use Rattle.engine.specs.Submit.{assigns, submission, submitAnswer, submitLeaves}
-use Rattle.recovery.specs.Recovery.{_≔_, owed, intended, unlocks, intents, withdraws, relocks, allRelocks, plan}
+use Rattle.recovery.specs.Recovery.{_≔_, when, rows, unbegun, owed, intended, intend, withdraw, relock, relocks, unlock, plan}
 use Rattle.recovery.specs.Recovery.{Recovered, accepted, misshapen, unsoundRecord, wrongLock, byLocks, byRecords, resumedAll, badLock, unsound, recovery}
 use Rattle.claims.specs.Calls.{Traced, turnedAt, refuses, recoveredBy, Call, submits, turns, runs, recovers}
 use Rattle.claims.specs.Calls.{Move, whole, cut, call, lent, move, recovering, from, legal, callable, machine}
@@ -54,12 +54,17 @@ module _ (n : ℕ) where
   unfolding putAll
   aside-cons s ss h a left m = a (left - 1) (put left m (indexOf n (s .place)) (s .value)) ∙ cells-other n left m (s .place) (s .value) h
 
-  aside-cond : (t : Bool) (s : Store) (ss : List Store) → isCell (s .place) ≡ false → Aside ss → Aside (cond t (s ∷ ss) ss)
-  aside-cond true s ss h a = aside-cons s ss h a
-  aside-cond false s ss h a = a
+  aside-when : (t : Bool) (s : Store) → isCell (s .place) ≡ false → Aside (when t s)
+  aside-when true s h = aside-cons s [] h aside-nil
+  aside-when false s h = aside-nil
 
   aside-append : (ss ts : List Store) → Aside ss → Aside ts → Aside (ss ++ ts)
   aside-append ss ts a b left m = rw (putAll-append n left m ss ts) (b (left - length ss) (putAll n left m ss) ∙ a left m)
+
+  aside-rows : (f : ℕ → List Store) → ((i : ℕ) → Aside (f i)) → (i k : ℕ) → Aside (rows f i k)
+  unfolding rows
+  aside-rows f h i zero = aside-nil
+  aside-rows f h i (suc k) = aside-append (f i) (rows f (i + 1) k) (h i) (aside-rows f h (i + 1) k)
 
   -- ---- a submission's
 
@@ -81,39 +86,13 @@ module _ (n : ℕ) where
   -- ---- a recovery's
 
   module _ (rd : Memory) (D : ℕ) where
-    unlocks-aside : (b k : ℕ) → Aside (unlocks n rd D b k)
-    unfolding unlocks
-    unlocks-aside b zero = aside-nil
-    unlocks-aside b (suc k) = aside-cond (intended n rd D b D) (lock b ≔ 0) (unlocks n rd D (b + 1) k) refl (unlocks-aside (b + 1) k)
-
-    intents-aside : (d k : ℕ) → Aside (intents n rd D d k)
-    unfolding intents
-    intents-aside d zero = aside-nil
-    intents-aside d (suc k) = aside-cons (field Intent d ≔ owed n rd d) (intents n rd D (d + 1) k) refl (intents-aside (d + 1) k)
-
-    withdraws-aside : (d k : ℕ) → Aside (withdraws n rd D d k)
-    unfolding withdraws
-    withdraws-aside d zero = aside-nil
-    withdraws-aside d (suc k) =
-        aside-cond (eqb (rd (field Pc d)) 0 && not (eqb (rd (field Count d)) 0)) (field Count d ≔ 0) (withdraws n rd D (d + 1) k) refl
-        (withdraws-aside (d + 1) k)
-
-    relocks-aside : (d b k : ℕ) → Aside (relocks n rd D d b k)
-    unfolding relocks
-    relocks-aside d b zero = aside-nil
-    relocks-aside d b (suc k) = aside-cond (has (owed n rd d) b) (lock b ≔ d + 1) (relocks n rd D d (b + 1) k) refl (relocks-aside d (b + 1) k)
-
-    all-relocks-aside : (d k : ℕ) → Aside (allRelocks n rd D d k)
-    unfolding allRelocks
-    all-relocks-aside d zero = aside-nil
-    all-relocks-aside d (suc k) = aside-append (relocks n rd D d 0 64) (allRelocks n rd D (d + 1) k) (relocks-aside d 0 64) (all-relocks-aside (d + 1) k)
-
     plan-aside : Aside (plan n rd D)
     unfolding plan
     plan-aside =
-        aside-append (unlocks n rd D 0 64) (intents n rd D 0 D ++ (withdraws n rd D 0 D ++ allRelocks n rd D 0 D)) (unlocks-aside 0 64)
-        (aside-append (intents n rd D 0 D) (withdraws n rd D 0 D ++ allRelocks n rd D 0 D) (intents-aside 0 D)
-        (aside-append (withdraws n rd D 0 D) (allRelocks n rd D 0 D) (withdraws-aside 0 D) (all-relocks-aside 0 D)))
+        aside-append (rows (unlock n rd D) 0 64) _ (aside-rows (unlock n rd D) (λ b. aside-when (intended n rd D b) (lock b ≔ 0) refl) 0 64)
+        (aside-append (rows (intend n rd) 0 D) _ (aside-rows (intend n rd) (λ d. aside-cons (field Intent d ≔ owed n rd d) [] refl aside-nil) 0 D)
+        (aside-append (rows (withdraw n rd) 0 D) _ (aside-rows (withdraw n rd) (λ d. aside-when (unbegun rd d) (field Count d ≔ 0) refl) 0 D)
+        (aside-rows (relocks n rd) (λ d. aside-rows (relock n rd d) (λ b. aside-when (has (owed n rd d) b) (lock b ≔ d + 1) refl) 0 64) 0 D)))
 
 -- ---- calls without turns, in any world
 

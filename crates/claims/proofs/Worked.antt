@@ -17,13 +17,11 @@ use Rattle.engine.specs.World.{world, outcomeAt, outcome}
 use Rattle.engine.specs.Format.{formatted}
 use Rattle.engine.specs.Submit.{assigns, submission, free, submitAnswer}
 use Rattle.recovery.specs.Recovery.{covers, namedStep, namedOp, owed, sectionOk, pcOk, sound, resumed, unsound, claimants, lockOk, badLock, intended}
-use Rattle.recovery.specs.Recovery.{plan, resumedAll, recovery}
+use Rattle.recovery.specs.Recovery.{rows, intend, withdraw, relocks, unlock, plan, resumedAll, recovery}
 use Rattle.claims.specs.Calls.{Traced, traced, forgetful, submits, turns, recovers, whole, cut, call, move}
 use Rattle.engine.specs.declared.Submitted.{Submitted}
 use Rattle.engine.specs.declared.Submitted.the-variants.{Taken}
 use Rattle.claims.specs.Examples.{rows as table, expected, seenIn, causeIn, watched, ticket, board, many, row, seen, after}
-use Rattle.claims.proofs.StoreRows.{rows}
-use Rattle.claims.proofs.Stages.{unlockRow, intentRow, withdrawRow, relockRow, unlocks-rows, intents-rows, withdraws-rows, all-relocks-rows}
 
 -- What the rows compute through, in groups: to unfold one of these is to unfold all that its line names.
 inImage : ℕ
@@ -45,11 +43,11 @@ inRecovery = 0
 -- the plan in one pass
 abbrev planRows : Memory → List Store
 planRows rd =
-    rows (unlockRow 8 rd 1) 0 64 ++ (rows (intentRow 8 rd 1) 0 1 ++ (rows (withdrawRow 8 rd 1) 0 1 ++ rows (λ e. rows (relockRow 8 rd 1 e) 0 64) 0 1))
+    rows (unlock 8 rd 1) 0 64 ++ (rows (intend 8 rd) 0 1 ++ (rows (withdraw 8 rd) 0 1 ++ rows (relocks 8 rd) 0 1))
 
 plan-rows : (rd : Memory) → plan 8 rd 1 ≡ planRows rd
 unfolding plan
-plan-rows rd = rw (unlocks-rows 8 rd 1 0 64, intents-rows 8 rd 1 0 1, withdraws-rows 8 rd 1 0 1, all-relocks-rows 8 rd 1 0 1)
+plan-rows rd = refl
 
 -- what an accepted recovery of one worker's image leaves, by that plan
 abbrev byPlan : Traced → Traced

@@ -16,8 +16,8 @@ use Rattle.engine.specs.Edition.{mark, ownWords}
 use Rattle.engine.specs.Turn.{Outcome, stored, jumped, unheld, waiting, resting, refused}
 use Rattle.engine.specs.World.{outcome}
 use Rattle.recovery.specs.declared.Repair.{Repair}
-use Rattle.recovery.specs.Repair.{slots, slotAt, slotOf}
-use Rattle.recovery.specs.Recovery.{recovery}
+use Rattle.recovery.specs.Repair.{slotAt, slotOf}
+use Rattle.recovery.specs.Recovery.{rows, recovery}
 use Rattle.recovery.specs.Recover.{repairBy, storesOf}
 use Rattle.recovery.proofs.Slots.{single, slot-single}
 use Rattle.recovery.proofs.Answers.{stores-are}
@@ -91,24 +91,24 @@ private-lines [] us = refl
 private-lines (s ∷ ss) us = ap (λ (l : List Printed). Line (indexOf ownWords (s .place)) (s .value) ∷ l) (private-lines ss us)
 
 module _ (r : Repair) (i : ℕ) where
-  private-step : i < 592 → slots r i (592 - i) ≡ slotAt r i ++ slots r (i + 1) (592 - (i + 1))
-  unfolding slots
+  private-step : i < 592 → rows (slotAt r) i (592 - i) ≡ slotAt r i ++ rows (slotAt r) (i + 1) (592 - (i + 1))
+  unfolding rows
   private-step h = rw (left-step 592 i h)
 
-  private-end : 592 ≤ i → slots r i (592 - i) ≡ []
-  unfolding slots
+  private-end : 592 ≤ i → rows (slotAt r) i (592 - i) ≡ []
+  unfolding rows
   private-end h = rw (left-none 592 i h)
 
 -- from slot i on
 pub stores-whole : (f i : ℕ) (m : Image) (c : Cursors) (x : Printed) (r : Repair) → 592 - i < f
-    → pieces f (day m (played c x (Stores i) r)) ≡ told (storesLine (slots r i (592 - i))) m c
+    → pieces f (day m (played c x (Stores i) r)) ≡ told (storesLine (rows (slotAt r) i (592 - i))) m c
 unfolding pieces slotDay
 stores-whole zero i m c x r h = absurd (omega arith)
 stores-whole (suc f) i m c x r h = by (ltb i 592) refl (λ b y. stores-whole f (i + 1) m c y r (omega arith))
   where
     by : (b : Bool) → ltb i 592 ≡ b
-        → (i < 592 → (y : Printed) → pieces f (day m (played c y (Stores (i + 1)) r)) ≡ told (storesLine (slots r (i + 1) (592 - (i + 1)))) m c)
-        → pieces (suc f) (day m (played c x (Stores i) r)) ≡ told (storesLine (slots r i (592 - i))) m c
+        → (i < 592 → (y : Printed) → pieces f (day m (played c y (Stores (i + 1)) r)) ≡ told (storesLine (rows (slotAt r) (i + 1) (592 - (i + 1)))) m c)
+        → pieces (suc f) (day m (played c x (Stores i) r)) ≡ told (storesLine (rows (slotAt r) i (592 - i))) m c
     by true e more =
         let b = ltb-true i 592 e in
         rw e

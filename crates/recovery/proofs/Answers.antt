@@ -15,8 +15,8 @@ use Rattle.engine.specs.declared.Cursors.{Cursors}
 use Rattle.engine.specs.Cursor.{allIdle}
 use Rattle.recovery.specs.declared.Refusal.the-variants.{Image as ImageRefused}
 use Rattle.recovery.specs.declared.Answer.the-variants.{Refused}
-use Rattle.recovery.specs.Recovery.{unsound, badLock, plan, resumedAll, Recovered, accepted, misshapen, unsoundRecord, wrongLock, byLocks, byRecords, recovery}
-use Rattle.recovery.specs.Repair.{Restorable, noRepair, slots}
+use Rattle.recovery.specs.Recovery.{rows, unsound, badLock, plan, resumedAll, Recovered, accepted, misshapen, unsoundRecord, wrongLock, byLocks, byRecords, recovery}
+use Rattle.recovery.specs.Repair.{Restorable, noRepair, slotAt}
 use Rattle.recovery.specs.Recover.{isDone, byRecord, byLock, answerOf, cursorsOf, repairBy, storesOf, recoveryLeaves, recoveryLeft}
 use Rattle.recovery.proofs.Records.{restorable}
 use Rattle.recovery.proofs.Slots.{repair-slots, empty-slots}
@@ -93,18 +93,18 @@ refused-repair n m (wrongLock b) e = refl
 
 -- ---- the stores
 
-private-stores : (n : ℕ) (m : Image) (g : Recovered) (us ls : List ℕ) → slots (repairBy n m g) 0 592 ≡ storesOf g
-    → slots (repairBy n m (byRecords (byLocks g ls) us)) 0 592 ≡ storesOf (byRecords (byLocks g ls) us)
+private-stores : (n : ℕ) (m : Image) (g : Recovered) (us ls : List ℕ) → rows (slotAt (repairBy n m g)) 0 592 ≡ storesOf g
+    → rows (slotAt (repairBy n m (byRecords (byLocks g ls) us))) 0 592 ≡ storesOf (byRecords (byLocks g ls) us)
 private-stores n m g [] [] h = h
 private-stores n m g [] (b ∷ bs) h = empty-slots
 private-stores n m g (d ∷ ds) ls h = empty-slots
 
-pub stores-are : (mark n : ℕ) (m : Image) → slots (repairBy n m (recovery mark n m)) 0 592 ≡ storesOf (recovery mark n m)
+pub stores-are : (mark n : ℕ) (m : Image) → rows (slotAt (repairBy n m (recovery mark n m))) 0 592 ≡ storesOf (recovery mark n m)
 unfolding recovery
 stores-are mark n m = by (headerOk mark n m) refl
   where
     by : (b : Bool) → headerOk mark n m ≡ b
-        → slots (repairBy n m (cond b (byRecords (byLocks (Good mark n m) (Bad mark n m)) (Unsound mark n m)) misshapen)) 0 592
+        → rows (slotAt (repairBy n m (cond b (byRecords (byLocks (Good mark n m) (Bad mark n m)) (Unsound mark n m)) misshapen))) 0 592
         ≡ storesOf (cond b (byRecords (byLocks (Good mark n m) (Bad mark n m)) (Unsound mark n m)) misshapen)
     by true h = private-stores n m (Good mark n m) (Unsound mark n m) (Bad mark n m) (repair-slots n m (header-true mark n m h .few))
     by false h = empty-slots
@@ -123,8 +123,8 @@ left-stores left (wrongLock b) = omega arith
 
 -- what the slots of the repair leave
 module _ (mark n left : ℕ) (m : Image) where
-  pub slots-leave : putAll n left m (slots (repairBy n m (recovery mark n m)) 0 592) ≡ recoveryLeaves n left m (recovery mark n m)
+  pub slots-leave : putAll n left m (rows (slotAt (repairBy n m (recovery mark n m))) 0 592) ≡ recoveryLeaves n left m (recovery mark n m)
   slots-leave = ap (putAll n left m) (stores-are mark n m) ∙ leaves-stores n left m (recovery mark n m)
 
-  pub slots-left : left - length (slots (repairBy n m (recovery mark n m)) 0 592) ≡ recoveryLeft left (recovery mark n m)
+  pub slots-left : left - length (rows (slotAt (repairBy n m (recovery mark n m))) 0 592) ≡ recoveryLeft left (recovery mark n m)
   slots-left = ap (λ (ss : List Store). left - length ss) (stores-are mark n m) ∙ left-stores left (recovery mark n m)

@@ -16,8 +16,9 @@ use Rattle.mask.proofs.Sets.{no-members}
 use Rattle.image.specs.Place.{lock}
 use Rattle.image.specs.Image.{Image, indexOf, put, putAll}
 use Rattle.image.proofs.Lists.{putAll-nil, putAll-cons}
-use Rattle.recovery.specs.Recovery.{_≔_}
-use Rattle.recovery.specs.Repair.{lockSlot, lockStores}
+use Rattle.recovery.specs.Recovery.{_≔_, rows}
+use Rattle.recovery.specs.Repair.{lockSlot}
+use Rattle.recovery.proofs.Rows.{rows-same, rows-none}
 
 -- ---- the trailing zeros
 
@@ -53,39 +54,35 @@ low-some m w h = by (decLt (trailingZeros 64 m) 64)
 
 -- ---- the stores of a set
 
-stores-same : (s t v k c : ℕ) → ((i : ℕ) → c ≤ i → has s i ≡ has t i) → lockStores s v c k ≡ lockStores t v c k
-unfolding lockStores
-stores-same s t v zero c h = refl
-stores-same s t v (suc k) c h = rw (h c (omega arith), stores-same s t v k (c + 1) (λ i l. h i (omega arith)))
+stores-same : (s t v k c : ℕ) → ((i : ℕ) → c ≤ i → has s i ≡ has t i) → rows (lockSlot s v) c k ≡ rows (lockSlot t v) c k
+stores-same s t v k c h = rows-same (lockSlot s v) (lockSlot t v) k c c (λ i l. rw (h (c + i) (omega arith)))
 
 stores-next : (s v b : ℕ) → has s b ≡ true → ((i : ℕ) → i < b → has s i ≡ false) → (k c : ℕ) → c ≤ b → b < c + k
-    → lockStores s v c k ≡ (lock b ≔ v) ∷ lockStores (without s b) v c k
-unfolding lockStores
+    → rows (lockSlot s v) c k ≡ (lock b ≔ v) ∷ rows (lockSlot (without s b) v) c k
+unfolding rows
 stores-next s v b e h zero c l g = absurd (omega arith)
 stores-next s v b e h (suc k) c l g = by (ℕ-discrete c b) (λ less. stores-next s v b e h k (c + 1) less (omega arith))
   where
-    by : Dec (c ≡ b) → (c + 1 ≤ b → lockStores s v (c + 1) k ≡ (lock b ≔ v) ∷ lockStores (without s b) v (c + 1) k)
-        → lockSlot s c v ++ lockStores s v (c + 1) k ≡ (lock b ≔ v) ∷ (lockSlot (without s b) c v ++ lockStores (without s b) v (c + 1) k)
+    by : Dec (c ≡ b) → (c + 1 ≤ b → rows (lockSlot s v) (c + 1) k ≡ (lock b ≔ v) ∷ rows (lockSlot (without s b) v) (c + 1) k)
+        → lockSlot s v c ++ rows (lockSlot s v) (c + 1) k ≡ (lock b ≔ v) ∷ (lockSlot (without s b) v c ++ rows (lockSlot (without s b) v) (c + 1) k)
     by (yes p) rest = rw (p, e, has-without s b, stores-same s (without s b) v k (b + 1) (λ i l. sym (has-without-other s b i (λ q. omega arith))))
     by (no p) rest = rw (has-without-other s b c (λ q. p (sym q)), h c (omega arith), rest (omega arith))
 
-stores-none : (v k c : ℕ) → lockStores 0 v c k ≡ []
-unfolding lockStores
-stores-none v zero c = refl
-stores-none v (suc k) c = rw (has-none c, stores-none v k (c + 1))
+stores-none : (v k c : ℕ) → rows (lockSlot 0 v) c k ≡ []
+stores-none v k c = rows-none (lockSlot 0 v) k c (λ i l. rw (has-none (c + i)))
 
 module _ (s v : ℕ) (z : s ≡ 0) where
-  pub image-none : (n left : ℕ) (m : Image) → putAll n left m (lockStores s v 0 64) ≡ m
+  pub image-none : (n left : ℕ) (m : Image) → putAll n left m (rows (lockSlot s v) 0 64) ≡ m
   image-none n left m = rw (z, stores-none v 64 0) (putAll-nil n left m)
 
-  pub left-none : (left : ℕ) → left - length (lockStores s v 0 64) ≡ left
+  pub left-none : (left : ℕ) → left - length (rows (lockSlot s v) 0 64) ≡ left
   left-none left = rw (z, stores-none v 64 0) (omega arith)
 
 module _ (s : ℕ) (w : s < 2 ^ 64) (h : s ≡ 0 → ⊥) where
   abbrev Low : ℕ
   Low = trailingZeros 64 s
 
-  pub locks-next : (v : ℕ) → lockStores s v 0 64 ≡ (lock Low ≔ v) ∷ lockStores (without s Low) v 0 64
+  pub locks-next : (v : ℕ) → rows (lockSlot s v) 0 64 ≡ (lock Low ≔ v) ∷ rows (lockSlot (without s Low) v) 0 64
   locks-next v = stores-next s v Low (low-has 64 s (low-some s w h)) (low-below 64 s) 64 0 (omega arith) (low-some s w h)
 
   private-fewer : without s Low ≤ s
@@ -101,8 +98,8 @@ module _ (s : ℕ) (w : s < 2 ^ 64) (h : s ≡ 0 → ⊥) where
 
   -- ---- one store of the loop
 
-  pub image-lock : (v n left : ℕ) (m : Image) → putAll n (left - 1) (put left m (indexOf n (lock Low)) v) (lockStores (without s Low) v 0 64) ≡ putAll n left m (lockStores s v 0 64)
-  image-lock v n left m = rw (locks-next v) (sym (putAll-cons n left m (lock Low ≔ v) (lockStores (without s Low) v 0 64)))
+  pub image-lock : (v n left : ℕ) (m : Image) → putAll n (left - 1) (put left m (indexOf n (lock Low)) v) (rows (lockSlot (without s Low) v) 0 64) ≡ putAll n left m (rows (lockSlot s v) 0 64)
+  image-lock v n left m = rw (locks-next v) (sym (putAll-cons n left m (lock Low ≔ v) (rows (lockSlot (without s Low) v) 0 64)))
 
-  pub left-lock : (v left : ℕ) → left - 1 - length (lockStores (without s Low) v 0 64) ≡ left - length (lockStores s v 0 64)
+  pub left-lock : (v left : ℕ) → left - 1 - length (rows (lockSlot (without s Low) v) 0 64) ≡ left - length (rows (lockSlot s v) 0 64)
   left-lock v left = rw (locks-next v) (omega arith)

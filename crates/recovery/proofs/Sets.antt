@@ -18,26 +18,25 @@ use Rattle.mask.specs.Mask.{has, with}
 use Rattle.mask.proofs.Laws.{has-none, has-with, has-with-other}
 use Rattle.image.specs.declared.Field.the-variants.{Intent}
 use Rattle.image.specs.Place.{lock, field, Memory}
-use Rattle.engine.specs.Cursor.{stepNo, turnNo}
-use Rattle.recovery.specs.Recovery.{unbegun, owed, claimants, ownerOk, lockOk, badLock, intended, resumedAt, resumedAll}
-use Rattle.recovery.specs.Repair.{eight, owedAt, setsIn, sharedFrom, freedBy, withdrawnBy}
+use Rattle.recovery.specs.Recovery.{eight, unbegun, owed, claimants, ownerOk, lockOk, badLock, intended}
+use Rattle.recovery.specs.Repair.{owedAt, setsIn, sharedFrom, freedBy, withdrawnBy}
 use Rattle.recovery.proofs.Members.{has-and, has-or}
 
 -- ---- lists of eight
 
-pub eight-at : (f : ℕ → ℕ) (j : ℕ) → j < 8 → getD (eight f) j 0 ≡ f j
-eight-at f zero h = refl
-eight-at f (suc zero) h = refl
-eight-at f (suc (suc zero)) h = refl
-eight-at f (suc (suc (suc zero))) h = refl
-eight-at f (suc (suc (suc (suc zero)))) h = refl
-eight-at f (suc (suc (suc (suc (suc zero))))) h = refl
-eight-at f (suc (suc (suc (suc (suc (suc zero)))))) h = refl
-eight-at f (suc (suc (suc (suc (suc (suc (suc zero))))))) h = refl
-eight-at f (suc (suc (suc (suc (suc (suc (suc (suc j)))))))) h = absurd (omega arith)
+pub eight-at : (f : ℕ → ℕ) (z j : ℕ) → j < 8 → getD (eight f) j z ≡ f j
+eight-at f z zero h = refl
+eight-at f z (suc zero) h = refl
+eight-at f z (suc (suc zero)) h = refl
+eight-at f z (suc (suc (suc zero))) h = refl
+eight-at f z (suc (suc (suc (suc zero)))) h = refl
+eight-at f z (suc (suc (suc (suc (suc zero))))) h = refl
+eight-at f z (suc (suc (suc (suc (suc (suc zero)))))) h = refl
+eight-at f z (suc (suc (suc (suc (suc (suc (suc zero))))))) h = refl
+eight-at f z (suc (suc (suc (suc (suc (suc (suc (suc j)))))))) h = absurd (omega arith)
 
 pub eight-is : (l : List ℕ) (f : ℕ → ℕ) (k : ℕ) → length l ≡ 8 → 8 ≤ k → ((j : ℕ) → j < k → getD l j 0 ≡ f j) → l ≡ eight f
-eight-is l f k e h g = ext-getD 0 l (eight f) e (λ j b. g j (omega arith) ∙ sym (eight-at f j (omega arith)))
+eight-is l f k e h g = ext-getD 0 l (eight f) e (λ j b. g j (omega arith) ∙ sym (eight-at f 0 j (omega arith)))
 
 -- ---- intents
 
@@ -45,10 +44,10 @@ pub freed-next : (rd : Memory) (k : ℕ) → freedBy rd (k + 1) ≡ bitOr (freed
 unfolding freedBy
 freed-next rd k = rw (add-one k)
 
-pub freed-has : (n : ℕ) (rd : Memory) (D b k : ℕ) → has (freedBy rd k) b ≡ intended n rd D b k
+pub freed-has : (n : ℕ) (rd : Memory) (k b : ℕ) → has (freedBy rd k) b ≡ intended n rd k b
 unfolding freedBy intended
-freed-has n rd D b zero = has-none b
-freed-has n rd D b (suc k) = rw (has-or (freedBy rd k) (rd (field Intent k)) b, freed-has n rd D b k)
+freed-has n rd zero b = has-none b
+freed-has n rd (suc k) b = rw (has-or (freedBy rd k) (rd (field Intent k)) b, freed-has n rd k b)
 
 -- ---- withdrawals
 
@@ -174,7 +173,7 @@ module _ (n : ℕ) (rd : Memory) (D : ℕ) where
   pub claimants-are : (b k : ℕ) → k ≤ D → D ≤ 8 → claimants (setsIn (eight (owedAt n rd D))) b k ≡ claimants (owed n rd) b k
   unfolding claimants
   claimants-are b zero h g = refl
-  claimants-are b (suc k) h g = rw (eight-at (owedAt n rd D) k (omega arith), owed-inside k (omega arith), claimants-are b k (omega arith) g)
+  claimants-are b (suc k) h g = rw (eight-at (owedAt n rd D) 0 k (omega arith), owed-inside k (omega arith), claimants-are b k (omega arith) g)
 
   -- the owed sets of one worker more
   pub owed-next : (sets : List ℕ) (d v : ℕ) → d < 8 → sets ≡ eight (owedAt n rd d) → v ≡ owed n rd d → set sets d v ≡ eight (owedAt n rd (d + 1))
@@ -185,7 +184,7 @@ module _ (n : ℕ) (rd : Memory) (D : ℕ) where
       by j l (yes p) =
           let b : d < length sets = omega (arith, ap length e) in
           rw (p, getD-set-same sets d v 0 b, lt-ltb d (d + 1) (omega arith)) f
-      by j l (no p) = getD-set-other sets d j v 0 p ∙ (ap (λ (s : List ℕ). getD s j 0) e ∙ (eight-at (owedAt n rd d) j l ∙ private-wider d j p))
+      by j l (no p) = getD-set-other sets d j v 0 p ∙ (ap (λ (s : List ℕ). getD s j 0) e ∙ (eight-at (owedAt n rd d) 0 j l ∙ private-wider d j p))
 
   -- a lock that one worker at most is owed, and one that two are owed
   pub lock-single : (b : ℕ) → D ≤ 8 → claimants (setsIn (eight (owedAt n rd D))) b D ≤ 1 → lockOk n rd D b ≡ ownerOk n rd D b (rd (lock b))
@@ -200,11 +199,6 @@ module _ (n : ℕ) (rd : Memory) (D : ℕ) where
   pub owner-named : (b w : ℕ) → (w ≡ 0 → ⊥) → ownerOk n rd D b w ≡ (ltb (w - 1) D && has (rd (field Intent (w - 1))) b)
   owner-named b zero h = absurd (h refl)
   owner-named b (suc d) h = let e : suc d - 1 ≡ d = omega arith in rw e
-
-  -- the cursors as lists of eight
-  pub resumed-eight : resumedAll n rd D ≡ record { step = eight (λ d. stepNo (resumedAt n rd D d)); turn = eight (λ d. turnNo (resumedAt n rd D d)) }
-  unfolding resumedAll
-  resumed-eight = refl
 
   pub bad-on : (b : ℕ) → b < 64 → lockOk n rd D b ≡ true → badLock n rd D b (64 - b) ≡ badLock n rd D (b + 1) (64 - (b + 1))
   unfolding badLock

@@ -5,20 +5,20 @@ use Prim.Native.Nat.{ℕ, suc, zero, _+_, _-_, _*_, _/_, _%_, _<_, _≤_}
 use borrow.Author.Tests.{lt-ltb, le-ltb}
 use mathlib.Core.Path.{_≡_, refl, sym, ap, _∙_}
 use mathlib.Core.Bool.{Bool, true, false, cond}
-use mathlib.Core.List.{List, [], _∷_, _++_, append-assoc, append-nil}
+use mathlib.Core.List.{List, [], _∷_, _++_, append-nil}
 use native.Mathlib.Omega.{arith}
 use lib.ListN.{length, getD, replicate, length-append}
 use lib.Dec.{ltb}
 use Rattle.base.proofs.Counting.{left-step, left-none}
 use Rattle.mask.specs.Mask.{has}
 use Rattle.mask.proofs.Laws.{has-none}
-use Rattle.image.specs.declared.Field.the-variants.{Count}
-use Rattle.image.specs.Place.{lock, field, Memory, Store}
+use Rattle.image.specs.Place.{Memory, Store}
 use Rattle.image.specs.Image.{Image, at, workers, putAll}
 use Rattle.image.proofs.Lists.{putAll-append}
 use Rattle.recovery.specs.declared.Repair.{Repair}
-use Rattle.recovery.specs.Recovery.{_≔_, unbegun, owed, intended, unlocks, intents, withdraws, relocks, allRelocks, plan}
-use Rattle.recovery.specs.Repair.{eight, owedAt, freedBy, withdrawnBy, repairOf, noRepair, lockSlot, intentSlot, withdrawSlot, relockSlot, lockStores, slotAt, slots, slotOf, slotPut, slotLeft}
+use Rattle.recovery.specs.Recovery.{eight, rows, owed, intend, withdraw, relock, relocks, unlock, plan}
+use Rattle.recovery.specs.Repair.{owedAt, freedBy, withdrawnBy, repairOf, noRepair, lockSlot, intentSlot, withdrawSlot, relockSlot, slotAt, slotOf, slotPut, slotLeft}
+use Rattle.recovery.proofs.Rows.{rows-at, rows-same, rows-none, rows-part}
 use Rattle.recovery.proofs.Sets.{eight-at, freed-has, withdrawn-has, withdrawn-past, owed-inside, owed-outside}
 
 -- ---- one slot
@@ -63,60 +63,33 @@ left-slot n left (s ∷ (t ∷ ss)) h = absurd h
 module _ (r : Repair) (a k d : ℕ) where
   -- the slots that are left of k from slot a on, after d of them
 
-  slots-step : d < k → slots r (a + d) (k - d) ≡ slotAt r (a + d) ++ slots r (a + (d + 1)) (k - (d + 1))
-  unfolding slots
+  slots-step : d < k → rows (slotAt r) (a + d) (k - d) ≡ slotAt r (a + d) ++ rows (slotAt r) (a + (d + 1)) (k - (d + 1))
+  unfolding rows
   slots-step h =
       let e : a + (d + 1) ≡ a + d + 1 = omega arith in
       rw (left-step k d h, e)
 
-  pub slots-end : k ≤ d → slots r (a + d) (k - d) ≡ []
-  unfolding slots
+  pub slots-end : k ≤ d → rows (slotAt r) (a + d) (k - d) ≡ []
+  unfolding rows
   slots-end h = rw (left-none k d h)
 
   module _ (n : ℕ) (h : d < k) where
     pub image-step : (left left′ : ℕ) (m m′ : Image) → m′ ≡ slotPut left m (slotOf n (slotAt r (a + d))) → left′ ≡ slotLeft left (slotOf n (slotAt r (a + d)))
-        → putAll n left′ m′ (slots r (a + (d + 1)) (k - (d + 1))) ≡ putAll n left m (slots r (a + d) (k - d))
+        → putAll n left′ m′ (rows (slotAt r) (a + (d + 1)) (k - (d + 1))) ≡ putAll n left m (rows (slotAt r) (a + d) (k - d))
     image-step left left′ m m′ p q =
         rw (p, q, slots-step h, put-slot n left m (slotAt r (a + d)) (slot-single r (a + d)), left-slot n left (slotAt r (a + d)) (slot-single r (a + d)))
-        (sym (putAll-append n left m (slotAt r (a + d)) (slots r (a + (d + 1)) (k - (d + 1)))))
+        (sym (putAll-append n left m (slotAt r (a + d)) (rows (slotAt r) (a + (d + 1)) (k - (d + 1)))))
 
     pub left-step-slot : (left left′ : ℕ) → left′ ≡ slotLeft left (slotOf n (slotAt r (a + d)))
-        → left′ - length (slots r (a + (d + 1)) (k - (d + 1))) ≡ left - length (slots r (a + d) (k - d))
+        → left′ - length (rows (slotAt r) (a + (d + 1)) (k - (d + 1))) ≡ left - length (rows (slotAt r) (a + d) (k - d))
     left-step-slot left left′ q =
-        rw (q, slots-step h, left-slot n left (slotAt r (a + d)) (slot-single r (a + d)), length-append (slotAt r (a + d)) (slots r (a + (d + 1)) (k - (d + 1))))
+        rw (q, slots-step h, left-slot n left (slotAt r (a + d)) (slot-single r (a + d)), length-append (slotAt r (a + d)) (rows (slotAt r) (a + (d + 1)) (k - (d + 1))))
         (omega arith)
 
--- ---- the slots of a range
+-- ---- the slots by their number
 
 module _ (r : Repair) where
-  slots-split : (j k c : ℕ) → slots r c (j + k) ≡ slots r c j ++ slots r (c + j) k
-  unfolding slots
-  slots-split zero k c =
-      let e : c + 0 ≡ c = omega arith in
-      let z : 0 + k ≡ k = omega arith in
-      rw (e, z)
-  slots-split (suc j) k c =
-      let e : c + suc j ≡ c + 1 + j = omega arith in
-      let z : suc j + k ≡ suc (j + k) = omega arith in
-      rw (e, z, slots-split j k (c + 1)) (sym (append-assoc (slotAt r c) (slots r (c + 1) j) (slots r (c + 1 + j) k)))
-
-  -- the same at an index and a number that are known otherwise
-  slots-at : (c j k c′ t : ℕ) → t ≡ j + k → c′ ≡ c + j → slots r c t ≡ slots r c j ++ slots r c′ k
-  slots-at c j k c′ t e f = rw (e, f) (slots-split j k c)
-
-  slots-none : (k c : ℕ) → ((i : ℕ) → i < k → slotAt r (c + i) ≡ []) → slots r c k ≡ []
-  unfolding slots
-  slots-none zero c h = refl
-  slots-none (suc k) c h =
-      let e : c + 0 ≡ c = omega arith in
-      rw (rw e at (h 0 (omega arith)))
-      (slots-none k (c + 1) (λ i l. let f : c + 1 + i ≡ c + suc i = omega arith in rw f (h (suc i) (omega arith))))
-
-  -- a range of which the first j slots are taken and the next k are empty
-  slots-part : (c j k c′ t : ℕ) → t ≡ j + k → c′ ≡ c + j → ((i : ℕ) → i < j → slotAt r (c + i) ≡ []) → slots r c t ≡ slots r c′ k
-  slots-part c j k c′ t e f h = rw (slots-at c j k c′ t e f, slots-none j c h)
-
-  slot-unlock : (c : ℕ) → c < 64 → slotAt r c ≡ lockSlot (r .freed) c 0
+  slot-unlock : (c : ℕ) → c < 64 → slotAt r c ≡ lockSlot (r .freed) 0 c
   unfolding slotAt
   slot-unlock c h = rw (lt-ltb c 64 h)
 
@@ -141,111 +114,98 @@ module _ (r : Repair) where
 
   -- ---- the stages as the code makes them
 
-  unlock-stores : (k b : ℕ) → b + k ≤ 64 → slots r b k ≡ lockStores (r .freed) 0 b k
-  unfolding slots lockStores
-  unlock-stores zero b h = refl
-  unlock-stores (suc k) b h = rw (slot-unlock b (omega arith), unlock-stores k (b + 1) (omega arith))
+  unlock-stores : rows (slotAt r) 0 64 ≡ rows (lockSlot (r .freed) 0) 0 64
+  unlock-stores = rows-same (slotAt r) (lockSlot (r .freed) 0) 64 0 0 (λ i l. slot-unlock (0 + i) (omega arith))
 
-  relock-stores : (k b d c : ℕ) → c ≡ 80 + 64 * d + b → d < 8 → b + k ≤ 64 → slots r c k ≡ lockStores (getD (r .owed) d 0) (d + 1) b k
-  unfolding slots lockStores
-  relock-stores zero b d c q h g = refl
-  relock-stores (suc k) b d c q h g = rw (slot-relock c d b q h (omega arith), relock-stores k (b + 1) d (c + 1) (omega arith) h (omega arith))
+  relock-stores : (d : ℕ) → d < 8 → rows (slotAt r) (80 + 64 * d) 64 ≡ rows (lockSlot (getD (r .owed) d 0) (d + 1)) 0 64
+  relock-stores d h =
+      rows-same (slotAt r) (lockSlot (getD (r .owed) d 0) (d + 1)) 64 (80 + 64 * d) 0 (λ i l. slot-relock (80 + 64 * d + i) d (0 + i) (omega arith) h (omega arith))
 
   -- the relocks that are left after those of d workers
   abbrev Relocks : ℕ → List Store
-  Relocks d = slots r (80 + 64 * d) (512 - 64 * d)
+  Relocks d = rows (slotAt r) (80 + 64 * d) (512 - 64 * d)
 
-  relocks-step : (d : ℕ) → d < 8 → Relocks d ≡ lockStores (getD (r .owed) d 0) (d + 1) 0 64 ++ Relocks (d + 1)
+  relocks-step : (d : ℕ) → d < 8 → Relocks d ≡ rows (lockSlot (getD (r .owed) d 0) (d + 1)) 0 64 ++ Relocks (d + 1)
   relocks-step d h =
       rw (
-        slots-at (80 + 64 * d) 64 (512 - 64 * (d + 1)) (80 + 64 * (d + 1)) (512 - 64 * d) (omega arith) (omega arith),
-        relock-stores 64 0 d (80 + 64 * d) (omega arith) h (omega arith),
+        rows-at (slotAt r) (80 + 64 * d) 64 (512 - 64 * (d + 1)) (80 + 64 * (d + 1)) (512 - 64 * d) (omega arith) (omega arith),
+        relock-stores d h,
       )
 
   pub relocks-end : (d : ℕ) → 8 ≤ d → Relocks d ≡ []
-  unfolding slots
+  unfolding rows
   relocks-end d h = let e : 512 - 64 * d ≡ 0 = omega arith in rw e
 
-  module _ (n d : ℕ) (h : d < 8) (left left′ : ℕ) (q : left′ ≡ left - length (lockStores (getD (r .owed) d 0) (d + 1) 0 64)) where
-    pub image-relock : (m m′ : Image) → m′ ≡ putAll n left m (lockStores (getD (r .owed) d 0) (d + 1) 0 64) → putAll n left′ m′ (Relocks (d + 1)) ≡ putAll n left m (Relocks d)
-    image-relock m m′ p = rw (p, q, relocks-step d h) (sym (putAll-append n left m (lockStores (getD (r .owed) d 0) (d + 1) 0 64) (Relocks (d + 1))))
+  module _ (n d : ℕ) (h : d < 8) (left left′ : ℕ) (q : left′ ≡ left - length (rows (lockSlot (getD (r .owed) d 0) (d + 1)) 0 64)) where
+    pub image-relock : (m m′ : Image) → m′ ≡ putAll n left m (rows (lockSlot (getD (r .owed) d 0) (d + 1)) 0 64) → putAll n left′ m′ (Relocks (d + 1)) ≡ putAll n left m (Relocks d)
+    image-relock m m′ p = rw (p, q, relocks-step d h) (sym (putAll-append n left m (rows (lockSlot (getD (r .owed) d 0) (d + 1)) 0 64) (Relocks (d + 1))))
 
     pub left-relock : left′ - length (Relocks (d + 1)) ≡ left - length (Relocks d)
-    left-relock = rw (q, relocks-step d h, length-append (lockStores (getD (r .owed) d 0) (d + 1) 0 64) (Relocks (d + 1))) (omega arith)
+    left-relock = rw (q, relocks-step d h, length-append (rows (lockSlot (getD (r .owed) d 0) (d + 1)) 0 64) (Relocks (d + 1))) (omega arith)
 
-  stages : slots r 0 592 ≡ lockStores (r .freed) 0 0 64 ++ (slots r 64 8 ++ (slots r 72 8 ++ slots r 80 512))
+  stages : rows (slotAt r) 0 592 ≡ rows (lockSlot (r .freed) 0) 0 64 ++ (rows (slotAt r) 64 8 ++ (rows (slotAt r) 72 8 ++ rows (slotAt r) 80 512))
   stages =
       rw (
-        slots-at 0 64 528 64 592 refl refl,
-        unlock-stores 64 0 (omega arith),
-        slots-at 64 8 520 72 528 refl refl,
-        slots-at 72 8 512 80 520 refl refl,
+        rows-at (slotAt r) 0 64 528 64 592 refl refl,
+        unlock-stores,
+        rows-at (slotAt r) 64 8 520 72 528 refl refl,
+        rows-at (slotAt r) 72 8 512 80 520 refl refl,
       )
 
   -- what the four stages leave, one after the other
   pub stages-leave : (n left left₁ left₂ left₃ left₄ : ℕ) (m m₁ m₂ m₃ m₄ : Image)
-      → m₁ ≡ putAll n left m (lockStores (r .freed) 0 0 64) → left₁ ≡ left - length (lockStores (r .freed) 0 0 64)
-      → m₂ ≡ putAll n left₁ m₁ (slots r 64 8) → left₂ ≡ left₁ - length (slots r 64 8)
-      → m₃ ≡ putAll n left₂ m₂ (slots r 72 8) → left₃ ≡ left₂ - length (slots r 72 8)
-      → m₄ ≡ putAll n left₃ m₃ (slots r 80 512) → left₄ ≡ left₃ - length (slots r 80 512)
-      → (m₄ ≡ putAll n left m (slots r 0 592)) × (left₄ ≡ left - length (slots r 0 592))
+      → m₁ ≡ putAll n left m (rows (lockSlot (r .freed) 0) 0 64) → left₁ ≡ left - length (rows (lockSlot (r .freed) 0) 0 64)
+      → m₂ ≡ putAll n left₁ m₁ (rows (slotAt r) 64 8) → left₂ ≡ left₁ - length (rows (slotAt r) 64 8)
+      → m₃ ≡ putAll n left₂ m₂ (rows (slotAt r) 72 8) → left₃ ≡ left₂ - length (rows (slotAt r) 72 8)
+      → m₄ ≡ putAll n left₃ m₃ (rows (slotAt r) 80 512) → left₄ ≡ left₃ - length (rows (slotAt r) 80 512)
+      → (m₄ ≡ putAll n left m (rows (slotAt r) 0 592)) × (left₄ ≡ left - length (rows (slotAt r) 0 592))
   stages-leave n left left₁ left₂ left₃ left₄ m m₁ m₂ m₃ m₄ p₁ q₁ p₂ q₂ p₃ q₃ p₄ q₄ =
-      let A = lockStores (r .freed) 0 0 64 in
-      let B = slots r 64 8 in
-      let C = slots r 72 8 in
-      let D = slots r 80 512 in (
+      let A = rows (lockSlot (r .freed) 0) 0 64 in
+      let B = rows (slotAt r) 64 8 in
+      let C = rows (slotAt r) 72 8 in
+      let D = rows (slotAt r) 80 512 in (
         rw (stages, putAll-append n left m A (B ++ (C ++ D)), ← q₁, ← p₁, putAll-append n left₁ m₁ B (C ++ D), ← q₂, ← p₂, putAll-append n left₂ m₂ C D, ← q₃, ← p₃) p₄,
         rw (stages, length-append A (B ++ (C ++ D)), length-append B (C ++ D), length-append C D) (omega arith),
       )
 
 -- ---- the four stages
 
-private-cons : (t : Bool) (s : Store) (l : List Store) → cond t (s ∷ []) [] ++ l ≡ cond t (s ∷ l) l
-private-cons true s l = refl
-private-cons false s l = refl
-
 module _ (n : ℕ) (rd : Memory) (D : ℕ) (few : D ≤ 8) where
   abbrev R : Repair
   R = record { workers = D; freed = freedBy rd D; withdrawn = withdrawnBy rd D; owed = eight (owedAt n rd D) }
 
   owed-in : (d : ℕ) → d < D → getD (R .owed) d 0 ≡ owed n rd d
-  owed-in d h = eight-at (owedAt n rd D) d (omega arith) ∙ owed-inside n rd D d h
+  owed-in d h = eight-at (owedAt n rd D) 0 d (omega arith) ∙ owed-inside n rd D d h
 
   owed-out : (d : ℕ) → D ≤ d → d < 8 → getD (R .owed) d 0 ≡ 0
-  owed-out d h g = eight-at (owedAt n rd D) d g ∙ owed-outside n rd D d h
+  owed-out d h g = eight-at (owedAt n rd D) 0 d g ∙ owed-outside n rd D d h
 
-  unlocks-are : (k b : ℕ) → b + k ≤ 64 → slots R b k ≡ unlocks n rd D b k
-  unfolding slots unlocks
-  unlocks-are zero b h = refl
-  unlocks-are (suc k) b h =
-      rw (slot-unlock R b (omega arith), freed-has n rd D b D, unlocks-are k (b + 1) (omega arith))
-      (private-cons (intended n rd D b D) (lock b ≔ 0) (unlocks n rd D (b + 1) k))
+  unlocks-are : rows (slotAt R) 0 64 ≡ rows (unlock n rd D) 0 64
+  unlocks-are = rows-same (slotAt R) (unlock n rd D) 64 0 0 (λ i l. rw (slot-unlock R (0 + i) (omega arith), freed-has n rd D (0 + i)))
 
-  intents-are : (k d c : ℕ) → c ≡ 64 + d → d + k ≤ D → slots R c k ≡ intents n rd D d k
-  unfolding slots intents
-  intents-are zero d c q h = refl
-  intents-are (suc k) d c q h =
-      rw (slot-intent R c d q (omega arith), lt-ltb d D (omega arith), owed-in d (omega arith), intents-are k (d + 1) (c + 1) (omega arith) (omega arith))
+  intents-are : rows (slotAt R) 64 D ≡ rows (intend n rd) 0 D
+  intents-are =
+      rows-same (slotAt R) (intend n rd) D 64 0
+      (λ i l. rw (slot-intent R (64 + i) (0 + i) (omega arith) (omega arith), lt-ltb (0 + i) D (omega arith), owed-in (0 + i) (omega arith)))
 
-  withdraws-are : (k d c : ℕ) → c ≡ 72 + d → d + k ≤ D → slots R c k ≡ withdraws n rd D d k
-  unfolding slots withdraws
-  withdraws-are zero d c q h = refl
-  withdraws-are (suc k) d c q h =
-      rw (slot-withdraw R c d q (omega arith), withdrawn-has rd D d (omega arith), withdraws-are k (d + 1) (c + 1) (omega arith) (omega arith))
-      (private-cons (unbegun rd d) (field Count d ≔ 0) (withdraws n rd D (d + 1) k))
+  withdraws-are : rows (slotAt R) 72 D ≡ rows (withdraw n rd) 0 D
+  withdraws-are =
+      rows-same (slotAt R) (withdraw n rd) D 72 0
+      (λ i l. rw (slot-withdraw R (72 + i) (0 + i) (omega arith) (omega arith), withdrawn-has rd D (0 + i) (omega arith)))
 
-  relocks-are : (k b d c : ℕ) → c ≡ 80 + 64 * d + b → d < D → b + k ≤ 64 → slots R c k ≡ relocks n rd D d b k
-  unfolding slots relocks
-  relocks-are zero b d c q h g = refl
-  relocks-are (suc k) b d c q h g =
-      rw (slot-relock R c d b q (omega arith) (omega arith), owed-in d h, relocks-are k (b + 1) d (c + 1) (omega arith) h (omega arith))
-      (private-cons (has (owed n rd d) b) (lock b ≔ d + 1) (relocks n rd D d (b + 1) k))
+  relocks-are : (d c : ℕ) → c ≡ 80 + 64 * d → d < D → rows (slotAt R) c 64 ≡ rows (relock n rd d) 0 64
+  relocks-are d c q h =
+      rows-same (slotAt R) (relock n rd d) 64 c 0 (λ i l. rw (slot-relock R (c + i) d (0 + i) (omega arith) (omega arith) (omega arith), owed-in d h))
 
-  all-relocks-are : (k d c : ℕ) → c ≡ 80 + 64 * d → d + k ≤ D → slots R c (64 * k) ≡ allRelocks n rd D d k
-  unfolding slots allRelocks
+  all-relocks-are : (k d c : ℕ) → c ≡ 80 + 64 * d → d + k ≤ D → rows (slotAt R) c (64 * k) ≡ rows (relocks n rd) d k
+  unfolding rows
   all-relocks-are zero d c q h = refl
   all-relocks-are (suc k) d c q h =
-      rw (slots-at R c 64 (64 * k) (c + 64) (64 * suc k) (omega arith) refl, relocks-are 64 0 d c (omega arith) (omega arith) (omega arith), all-relocks-are k (d + 1) (c + 64) (omega arith) (omega arith))
+      rw (
+        rows-at (slotAt R) c 64 (64 * k) (c + 64) (64 * suc k) (omega arith) refl,
+        relocks-are d c q (omega arith),
+        all-relocks-are k (d + 1) (c + 64) (omega arith) (omega arith),
+      )
 
   -- ---- and the workers that the image has not
 
@@ -258,35 +218,39 @@ module _ (n : ℕ) (rd : Memory) (D : ℕ) (few : D ≤ 8) where
   no-relock : (c d b : ℕ) → c ≡ 80 + 64 * d + b → D ≤ d → d < 8 → b < 64 → slotAt R c ≡ []
   no-relock c d b q h g l = rw (slot-relock R c d b q g l, owed-out d h g, has-none b)
 
-  last-stage : slots R 80 512 ≡ allRelocks n rd D 0 D
-  last-stage =
-      rw (slots-at R 80 (64 * D) (512 - 64 * D) (80 + 64 * D) 512 (omega arith) refl, all-relocks-are D 0 80 refl (omega arith))
-      (ap (λ (l : List Store). allRelocks n rd D 0 D ++ l) (slots-none R (512 - 64 * D) (80 + 64 * D) (λ i l. no-relock (80 + 64 * D + i) (D + i / 64) (i % 64) (omega arith) (omega arith) (omega arith) (omega arith)))
-      ∙ append-nil (allRelocks n rd D 0 D))
+  abbrev Relocked : List Store
+  Relocked = rows (relocks n rd) 0 D
 
-  third-stage : slots R 72 520 ≡ withdraws n rd D 0 D ++ allRelocks n rd D 0 D
+  last-stage : rows (slotAt R) 80 512 ≡ Relocked
+  last-stage =
+      let past : (i : ℕ) → i < 512 - 64 * D → slotAt R (80 + 64 * D + i) ≡ [] = λ i l.
+      no-relock (80 + 64 * D + i) (D + i / 64) (i % 64) (omega arith) (omega arith) (omega arith) (omega arith) in
+      rw (rows-at (slotAt R) 80 (64 * D) (512 - 64 * D) (80 + 64 * D) 512 (omega arith) refl, all-relocks-are D 0 80 refl (omega arith))
+      (ap (λ (l : List Store). Relocked ++ l) (rows-none (slotAt R) (512 - 64 * D) (80 + 64 * D) past) ∙ append-nil Relocked)
+
+  third-stage : rows (slotAt R) 72 520 ≡ rows (withdraw n rd) 0 D ++ Relocked
   third-stage =
       rw (
-        slots-at R 72 D (520 - D) (72 + D) 520 (omega arith) refl,
-        withdraws-are D 0 72 refl (omega arith),
-        slots-part R (72 + D) (8 - D) 512 80 (520 - D) (omega arith) (omega arith) (λ i l. no-withdraw (72 + D + i) (D + i) (omega arith) (omega arith) (omega arith)),
+        rows-at (slotAt R) 72 D (520 - D) (72 + D) 520 (omega arith) refl,
+        withdraws-are,
+        rows-part (slotAt R) (72 + D) (8 - D) 512 80 (520 - D) (omega arith) (omega arith) (λ i l. no-withdraw (72 + D + i) (D + i) (omega arith) (omega arith) (omega arith)),
         last-stage,
       )
 
-  pub plan-slots : slots R 0 592 ≡ plan n rd D
+  pub plan-slots : rows (slotAt R) 0 592 ≡ plan n rd D
   unfolding plan
   plan-slots =
       rw (
-        slots-at R 0 64 528 64 592 refl refl,
-        unlocks-are 64 0 (omega arith),
-        slots-at R 64 D (528 - D) (64 + D) 528 (omega arith) refl,
-        intents-are D 0 64 refl (omega arith),
-        slots-part R (64 + D) (8 - D) 520 72 (528 - D) (omega arith) (omega arith) (λ i l. no-intent (64 + D + i) (D + i) (omega arith) (omega arith) (omega arith)),
+        rows-at (slotAt R) 0 64 528 64 592 refl refl,
+        unlocks-are,
+        rows-at (slotAt R) 64 D (528 - D) (64 + D) 528 (omega arith) refl,
+        intents-are,
+        rows-part (slotAt R) (64 + D) (8 - D) 520 72 (528 - D) (omega arith) (omega arith) (λ i l. no-intent (64 + D + i) (D + i) (omega arith) (omega arith) (omega arith)),
         third-stage,
       )
 
 -- the slots of an image's repair are its plan
-pub repair-slots : (n : ℕ) (m : Image) → workers m ≤ 8 → slots (repairOf n m) 0 592 ≡ plan n (at n m) (workers m)
+pub repair-slots : (n : ℕ) (m : Image) → workers m ≤ 8 → rows (slotAt (repairOf n m)) 0 592 ≡ plan n (at n m) (workers m)
 unfolding repairOf
 repair-slots n m few = plan-slots n (at n m) (workers m) few
 
@@ -316,5 +280,5 @@ empty-slot c =
     private-all (ltb c 64) (ltb c 72) (ltb c 80) (ltb c 592) _ _ _ _ (rw (has-none c)) (rw (le-ltb (c - 64) 0 (omega arith))) (rw (has-none (c - 72)))
     (rw (private-zeros ((c - 80) / 64), has-none ((c - 80) % 64)))
 
-pub empty-slots : slots noRepair 0 592 ≡ []
-empty-slots = slots-none noRepair 592 0 (λ i l. empty-slot (0 + i))
+pub empty-slots : rows (slotAt noRepair) 0 592 ≡ []
+empty-slots = rows-none (slotAt noRepair) 592 0 (λ i l. empty-slot (0 + i))

@@ -19,6 +19,19 @@ infixl 60 _≔_
 abbrev pub _≔_ : Place → ℕ → Store
 p ≔ v = record { place = p; value = v }
 
+-- a store, where it is to be made
+abbrev pub when : Bool → Store → List Store
+when t s = cond t (s ∷ []) []
+
+-- the stores of k rows, from row i on
+unfoldable pub rows : (ℕ → List Store) → ℕ → ℕ → List Store
+rows f i zero = []
+rows f i (suc k) = f i ++ rows f (i + 1) k
+
+-- what f gives for the numbers 0 to 7
+abbrev pub eight : (ℕ → ℕ) → List ℕ
+eight f = f 0 ∷ f 1 ∷ f 2 ∷ f 3 ∷ f 4 ∷ f 5 ∷ f 6 ∷ f 7 ∷ []
+
 -- every lock of `small`, below b, is in `big`
 unfoldable pub covers : ℕ → ℕ → ℕ → Bool
 covers big small zero = true
@@ -134,49 +147,40 @@ module _ (n : ℕ) (rd : Memory) where
     badLock b zero = []
     badLock b (suc k) = cond (lockOk b) (badLock (b + 1) k) (b ∷ [])
 
-    -- one of the first k workers intends lock b
-    unfoldable pub intended : ℕ → ℕ → Bool
-    intended b zero = false
-    intended b (suc k) = intended b k || has (rd (field Intent k)) b
+  -- one of the first k workers intends lock b
+  unfoldable pub intended : ℕ → ℕ → Bool
+  intended zero b = false
+  intended (suc k) b = intended k b || has (rd (field Intent k)) b
 
-    -- stage 1: every lock that anybody intends is freed, from b on
-    unfoldable pub unlocks : ℕ → ℕ → List Store
-    unlocks b zero = []
-    unlocks b (suc k) = cond (intended b D) ((lock b ≔ 0) ∷ unlocks (b + 1) k) (unlocks (b + 1) k)
+  -- stage 1: a lock that any of D workers intends is freed
+  abbrev pub unlock : ℕ → ℕ → List Store
+  unlock D b = when (intended D b) (lock b ≔ 0)
 
-    -- stage 2: each worker intends what it is owed
-    unfoldable pub intents : ℕ → ℕ → List Store
-    intents d zero = []
-    intents d (suc k) = (field Intent d ≔ owed d) ∷ intents (d + 1) k
+  -- stage 2: a worker intends what it is owed
+  abbrev pub intend : ℕ → List Store
+  intend d = (field Intent d ≔ owed d) ∷ []
 
-    -- stage 3: sections that were not begun are withdrawn
-    unfoldable pub withdraws : ℕ → ℕ → List Store
-    withdraws d zero = []
-    withdraws d (suc k) = cond (unbegun rd d) ((field Count d ≔ 0) ∷ withdraws (d + 1) k) (withdraws (d + 1) k)
+  -- stage 3: a section that was not begun is withdrawn
+  abbrev pub withdraw : ℕ → List Store
+  withdraw d = when (unbegun rd d) (field Count d ≔ 0)
 
-    -- stage 4: each worker has the locks that it is owed
-    unfoldable pub relocks : ℕ → ℕ → ℕ → List Store
-    relocks d b zero = []
-    relocks d b (suc k) = cond (has (owed d) b) ((lock b ≔ d + 1) ∷ relocks d (b + 1) k) (relocks d (b + 1) k)
+  -- stage 4: a worker has the locks that it is owed
+  abbrev pub relock : ℕ → ℕ → List Store
+  relock d b = when (has (owed d) b) (lock b ≔ d + 1)
 
-    unfoldable pub allRelocks : ℕ → ℕ → List Store
-    allRelocks d zero = []
-    allRelocks d (suc k) = relocks d 0 64 ++ allRelocks (d + 1) k
+  abbrev pub relocks : ℕ → List Store
+  relocks d = rows (relock d) 0 64
 
-    -- the stores of an accepted recovery, in order
-    unfoldable pub plan : List Store
-    plan = unlocks 0 64 ++ (intents 0 D ++ (withdraws 0 D ++ allRelocks 0 D))
+  -- the stores of an accepted recovery of D workers, in order
+  unfoldable pub plan : ℕ → List Store
+  plan D = rows (unlock D) 0 64 ++ (rows intend 0 D ++ (rows withdraw 0 D ++ rows relocks 0 D))
 
-    -- the cursors after it: the begun go on, all others are idle
-    abbrev pub resumedAt : ℕ → Cursor
-    resumedAt d = cond (ltb d D) (resumed d) idle
+  -- the cursors after it: the begun go on, all others are idle
+  abbrev pub resumedAt : ℕ → ℕ → Cursor
+  resumedAt D d = cond (ltb d D) (resumed d) idle
 
-    unfoldable pub resumedAll : Cursors
-    resumedAll = record { step = numbers (λ d. stepNo (resumedAt d)) 8; turn = numbers (λ d. turnNo (resumedAt d)) 8 }
-      where
-        numbers : (ℕ → ℕ) → ℕ → List ℕ
-        numbers f zero = []
-        numbers f (suc k) = f 0 ∷ numbers (λ d. f (suc d)) k
+  unfoldable pub resumedAll : ℕ → Cursors
+  resumedAll D = record { step = eight (λ d. stepNo (resumedAt D d)); turn = eight (λ d. turnNo (resumedAt D d)) }
 
 -- what a recovery answers: its stores and cursors, or the refusal (10; 12 by worker; 13 by lowest lock)
 pub data Recovered : Type 0 where

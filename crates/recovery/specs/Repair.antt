@@ -1,9 +1,9 @@
 -- What an accepted recovery stores, as the code has it: the sets and owed sets that decide it, worked out before the first
--- store (`repairOf`), and the 592 slots of a repair, each a store or empty, in document 01's order (`slots`).
+-- store (`repairOf`), and the 592 slots of a repair, each a store or empty, in document 01's order (`slotAt`).
 use Prim.Native.Nat.{ℕ, suc, zero, _+_, _-_, _/_, _%_, _<_, _≤_}
 use mathlib.Core.Path.{_≡_}
 use mathlib.Core.Bool.{true, cond}
-use mathlib.Core.List.{List, [], _∷_, _++_}
+use mathlib.Core.List.{List, [], _∷_}
 use lib.Bits.{bitOr}
 use lib.ListN.{length, getD, replicate}
 use lib.Dec.{leb, ltb}
@@ -16,7 +16,7 @@ use Rattle.engine.specs.Turn.{codeIn}
 use Rattle.recovery.specs.declared.Repair.{Repair}
 use Rattle.recovery.specs.declared.Slot.{Slot}
 use Rattle.recovery.specs.declared.Slot.the-variants.{Empty, Store as Filled}
-use Rattle.recovery.specs.Recovery.{_≔_, claimants, namedStep, owed, unbegun}
+use Rattle.recovery.specs.Recovery.{_≔_, when, eight, unbegun, claimants, namedStep, owed}
 
 -- ---- what the functions that read a begun section ask
 
@@ -69,9 +69,6 @@ withdrawnBy rd (suc k) = cond (unbegun rd k) (with (withdrawnBy rd k) k) (withdr
 
 -- ---- the repair
 
-abbrev pub eight : (ℕ → ℕ) → List ℕ
-eight f = f 0 ∷ f 1 ∷ f 2 ∷ f 3 ∷ f 4 ∷ f 5 ∷ f 6 ∷ f 7 ∷ []
-
 unfoldable pub repairOf : ℕ → Image → Repair
 repairOf n m =
     record { workers = workers m; freed = freedBy (at n m) (workers m); withdrawn = withdrawnBy (at n m) (workers m); owed = eight (owedAt n (at n m) (workers m)) }
@@ -84,34 +81,24 @@ noRepair = record { workers = 0; freed = 0; withdrawn = 0; owed = replicate 8 0 
 
 -- a store of v in lock b's owner word, where b is in the set
 abbrev pub lockSlot : ℕ → ℕ → ℕ → List Store
-lockSlot set b v = cond (has set b) ((lock b ≔ v) ∷ []) []
+lockSlot set v b = when (has set b) (lock b ≔ v)
 
 abbrev pub intentSlot : Repair → ℕ → List Store
-intentSlot r d = cond (ltb d (r .workers)) ((field Intent d ≔ getD (r .owed) d 0) ∷ []) []
+intentSlot r d = when (ltb d (r .workers)) (field Intent d ≔ getD (r .owed) d 0)
 
 abbrev pub withdrawSlot : Repair → ℕ → List Store
-withdrawSlot r d = cond (has (r .withdrawn) d) ((field Count d ≔ 0) ∷ []) []
+withdrawSlot r d = when (has (r .withdrawn) d) (field Count d ≔ 0)
 
 abbrev pub relockSlot : Repair → ℕ → ℕ → List Store
-relockSlot r d b = lockSlot (getD (r .owed) d 0) b (d + 1)
+relockSlot r d b = lockSlot (getD (r .owed) d 0) (d + 1) b
 
 -- 64 unlocks, 8 intents, 8 withdrawals, 8 times 64 relocks
 unfoldable pub slotAt : Repair → ℕ → List Store
 slotAt r c =
-    cond (ltb c 64) (lockSlot (r .freed) c 0)
+    cond (ltb c 64) (lockSlot (r .freed) 0 c)
     (cond (ltb c 72) (intentSlot r (c - 64))
     (cond (ltb c 80) (withdrawSlot r (c - 72))
     (cond (ltb c 592) (relockSlot r ((c - 80) / 64) ((c - 80) % 64)) [])))
-
--- the stores of k slots from slot c on
-unfoldable pub slots : Repair → ℕ → ℕ → List Store
-slots r c zero = []
-slots r c (suc k) = slotAt r c ++ slots r (c + 1) k
-
--- a store of v in the owner word of each lock of a set, of k locks from b on
-unfoldable pub lockStores : ℕ → ℕ → ℕ → ℕ → List Store
-lockStores set v b zero = []
-lockStores set v b (suc k) = lockSlot set b v ++ lockStores set v (b + 1) k
 
 -- how the code says a slot
 abbrev pub slotOf : ℕ → List Store → Slot

@@ -16,8 +16,8 @@ ghost use mathlib.Core.Bool.{true};
 ghost use Prim.Native.Nat.{_≤_};
 ghost use Rattle.image.specs.Image.{at, workers, headerOk};
 ghost use Rattle.engine.specs.Edition.{mark, ownWords};
-ghost use Rattle.recovery.specs.Recovery.{recovery};
-ghost use Rattle.recovery.specs.Repair.{eight, owedAt, slotAt, slotOf};
+ghost use Rattle.recovery.specs.Recovery.{eight, recovery};
+ghost use Rattle.recovery.specs.Repair.{owedAt, slotAt, slotOf};
 ghost use Rattle.recovery.specs.Codes.{causeOf, valueOf};
 ghost use Rattle.recovery.specs.Recover.{isDone, answerOf, cursorsOf, repairBy, recoveryLeaves, recoveryLeft};
 

@@ -7,8 +7,8 @@ ghost use Prim.Native.Nat.{_<_, _≤_};
 ghost use lib.ListN.{length};
 ghost use Rattle.image.specs.Place.{lock};
 ghost use Rattle.image.specs.Image.{at, workers, lengthOf};
-ghost use Rattle.recovery.specs.Recovery.{ownerOk, badLock};
-ghost use Rattle.recovery.specs.Repair.{eight, owedAt, setsIn, sharedFrom};
+ghost use Rattle.recovery.specs.Recovery.{eight, ownerOk, badLock};
+ghost use Rattle.recovery.specs.Repair.{owedAt, setsIn, sharedFrom};
 ghost use Rattle.recovery.specs.Recover.{byLock};
 
 // The lowest lock that two of the first n sets have; 64 where there is none.

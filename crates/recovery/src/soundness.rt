@@ -17,8 +17,8 @@ ghost use Rattle.image.specs.Image.{at, workers, lengthOf, Inside};
 ghost use Rattle.section.specs.Check.{check, passes};
 ghost use Rattle.section.specs.Fits.{fits};
 ghost use Rattle.engine.specs.Turn.{codeIn, activeAddr, activeVal};
-ghost use Rattle.recovery.specs.Recovery.{covers, heldNext, owed, sectionOk, setLogged, entryOk, pcOk, sound, unsound};
-ghost use Rattle.recovery.specs.Repair.{Helds, eight, owedAt};
+ghost use Rattle.recovery.specs.Recovery.{eight, covers, heldNext, owed, sectionOk, setLogged, entryOk, pcOk, sound, unsound};
+ghost use Rattle.recovery.specs.Repair.{Helds, owedAt};
 ghost use Rattle.recovery.specs.Recover.{isDone, byRecord};
 
 // Whether the first k instruction words of worker d's record, each loaded, pass the check, which then leaves the held sets.

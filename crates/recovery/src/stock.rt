@@ -8,8 +8,8 @@ ghost use mathlib.Core.Bool.{cond};
 ghost use Rattle.mask.specs.Mask.{with};
 ghost use Rattle.image.specs.Image.{at, workers, Inside};
 ghost use Rattle.engine.specs.Cursor.{stepNo, turnNo};
-ghost use Rattle.recovery.specs.Recovery.{unbegun, resumedAt, resumedAll};
-ghost use Rattle.recovery.specs.Repair.{Restorable, eight, owedAt, freedBy, withdrawnBy, repairOf, noRepair};
+ghost use Rattle.recovery.specs.Recovery.{eight, unbegun, resumedAt, resumedAll};
+ghost use Rattle.recovery.specs.Repair.{Restorable, owedAt, freedBy, withdrawnBy, repairOf, noRepair};
 
 // The step at which worker d goes on; 0 for one that the image has not.
 fn step_at(image: &[u64], d: usize, own: usize) -> u8

@@ -6,12 +6,13 @@ ghost use mathlib.Core.Path.{_≡_};
 ghost use Prim.Native.Nat.{ℕ, _-_, _<_, _≤_};
 ghost use lib.ListN.{length};
 ghost use Rattle.image.specs.Image.{putAll};
-ghost use Rattle.recovery.specs.Repair.{lockSlot, intentSlot, withdrawSlot, relockSlot, lockStores, slotAt, slots, slotOf, slotPut, slotLeft};
+ghost use Rattle.recovery.specs.Recovery.{rows};
+ghost use Rattle.recovery.specs.Repair.{lockSlot, intentSlot, withdrawSlot, relockSlot, slotAt, slotOf, slotPut, slotLeft};
 
 // A store in lock b's owner word, where b is in the set.
 fn lock_slot(set: u64, b: u64, value: u64) -> Slot
     requires { ⌜ b < 64 ⌝ }
-    ensures { λ r. ⌜ ((n : ℕ) → r ≡ slotOf n (lockSlot set b value)) ⌝ }
+    ensures { λ r. ⌜ ((n : ℕ) → r ≡ slotOf n (lockSlot set value b)) ⌝ }
 {
     if !mask::has(set, b) {
         return Slot::Empty;
@@ -91,8 +92,8 @@ fn store_slot(image: &mut [u64], s: Slot, left: &mut u64)
 
 // Stores a value in the owner word of each lock of a set, rising.
 fn store_locks(image: &mut [u64], set: u64, value: u64, left: &mut u64)
-    ensures image { λ _. ⌜ ((n : ℕ) → now (image .exit) ≡ putAll n (now (left .entry)) (now (image .entry)) (lockStores set value 0 64)) ⌝ }
-    ensures left { λ _. ⌜ now (left .exit) ≡ now (left .entry) - length (lockStores set value 0 64) ⌝ }
+    ensures image { λ _. ⌜ ((n : ℕ) → now (image .exit) ≡ putAll n (now (left .entry)) (now (image .entry)) (rows (lockSlot set value) 0 64)) ⌝ }
+    ensures left { λ _. ⌜ now (left .exit) ≡ now (left .entry) - length (rows (lockSlot set value) 0 64) ⌝ }
 {
     // Kept in a local in the loop: the compiler can't tell `left` from a word of the image.
     let mut k = *left;
@@ -108,8 +109,8 @@ fn store_locks(image: &mut [u64], set: u64, value: u64, left: &mut u64)
 // Stores the intents.
 fn store_intents(image: &mut [u64], r: Repair, own: usize, left: &mut u64)
     requires { ⌜ own ≤ 64 ⌝ }
-    ensures image { λ _. ⌜ now (image .exit) ≡ putAll own (now (left .entry)) (now (image .entry)) (slots r 64 8) ⌝ }
-    ensures left { λ _. ⌜ now (left .exit) ≡ now (left .entry) - length (slots r 64 8) ⌝ }
+    ensures image { λ _. ⌜ now (image .exit) ≡ putAll own (now (left .entry)) (now (image .entry)) (rows (slotAt r) 64 8) ⌝ }
+    ensures left { λ _. ⌜ now (left .exit) ≡ now (left .entry) - length (rows (slotAt r) 64 8) ⌝ }
 {
     let mut d: usize = 0;
     while d < 8 {
@@ -121,8 +122,8 @@ fn store_intents(image: &mut [u64], r: Repair, own: usize, left: &mut u64)
 // Withdraws the sections that are not begun.
 fn store_withdrawals(image: &mut [u64], r: Repair, own: usize, left: &mut u64)
     requires { ⌜ own ≤ 64 ⌝ }
-    ensures image { λ _. ⌜ now (image .exit) ≡ putAll own (now (left .entry)) (now (image .entry)) (slots r 72 8) ⌝ }
-    ensures left { λ _. ⌜ now (left .exit) ≡ now (left .entry) - length (slots r 72 8) ⌝ }
+    ensures image { λ _. ⌜ now (image .exit) ≡ putAll own (now (left .entry)) (now (image .entry)) (rows (slotAt r) 72 8) ⌝ }
+    ensures left { λ _. ⌜ now (left .exit) ≡ now (left .entry) - length (rows (slotAt r) 72 8) ⌝ }
 {
     let mut d: usize = 0;
     while d < 8 {
@@ -133,8 +134,8 @@ fn store_withdrawals(image: &mut [u64], r: Repair, own: usize, left: &mut u64)
 
 // Gives each worker the locks that it is owed.
 fn store_relocks(image: &mut [u64], r: Repair, left: &mut u64)
-    ensures image { λ _. ⌜ ((n : ℕ) → now (image .exit) ≡ putAll n (now (left .entry)) (now (image .entry)) (slots r 80 512)) ⌝ }
-    ensures left { λ _. ⌜ now (left .exit) ≡ now (left .entry) - length (slots r 80 512) ⌝ }
+    ensures image { λ _. ⌜ ((n : ℕ) → now (image .exit) ≡ putAll n (now (left .entry)) (now (image .entry)) (rows (slotAt r) 80 512)) ⌝ }
+    ensures left { λ _. ⌜ now (left .exit) ≡ now (left .entry) - length (rows (slotAt r) 80 512) ⌝ }
 {
     let mut d: usize = 0;
     while d < 8 {
@@ -146,8 +147,8 @@ fn store_relocks(image: &mut [u64], r: Repair, left: &mut u64)
 // Makes the stores of a repair.
 pub fn store_all(image: &mut [u64], r: Repair, own: usize, left: &mut u64)
     requires { ⌜ own ≤ 64 ⌝ }
-    ensures image { λ _. ⌜ now (image .exit) ≡ putAll own (now (left .entry)) (now (image .entry)) (slots r 0 592) ⌝ }
-    ensures left { λ _. ⌜ now (left .exit) ≡ now (left .entry) - length (slots r 0 592) ⌝ }
+    ensures image { λ _. ⌜ now (image .exit) ≡ putAll own (now (left .entry)) (now (image .entry)) (rows (slotAt r) 0 592) ⌝ }
+    ensures left { λ _. ⌜ now (left .exit) ≡ now (left .entry) - length (rows (slotAt r) 0 592) ⌝ }
 {
     store_locks(image, r.freed, 0, left);
     store_intents(image, r, own, left);

@@ -11,8 +11,8 @@ use lib.ListN.{length}
 use Rattle.base.proofs.Counting.{left-all}
 use Rattle.image.specs.Image.{at, workers}
 use Rattle.recovery.specs.Recover.{byRecord}
-use Rattle.recovery.specs.Recovery.{unsound}
-use Rattle.recovery.specs.Repair.{eight, owedAt}
+use Rattle.recovery.specs.Recovery.{eight, unsound}
+use Rattle.recovery.specs.Repair.{owedAt}
 use Rattle.recovery.proofs.Records.{unsound-on, unsound-here, unsound-none}
 use Rattle.recovery.proofs.Sets.{owed-next}
 use Rattle.recovery.proofs.soundness.records.Statement.{statement}

@@ -8,8 +8,8 @@ use lib.ListN.{length, getD, length-set}
 use Rattle.base.proofs.Filling.{filled-next}
 use Rattle.image.specs.Image.{at, workers}
 use Rattle.engine.specs.Cursor.{stepNo, turnNo}
-use Rattle.recovery.specs.Recovery.{resumedAt}
-use Rattle.recovery.proofs.Sets.{eight-is, resumed-eight}
+use Rattle.recovery.specs.Recovery.{resumedAt, resumedAll}
+use Rattle.recovery.proofs.Sets.{eight-is}
 use Rattle.recovery.proofs.stock.resumed_all.Statement.{statement}
 use Rattle.recovery.proofs.stock.resumed_all.Tie as tie
 
@@ -58,13 +58,13 @@ loop-again c =
     )
 
 returns : tie.Need-returns Inv-loop μ-loop
+unfolding resumedAll
 returns c =
     let A = c .before .before .before .args in
     let L = c .before .loop in
     let rd = at (A .own) (now (A .image)) in
     let D = workers (now (A .image)) in
     rw (
-      resumed-eight (A .own) rd D,
       ← eight-is (L .step) (λ d. stepNo (resumedAt (A .own) rd D d)) (L .d) (L .inv .1) (c .loop-test .left) (L .inv .3),
       ← eight-is (L .turn) (λ d. turnNo (resumedAt (A .own) rd D d)) (L .d) (L .inv .2) (c .loop-test .left) (L .inv .4),
     )

@@ -7,15 +7,16 @@ use native.Mathlib.Omega.{arith}
 use lib.ListN.{length}
 use Rattle.image.proofs.Lists.{putAll-nil}
 use Rattle.image.specs.Image.{putAll}
-use Rattle.recovery.specs.Repair.{slots, slotOf, slotPut, slotLeft}
+use Rattle.recovery.specs.Recovery.{rows}
+use Rattle.recovery.specs.Repair.{slotAt, slotOf, slotPut, slotLeft}
 use Rattle.recovery.proofs.Slots.{slot-intent, slots-end, image-step, left-step-slot}
 use Rattle.recovery.proofs.storing.store_intents.Statement.{statement}
 use Rattle.recovery.proofs.storing.store_intents.Tie as tie
 
 abbrev Inv-loop : tie.InvT-loop
 Inv-loop image₀ r own left₀ d₀ image left d =
-    (d ≤ 8) × (length image ≡ length image₀) × (putAll own left image (slots r (64 + d) (8 - d)) ≡ putAll own left₀ image₀ (slots r 64 8))
-    × (left - length (slots r (64 + d) (8 - d)) ≡ left₀ - length (slots r 64 8))
+    (d ≤ 8) × (length image ≡ length image₀) × (putAll own left image (rows (slotAt r) (64 + d) (8 - d)) ≡ putAll own left₀ image₀ (rows (slotAt r) 64 8))
+    × (left - length (rows (slotAt r) (64 + d) (8 - d)) ≡ left₀ - length (rows (slotAt r) 64 8))
 
 abbrev μ-loop : tie.MeasureT-loop
 μ-loop image₀ r own left₀ d₀ image left d = 8 - d

@@ -6,15 +6,16 @@ use mathlib.Core.Path.{_≡_, refl, sym, _∙_}
 use native.Mathlib.Omega.{arith}
 use lib.ListN.{length}
 use Rattle.image.specs.Image.{putAll}
-use Rattle.recovery.specs.Repair.{lockStores}
+use Rattle.recovery.specs.Recovery.{rows}
+use Rattle.recovery.specs.Repair.{lockSlot}
 use Rattle.recovery.proofs.Lowest.{low-some, less-without, image-none, left-none, image-lock, left-lock}
 use Rattle.recovery.proofs.storing.store_locks.Statement.{statement}
 use Rattle.recovery.proofs.storing.store_locks.Tie as tie
 
 abbrev Inv-loop : tie.InvT-loop
 Inv-loop image₀ set value left k₀ rest₀ image k rest =
-    (rest < 2 ^ 64) × (length image ≡ length image₀) × ((n : ℕ) → putAll n k image (lockStores rest value 0 64) ≡ putAll n k₀ image₀ (lockStores set value 0 64))
-    × (k - length (lockStores rest value 0 64) ≡ k₀ - length (lockStores set value 0 64))
+    (rest < 2 ^ 64) × (length image ≡ length image₀) × ((n : ℕ) → putAll n k image (rows (lockSlot rest value) 0 64) ≡ putAll n k₀ image₀ (rows (lockSlot set value) 0 64))
+    × (k - length (rows (lockSlot rest value) 0 64) ≡ k₀ - length (rows (lockSlot set value) 0 64))
 
 abbrev μ-loop : tie.MeasureT-loop
 μ-loop image₀ set value left k₀ rest₀ image k rest = rest

@@ -7,15 +7,16 @@ use native.Mathlib.Omega.{arith}
 use lib.ListN.{length}
 use Rattle.image.proofs.Lists.{putAll-nil}
 use Rattle.image.specs.Image.{putAll}
-use Rattle.recovery.specs.Repair.{slots}
+use Rattle.recovery.specs.Recovery.{rows}
+use Rattle.recovery.specs.Repair.{slotAt}
 use Rattle.recovery.proofs.Slots.{relocks-end, image-relock, left-relock}
 use Rattle.recovery.proofs.storing.store_relocks.Statement.{statement}
 use Rattle.recovery.proofs.storing.store_relocks.Tie as tie
 
 abbrev Inv-loop : tie.InvT-loop
 Inv-loop image₀ left₀ r d₀ image left d =
-    (d ≤ 8) × (length image ≡ length image₀) × ((n : ℕ) → putAll n left image (slots r (80 + 64 * d) (512 - 64 * d)) ≡ putAll n left₀ image₀ (slots r 80 512))
-    × (left - length (slots r (80 + 64 * d) (512 - 64 * d)) ≡ left₀ - length (slots r 80 512))
+    (d ≤ 8) × (length image ≡ length image₀) × ((n : ℕ) → putAll n left image (rows (slotAt r) (80 + 64 * d) (512 - 64 * d)) ≡ putAll n left₀ image₀ (rows (slotAt r) 80 512))
+    × (left - length (rows (slotAt r) (80 + 64 * d) (512 - 64 * d)) ≡ left₀ - length (rows (slotAt r) 80 512))
 
 abbrev μ-loop : tie.MeasureT-loop
 μ-loop image₀ left₀ r d₀ image left d = 8 - d
