@@ -129,7 +129,7 @@ module _ (n : ℕ) (rd : Memory) (d : ℕ) where
   unfolding resumed
   private-idle z = rw z
 
-  private-on : eqb (rd (field Pc d)) 0 ≡ false → resumed n rd d ≡ on (namedStep n rd d) (targetTurn n rd d (opAt n rd d (namedStep n rd d)))
+  private-on : eqb (rd (field Pc d)) 0 ≡ false → resumed n rd d ≡ on (namedStep n rd d) (targetTurn (opAt n rd d (namedStep n rd d)))
   unfolding resumed namedOp
   private-on z = rw z
 

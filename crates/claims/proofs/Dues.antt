@@ -101,7 +101,7 @@ module _ (n : ℕ) (rd : Memory) (d : ℕ) (g : Given) (s locks : ℕ) (sec : Se
             let r : a < 512 + n = assign-range n (codeIn n rd d s) a e (sec .valid .ranges s (m .below)) o in
             to-own (rd (field (activeVal n rd d) d)) (a - 512) refl (omega arith) (rw p)
 
-  due-op : (x : Op) → opAt n rd d s ≡ x → Due n rd d s locks x → Stepped n rd d g locks 0 (opTurn n rd d s (targetTurn n rd d x) x)
+  due-op : (x : Op) → opAt n rd d s ≡ x → Due n rd d s locks x → Stepped n rd d g locks 0 (opTurn n rd d s (targetTurn x) x)
   due-op (Acquire a) o u = due-acquire a o u
   due-op (Release a) o u = due-release a o u
   due-op (Assign a e) o u = due-assign a e o u
@@ -109,7 +109,7 @@ module _ (n : ℕ) (rd : Memory) (d : ℕ) (g : Given) (s locks : ℕ) (sec : Se
   due-op Finish o u = absurd u
   due-op Unknown o u = absurd u
 
-  due-ready : (x : Op) → Due n rd d s locks x → targetTurn n rd d x < opTurns x
+  due-ready : (x : Op) → Due n rd d s locks x → targetTurn x < opTurns x
   due-ready (Acquire a) u = omega arith
   due-ready (Release a) u = omega arith
   due-ready (Assign a e) u = omega arith
@@ -117,10 +117,10 @@ module _ (n : ℕ) (rd : Memory) (d : ℕ) (g : Given) (s locks : ℕ) (sec : Se
   due-ready Finish u = absurd u
   due-ready Unknown u = absurd u
 
-  pub due-turn : Due n rd d s locks (opAt n rd d s) → Stepped n rd d g locks 0 (turnAt n rd d (on s (targetTurn n rd d (opAt n rd d s))))
+  pub due-turn : Due n rd d s locks (opAt n rd d s) → Stepped n rd d g locks 0 (turnAt n rd d (on s (targetTurn (opAt n rd d s))))
   due-turn u =
       let x = opAt n rd d s in
-      rw (turn-op n rd d s (targetTurn n rd d x) x (sec .valid) (m .below) refl (due-ready x u)) (due-op x refl u)
+      rw (turn-op n rd d s (targetTurn x) x (sec .valid) (m .below) refl (due-ready x u)) (due-op x refl u)
 
   -- ---- the lock and the intent of a release
 

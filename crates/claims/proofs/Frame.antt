@@ -179,7 +179,7 @@ phase-same n rd rd′ e g c locks j (fresh t l s h p o m) A =
     fresh t l (sectioned-same n rd rd′ e l A s) (entered-kept n rd rd′ e (keeps n rd rd′ e l A) (A .owns) (A .fields Number) g h) (A .fields Pc ∙ p) (A .fields Owned ∙ o)
     (subst (Nearing n rd′ e 0 t 0 l) (sym (op-kept n rd rd′ e (keeps n rd rd′ e l A) 0)) m′)
 phase-same n rd rd′ e g c locks j (due s l k m q) A =
-    subst (λ (x : Op). Phase n rd′ e g (on s (targetTurn n rd′ e x)) l 0) (op-kept n rd rd′ e (keeps n rd rd′ e l A) s)
+    subst (λ (x : Op). Phase n rd′ e g (on s (targetTurn x)) l 0) (op-kept n rd rd′ e (keeps n rd rd′ e l A) s)
     (due s l (sectioned-same n rd rd′ e l A k) (named-kept n rd rd′ e (keeps n rd rd′ e l A) s m) (subst (Due n rd′ e s l) (sym (op-kept n rd rd′ e (keeps n rd rd′ e l A) s)) (due-same n rd rd′ e l A s (opAt n rd e s) q)))
 phase-same n rd rd′ e g c locks j (unlocking s a l k m o w i q) A =
     unlocking s a l (sectioned-same n rd rd′ e l A k) (named-kept n rd rd′ e (keeps n rd rd′ e l A) s m) (op-kept n rd rd′ e (keeps n rd rd′ e l A) s ∙ o) (A .fields Owned ∙ (w ∙ sym (held-kept n rd rd′ e (keeps n rd rd′ e l A) (suc s))))

@@ -110,7 +110,7 @@ module _ (n : ℕ) (rd : Memory) (d : ℕ) where
         (t locks : ℕ) → Sectioned → Entered g → rd (field Pc d) ≡ 0 → rd (field Owned d) ≡ 0 → Nearing 0 t 0 locks (opAt 0)
         → Phase g (on 0 t) locks 0
     -- the pc names step s, whose target store is next; also after recovery
-    due : (s locks : ℕ) → Sectioned → Named s → Due s locks (opAt s) → Phase g (on s (targetTurn n rd d (opAt s))) locks 0
+    due : (s locks : ℕ) → Sectioned → Named s → Due s locks (opAt s) → Phase g (on s (targetTurn (opAt s))) locks 0
     -- a release whose target store is made: its lock is next, and then its intent
     unlocking :
         (s a locks : ℕ) → Sectioned → Named s → opAt s ≡ Release a → rd (field Owned d) ≡ heldAt (suc s)

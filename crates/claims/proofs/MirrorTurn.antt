@@ -114,7 +114,7 @@ module _ (n D : ℕ) (rd : Memory) (cursor : ℕ → Cursor) (locks jumps : ℕ 
       (λ e. fresh-counted n D rd cursor locks jumps given L d l S M sec H p o a x (rw (K .2, e) (has-with 0 a)) (K .4 (omega arith))))
 
   -- the target store
-  due-turn : (s : ℕ) → Busy n rd d (locks d) s → (x : Op) → opAt n rd d s ≡ x → Mirrored n D rd S 0 (given d) d (turnAt n rd d (on s (targetTurn n rd d x)))
+  due-turn : (s : ℕ) → Busy n rd d (locks d) s → (x : Op) → opAt n rd d s ≡ x → Mirrored n D rd S 0 (given d) d (turnAt n rd d (on s (targetTurn x)))
   due-turn s B x o = by x o
     where
       kept : (y : Op) → opAt n rd d s ≡ y → Mirrors n D (upd rd (targetOf d y) (rd (field (activeVal n rd d) d))) S
@@ -126,7 +126,7 @@ module _ (n D : ℕ) (rd : Memory) (cursor : ℕ → Cursor) (locks jumps : ℕ 
       logs : (y : Op) → opAt n rd d s ≡ y → logsHeld n rd d s y
       logs y p = subst (logsHeld n rd d s) p (B .named .logs)
 
-      by : (y : Op) → opAt n rd d s ≡ y → Mirrored n D rd S 0 (given d) d (turnAt n rd d (on s (targetTurn n rd d y)))
+      by : (y : Op) → opAt n rd d s ≡ y → Mirrored n D rd S 0 (given d) d (turnAt n rd d (on s (targetTurn y)))
       by (Acquire a) p = rw (turn-op n rd d s 5 (Acquire a) (B .sectioned .valid) (B .named .below) p (omega arith)) (kept (Acquire a) p)
       by (Release a) p = rw (turn-op n rd d s 3 (Release a) (B .sectioned .valid) (B .named .below) p (omega arith)) (kept (Release a) p)
       by (Assign a e) p =

@@ -66,7 +66,7 @@ module _ (n : ℕ) (rd : Memory) (d : ℕ) (g : Given) (k j locks : ℕ) (b : Be
   log-pc :
       (x : Op) → opAt n rd d k ≡ x → rd (field (spareAddr n rd d) d) ≡ indexOf n (targetOf d x)
       → logsHeld n (upd rd (field Pc d) (switched n rd d k)) d k x → Due n (upd rd (field Pc d) (switched n rd d k)) d k locks x
-      → Stepped n rd d g locks j (stored (field Pc d) (switched n rd d k) (on k (targetTurn n rd d x)))
+      → Stepped n rd d g locks j (stored (field Pc d) (switched n rd d k) (on k (targetTurn x)))
   log-pc x o a v u =
       let rd′ = upd rd (field Pc d) (switched n rd d k) in
       let s : Sectioned n rd′ d = record { valid = b .sectioned .valid; numbered = b .sectioned .numbered; unfinished = b .sectioned .unfinished } in
@@ -79,7 +79,7 @@ module _ (n : ℕ) (rd : Memory) (d : ℕ) (g : Given) (k j locks : ℕ) (b : Be
       }
       in
       let p = due k locks s m (subst (λ (y : Op). Due n rd′ d k locks y) (sym o) u) in
-      (locks, inRecord Pc (switched n rd d k), subst (λ (y : Op). Phase n rd′ d g (on k (targetTurn n rd d y)) locks 0) o p)
+      (locks, inRecord Pc (switched n rd d k), subst (λ (y : Op). Phase n rd′ d g (on k (targetTurn y)) locks 0) o p)
 
   -- ---- an acquire
 

@@ -210,7 +210,7 @@ module _ (n : ℕ) (rd : Memory) (d : ℕ) (g : Given) where
   unfolding turnAt
   pends-turn c locks j (rests k p i o) = tt
   pends-turn c locks j (fresh t l sec H p o N) = fresh-pends t l sec p N
-  pends-turn c locks j (due s l sec N K) = named-pends s (on s (targetTurn n rd d (opAt n rd d s))) sec (N .pc)
+  pends-turn c locks j (due s l sec N K) = named-pends s (on s (targetTurn (opAt n rd d s))) sec (N .pc)
   pends-turn c locks j (unlocking s a l sec N o x y q) = named-pends s (on s 4) sec (N .pc)
   pends-turn c locks j (unlocked s a l sec N o x y q) = named-pends s (on s 5) sec (N .pc)
   pends-turn c locks j (between s k t l i sec N made J below o h K) = named-pends s (on k t) sec (N .pc)

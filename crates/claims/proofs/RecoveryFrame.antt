@@ -11,7 +11,7 @@ use Rattle.section.specs.Check.{heldBefore}
 use Rattle.section.proofs.Facts.{check-cong}
 use Rattle.section.proofs.Held.{held-cong}
 use Rattle.engine.specs.Turn.{codeIn, activeAddr, activeVal}
-use Rattle.recovery.specs.Recovery.{owed, namedStep, namedOp, sectionOk, entryOk, pcOk, targetTurn, resumed}
+use Rattle.recovery.specs.Recovery.{owed, namedStep, namedOp, sectionOk, entryOk, pcOk, resumed}
 use Rattle.claims.proofs.Fields.{active-addr-kept, active-val-kept}
 use Rattle.claims.proofs.Entries.{named-cong}
 
@@ -58,15 +58,7 @@ module _ (n : ℕ) (rd rd′ : Memory) (d : ℕ) (f : Framed n rd rd′ d) where
   section-frame c k g =
       rw (c, k, g, f .pc, check-cong n (rd (field Count d)) (codeIn n rd′ d) (codeIn n rd d) (λ j l. f .code j))
 
-  private-turn : (x : Op) → targetTurn n rd′ d x ≡ targetTurn n rd d x
-  private-turn (Acquire a) = refl
-  private-turn (Release a) = refl
-  private-turn (Assign a e) = refl
-  private-turn (Jump a b) = refl
-  private-turn Finish = refl
-  private-turn Unknown = refl
-
   -- where it goes on
   pub resumed-frame : resumed n rd′ d ≡ resumed n rd d
   unfolding resumed
-  resumed-frame = rw (f .pc, named-cong n rd rd′ d (f .pc), frame-op, private-turn (namedOp n rd d))
+  resumed-frame = rw (f .pc, named-cong n rd rd′ d (f .pc), frame-op)

@@ -44,7 +44,7 @@ module _ (n : ℕ) (rd : Memory) (D : ℕ) where
   unfolding resumedAll
   resumed-full = record { steps = refl; turns = refl }
 
-  private-target : (d : ℕ) (x : Op) → sayable (on (namedStep n rd d) (targetTurn n rd d x))
+  private-target : (d : ℕ) (x : Op) → sayable (on (namedStep n rd d) (targetTurn x))
   private-target d (Acquire a) = λ e. omega arith
   private-target d (Release a) = λ e. omega arith
   private-target d (Assign a x) = λ e. omega arith
@@ -56,7 +56,7 @@ module _ (n : ℕ) (rd : Memory) (D : ℕ) where
   unfolding resumed
   private-sayable d = by (eqb (rd (field Pc d)) 0)
     where
-      by : (t : Bool) → sayable (cond t idle (on (namedStep n rd d) (targetTurn n rd d (namedOp n rd d))))
+      by : (t : Bool) → sayable (cond t idle (on (namedStep n rd d) (targetTurn (namedOp n rd d))))
       by true = tt
       by false = private-target d (namedOp n rd d)
 

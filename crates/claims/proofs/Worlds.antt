@@ -79,18 +79,18 @@ nearing-early n rd d s t h locks (Jump a b) m = let l = m .0 in omega arith
 nearing-early n rd d s t h locks Finish m = let l = m .0 in omega arith
 nearing-early n rd d s t h locks Unknown z = absurd z
 
-target-early : (n : ℕ) (rd : Memory) (d : ℕ) (x : Op) → targetTurn n rd d x ≤ 5
-target-early n rd d (Acquire a) = omega arith
-target-early n rd d (Release a) = omega arith
-target-early n rd d (Assign a e) = omega arith
-target-early n rd d (Jump a b) = omega arith
-target-early n rd d Finish = omega arith
-target-early n rd d Unknown = omega arith
+target-early : (x : Op) → targetTurn x ≤ 5
+target-early (Acquire a) = omega arith
+target-early (Release a) = omega arith
+target-early (Assign a e) = omega arith
+target-early (Jump a b) = omega arith
+target-early Finish = omega arith
+target-early Unknown = omega arith
 
 pub phase-sayable : (n : ℕ) (rd : Memory) (d : ℕ) (g : Given) (c : Cursor) (locks j : ℕ) → Phase n rd d g c locks j → sayable c
 phase-sayable n rd d g c locks j (resting k p i o) = tt
 phase-sayable n rd d g c locks j (fresh t l s h p o m) = let e = nearing-early n rd d 0 t 0 l (opAt n rd d 0) m in λ q. omega arith
-phase-sayable n rd d g c locks j (due s l k m q) = let e = target-early n rd d (opAt n rd d s) in λ r. omega arith
+phase-sayable n rd d g c locks j (due s l k m q) = let e = target-early (opAt n rd d s) in λ r. omega arith
 phase-sayable n rd d g c locks j (unlocking s a l k m o w i q) = λ r. omega arith
 phase-sayable n rd d g c locks j (unlocked s a l k m o w i q) = λ r. omega arith
 phase-sayable n rd d g c locks j (between s k t l jj q m f u z o h y) = let e = nearing-early n rd d k t (heldAt n rd d k) l (opAt n rd d k) y in λ r. omega arith

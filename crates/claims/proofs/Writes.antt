@@ -199,7 +199,7 @@ module _ (n : ℕ) (rd : Memory) (d : ℕ) (g : Given) where
 
   due-says :
       (s locks : ℕ) → Sectioned n rd d → Named n rd d s → (x : Op) → opAt n rd d s ≡ x → Due n rd d s locks x
-      → Says (turnAt n rd d (on s (targetTurn n rd d x)))
+      → Says (turnAt n rd d (on s (targetTurn x)))
   due-says s locks sec m (Acquire a) o u = rw (turn-op n rd d s 5 (Acquire a) (sec .valid) (m .below) o (omega arith)) (refl, tt)
   due-says s locks sec m (Release a) o u = rw (turn-op n rd d s 3 (Release a) (sec .valid) (m .below) o (omega arith)) (refl, tt)
   due-says s locks sec m (Assign a e) o u =

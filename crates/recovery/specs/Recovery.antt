@@ -46,6 +46,15 @@ targetOf d (Jump a b) = field Owned d
 targetOf d Finish = field Owned d
 targetOf d Unknown = field Owned d
 
+-- the turn of that store
+abbrev pub targetTurn : Op → ℕ
+targetTurn (Acquire a) = 5
+targetTurn (Release a) = 3
+targetTurn (Assign a e) = 3
+targetTurn (Jump a b) = 0
+targetTurn Finish = 0
+targetTurn Unknown = 0
+
 -- worker d has a section that is not begun
 abbrev pub unbegun : Memory → ℕ → Bool
 unbegun rd d = eqb (rd (field Pc d)) 0 && not (eqb (rd (field Count d)) 0)
@@ -112,15 +121,6 @@ module _ (n : ℕ) (rd : Memory) where
     -- the record is sound (else cause 12)
     unfoldable pub sound : Bool
     sound = sectionOk && pcOk && covers (rd (field Intent d)) owed 64
-
-    -- the turn of the target store
-    abbrev pub targetTurn : Op → ℕ
-    targetTurn (Acquire a) = 5
-    targetTurn (Release a) = 3
-    targetTurn (Assign a e) = 3
-    targetTurn (Jump a b) = 0
-    targetTurn Finish = 0
-    targetTurn Unknown = 0
 
     -- where worker d goes on
     unfoldable pub resumed : Cursor

@@ -3,8 +3,6 @@ use image::Field;
 use section::Op;
 use section::decode::op_of;
 ghost use mathlib.Core.Path.{_≡_};
-ghost use Prim.Native.Nat.{ℕ};
-ghost use Rattle.image.specs.Place.{Memory};
 ghost use Rattle.image.specs.Image.{at, Inside};
 ghost use Rattle.engine.specs.Cursor.{stepNo, turnNo};
 ghost use Rattle.recovery.specs.Recovery.{owedOf, targetTurn, resumed};
@@ -38,7 +36,7 @@ pub fn resumed_step(image: &[u64], d: usize, own: usize) -> u8
 
 // The turn of an instruction's target store.
 fn target_turn(x: Op) -> u8
-    ensures { λ r. ⌜ ((n : ℕ) (rd : Memory) (d : ℕ) → r ≡ targetTurn n rd d x) ⌝ }
+    ensures { λ r. ⌜ r ≡ targetTurn x ⌝ }
 {
     match x {
         Op::Acquire(_) => 5,

@@ -38,14 +38,13 @@ returns-2 : tie.Need-returns-2
 unfolding namedStep namedOp resumed
 returns-2 c =
     let f = c .before .before .before .before in
-    let A = f .before .before .args in
     rw (
       ← f .read-field .ensures,
       ne-eqb (f .read-field .result) 0 (c .before .before .before .if1 .left),
       ← c .before .before .read-step .ensures,
       ← c .before .op-of .ensures,
     )
-    (c .target-turn .ensures (A .own) (at (A .own) (now (A .image))) (A .d))
+    (c .target-turn .ensures)
 
 pub resumed-turn-spec : {M : Type 1} → statement M
 resumed-turn-spec =
