@@ -18,11 +18,12 @@ use Rattle.image.specs.declared.Field.{Field}
 use Rattle.image.specs.declared.Field.the-variants.{Count, Pc, Intent}
 use Rattle.image.specs.Place.{Place, lock, field, same, Memory, updAll}
 use Rattle.image.proofs.Lists.{allValid}
-use Rattle.recovery.specs.Recovery.{_≔_, rows, owed, intended, intend, withdraw, relock, relocks, unlock, plan, resumed}
+use Rattle.recovery.specs.Recovery.{_≔_, rows, unbegun, owed, intended, intend, withdraw, relock, relocks, unlock, plan, resumed}
 use Rattle.claims.specs.Reference.{Given}
 use Rattle.claims.proofs.Invariant.{Phase, Live, Crashed}
 use Rattle.claims.proofs.Covers.{Parts, crashed-parts}
-use Rattle.claims.proofs.StoreRows.{updAll-append, Leaves, Sets, Writes, leaves-one, leaves-cond, leaves-rows, sets-rows, sets-one, sets-cond, writes-rows, writes-cond, valid-append, valid-cond, valid-rows}
+use Rattle.claims.proofs.StoreRows.{updAll-append, Leaves, Sets, Writes, leaves-one, leaves-cond, leaves-rows}
+use Rattle.claims.proofs.StoreRows.{sets-rows, sets-one, sets-cond, writes-rows, writes-cond, valid-append, valid-cond, valid-rows}
 use Rattle.claims.proofs.RecoveryFrame.{owed-frame, resumed-frame}
 use Rattle.claims.proofs.Stages.{Kept, kept-framed, kept-parts, unlocked-free, plan-kept}
 use Rattle.claims.proofs.Accepted.{settled-phase}
@@ -40,11 +41,12 @@ module _ (n : ℕ) (rd : Memory) (D : ℕ) where
   intents-leave-lock b = leaves-rows (lock b) (intend n rd) 0 D (λ e. leaves-one (lock b) (field Intent e ≔ owed n rd e) refl)
 
   withdraws-leave : (q : Place) → ((e : ℕ) → same q (field Count e) ≡ false) → Leaves q (rows (withdraw n rd) 0 D)
-  withdraws-leave q h = leaves-rows q (withdraw n rd) 0 D (λ e. leaves-cond q (eqb (rd (field Pc e)) 0 && not (eqb (rd (field Count e)) 0)) (field Count e ≔ 0) (h e))
+  withdraws-leave q h = leaves-rows q (withdraw n rd) 0 D (λ e. leaves-cond q (unbegun rd e) (field Count e ≔ 0) (h e))
 
   relocks-leave : (f : Field) (d : ℕ) → Leaves (field f d) (rows (relocks n rd) 0 D)
   relocks-leave f d =
-      leaves-rows (field f d) (relocks n rd) 0 D (λ e. leaves-rows (field f d) (relock n rd e) 0 64 (λ b. leaves-cond (field f d) (has (owed n rd e) b) (lock b ≔ e + 1) refl))
+      leaves-rows (field f d) (relocks n rd) 0 D
+      (λ e. leaves-rows (field f d) (relock n rd e) 0 64 (λ b. leaves-cond (field f d) (has (owed n rd e) b) (lock b ≔ e + 1) refl))
 
   -- ---- what they write
 
@@ -55,10 +57,11 @@ module _ (n : ℕ) (rd : Memory) (D : ℕ) where
       d (omega arith) (omega arith) (writes-cond true (field Intent d ≔ owed n rd d) refl)
 
   private-zero : (d e : ℕ) → Sets (field Count d) 0 (withdraw n rd e)
-  private-zero d e = sets-cond (field Count d) 0 (eqb (rd (field Pc e)) 0 && not (eqb (rd (field Count e)) 0)) (field Count e ≔ 0) (λ t s. refl)
+  private-zero d e = sets-cond (field Count d) 0 (unbegun rd e) (field Count e ≔ 0) (λ t s. refl)
 
   -- a count that is 0 stays 0, another is set to 0 where the pc is 0
-  withdraws-zero : (rd′ : Memory) (d : ℕ) → d < D → rd (field Pc d) ≡ 0 → rd′ (field Count d) ≡ rd (field Count d) → updAll rd′ (rows (withdraw n rd) 0 D) (field Count d) ≡ 0
+  withdraws-zero : (rd′ : Memory) (d : ℕ) → d < D → rd (field Pc d) ≡ 0 → rd′ (field Count d) ≡ rd (field Count d)
+      → updAll rd′ (rows (withdraw n rd) 0 D) (field Count d) ≡ 0
   withdraws-zero rd′ d l z c = by (eqb (rd (field Count d)) 0) refl
     where
       by : (t : Bool) → eqb (rd (field Count d)) 0 ≡ t → updAll rd′ (rows (withdraw n rd) 0 D) (field Count d) ≡ 0
@@ -66,7 +69,7 @@ module _ (n : ℕ) (rd : Memory) (D : ℕ) where
       by false e =
           let t : (eqb (rd (field Pc d)) 0 && not (eqb (rd (field Count d)) 0)) ≡ true = rw (z, e) in
           writes-rows (field Count d) 0 (withdraw n rd) 0 D (λ j g h. private-zero d j) d (omega arith) (omega arith)
-          (writes-cond (eqb (rd (field Pc d)) 0 && not (eqb (rd (field Count d)) 0)) (field Count d ≔ 0) t) rd′
+          (writes-cond (unbegun rd d) (field Count d ≔ 0) t) rd′
 
   -- the stores of worker e to lock b
   private-relock : (b v e : ℕ) → (has (owed n rd e) b ≡ true → e + 1 ≡ v) → Sets (lock b) v (rows (relock n rd e) 0 64)
@@ -92,7 +95,8 @@ module _ (n : ℕ) (rd : Memory) (D : ℕ) where
   abbrev pub after : Memory
   after = updAll rd (plan n rd D)
 
-  private-after : after ≡ updAll (updAll (updAll (updAll rd (rows (unlock n rd D) 0 64)) (rows (intend n rd) 0 D)) (rows (withdraw n rd) 0 D)) (rows (relocks n rd) 0 D)
+  private-after :
+      after ≡ updAll (updAll (updAll (updAll rd (rows (unlock n rd D) 0 64)) (rows (intend n rd) 0 D)) (rows (withdraw n rd) 0 D)) (rows (relocks n rd) 0 D)
   unfolding plan
   private-after =
       updAll-append rd (rows (unlock n rd D) 0 64) _ ∙ (updAll-append (updAll rd (rows (unlock n rd D) 0 64)) (rows (intend n rd) 0 D) _
@@ -177,7 +181,7 @@ module _ (n : ℕ) (rd : Memory) (D : ℕ) where
       let rs = rows (relocks n rd) 0 D in
       let u = valid-rows D n (unlock n rd D) 0 64 (λ b l m. valid-cond D n (intended n rd D b) (lock b ≔ 0) (lt-ltb b 64 (omega arith))) in
       let i = valid-rows D n (intend n rd) 0 D (λ d l m. valid-cond D n true (field Intent d ≔ owed n rd d) (lt-ltb d D (omega arith))) in
-      let w = valid-rows D n (withdraw n rd) 0 D (λ d l m. valid-cond D n (eqb (rd (field Pc d)) 0 && not (eqb (rd (field Count d)) 0)) (field Count d ≔ 0) (lt-ltb d D (omega arith))) in
+      let w = valid-rows D n (withdraw n rd) 0 D (λ d l m. valid-cond D n (unbegun rd d) (field Count d ≔ 0) (lt-ltb d D (omega arith))) in
       let r =
       valid-rows D n (relocks n rd) 0 D
       (λ e l m. valid-rows D n (relock n rd e) 0 64 (λ b g h. valid-cond D n (has (owed n rd e) b) (lock b ≔ e + 1) (lt-ltb b 64 (omega arith))))

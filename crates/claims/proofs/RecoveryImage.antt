@@ -3,7 +3,7 @@
 -- (`recovery-whole`). A plan has at most 592 stores.
 use Prim.Native.Nat.{ℕ, suc, zero, _+_, _*_, _<_, _≤_}
 use mathlib.Core.Path.{_≡_, refl, fun-ext, sym}
-use mathlib.Core.Bool.{Bool, true, false, cond, _&&_, not}
+use mathlib.Core.Bool.{Bool, true, false, cond}
 use mathlib.Core.List.{List, [], _∷_, _++_}
 use native.Mathlib.Omega.{arith}
 use native.Mathlib.Nat.{suc-mul}
@@ -12,7 +12,7 @@ use lib.Seq.{take-all}
 use lib.Dec.{eqb}
 use borrow.Author.Tests.{lt-ltb, ne-eqb}
 use Rattle.mask.specs.Mask.{has}
-use Rattle.image.specs.declared.Field.the-variants.{Count, Pc}
+use Rattle.image.specs.declared.Field.the-variants.{Pc}
 use Rattle.image.specs.Place.{field, Memory, Store, updAll}
 use Rattle.image.specs.Image.{Image, at, workers, headerOk, putAll}
 use Rattle.image.proofs.Header.{header-sized, header-workers}
@@ -21,7 +21,8 @@ use Rattle.section.specs.declared.Op.{Op}
 use Rattle.section.specs.declared.Op.the-variants.{Acquire, Release, Assign, Jump, Finish, Unknown}
 use Rattle.engine.specs.Cursor.{Cursor, idle, on, stepNo, turnNo, cursorAt}
 use Rattle.engine.proofs.Placed.{Full, sayable}
-use Rattle.recovery.specs.Recovery.{rows, owed, intended, intend, withdraw, relock, relocks, unlock, plan, namedStep, namedOp, targetTurn, resumed, resumedAt, resumedAll}
+use Rattle.recovery.specs.Recovery.{rows, unbegun, owed, intended, intend, withdraw, relock, relocks, unlock, plan}
+use Rattle.recovery.specs.Recovery.{namedStep, namedOp, targetTurn, resumed, resumedAt, resumedAll}
 use Rattle.recovery.proofs.Sets.{eight-at}
 use Rattle.claims.specs.Reference.{Given}
 use Rattle.claims.proofs.Invariant.{Live, Crashed}
@@ -94,8 +95,9 @@ module _ (n : ℕ) (rd : Memory) (D : ℕ) where
       let rs = rows (relocks n rd) 0 D in
       let u : length us ≤ 64 * 1 = rows-length (unlock n rd D) 0 64 1 (λ b. cond-length (intended n rd D b) _) in
       let i : length is ≤ D * 1 = rows-length (intend n rd) 0 D 1 (λ d. omega arith) in
-      let w : length ws ≤ D * 1 = rows-length (withdraw n rd) 0 D 1 (λ d. cond-length (eqb (rd (field Pc d)) 0 && not (eqb (rd (field Count d)) 0)) _) in
-      let r : length rs ≤ D * 64 = rows-length (relocks n rd) 0 D 64 (λ e. let q : length (rows (relock n rd e) 0 64) ≤ 64 * 1 = rows-length (relock n rd e) 0 64 1 (λ b. cond-length (has (owed n rd e) b) _) in omega arith) in
+      let w : length ws ≤ D * 1 = rows-length (withdraw n rd) 0 D 1 (λ d. cond-length (unbegun rd d) _) in
+      let q : (e : ℕ) → length (relocks n rd e) ≤ 64 * 1 = λ e. rows-length (relock n rd e) 0 64 1 (λ b. cond-length (has (owed n rd e) b) _) in
+      let r : length rs ≤ D * 64 = rows-length (relocks n rd) 0 D 64 (λ e. omega (arith, q e)) in
       rw (length-append us (is ++ (ws ++ rs)), length-append is (ws ++ rs), length-append ws rs) (omega arith)
 
 -- ---- the image

@@ -4,7 +4,7 @@
 -- every stage keeps it; the second stage's stores do since all locks are free after the first (`unlocked-free`).
 use Prim.Native.Nat.{ℕ, suc, zero, _+_, _<_}
 use mathlib.Core.Path.{_≡_, refl, ap, sym, _∙_}
-use mathlib.Core.Bool.{Bool, true, false, cond, _&&_, _||_, not}
+use mathlib.Core.Bool.{Bool, true, false, cond, _||_, not}
 use mathlib.Core.List.{_++_}
 use mathlib.Core.Logic.{_⊎_, inl, inr}
 use native.Mathlib.Omega.{arith}
@@ -17,11 +17,12 @@ use Rattle.mask.specs.Mask.{has}
 use Rattle.image.specs.declared.Field.the-variants.{Count, Pc, Addr0, Val0, Addr1, Val1, Intent, Owned, Number, Finished}
 use Rattle.image.specs.Place.{Place, cell, lock, field, own, step, sameField, Memory, upd, updAll}
 use Rattle.engine.specs.Turn.{second, activeAddr, activeVal}
-use Rattle.recovery.specs.Recovery.{_≔_, rows, owed, sectionOk, pcOk, intended, intend, withdraw, relock, relocks, unlock, plan}
+use Rattle.recovery.specs.Recovery.{_≔_, rows, unbegun, owed, sectionOk, pcOk, intended, intend, withdraw, relock, relocks, unlock, plan}
 use Rattle.claims.proofs.Invariant.{Crashed}
 use Rattle.claims.proofs.Covers.{Names, Covered, Parts, crashed-parts, parts-crashed}
 use Rattle.claims.proofs.LiveCrashed.{section-none, covered-same}
-use Rattle.claims.proofs.StoreRows.{Keeps, keeps-one, keeps-cond, keeps-rows, keeps-append, keeps-whole, prefix-append, sets-rows, sets-cond, writes-rows, writes-cond, Sets}
+use Rattle.claims.proofs.StoreRows.{Keeps, keeps-one, keeps-cond, keeps-rows, keeps-append, keeps-whole, prefix-append}
+use Rattle.claims.proofs.StoreRows.{Sets, sets-rows, sets-cond, writes-rows, writes-cond}
 use Rattle.claims.proofs.RecoveryFrame.{Framed, owed-frame, pc-frame, section-frame}
 use Rattle.claims.proofs.Entries.{apart-of}
 
@@ -182,13 +183,15 @@ module _ (n D : ℕ) (rd : Memory) where
       by (suc d) e =
           let o = p .names b u d (omega arith) in
           let i = private-intended b D d (o .0) (o .1) in
-          writes-rows (lock b) 0 (unlock n rd D) 0 64 (λ j l m. private-zero b j) b (omega arith) (omega arith) (writes-cond (intended n rd D b) (lock b ≔ 0) i) rd
+          writes-rows (lock b) 0 (unlock n rd D) 0 64 (λ j l m. private-zero b j) b (omega arith) (omega arith)
+          (writes-cond (intended n rd D b) (lock b ≔ 0) i) rd
 
   -- ---- the stages
 
   unlocks-keep : Keeps Kept (rows (unlock n rd D) 0 64)
   unlocks-keep =
-      keeps-rows Kept (unlock n rd D) 0 64 (λ b l m. keeps-cond Kept (intended n rd D b) (lock b ≔ 0) (λ t rd′ k. kept-lock b 0 rd′ (λ d e. absurd (omega arith)) k))
+      keeps-rows Kept (unlock n rd D) 0 64
+      (λ b l m. keeps-cond Kept (intended n rd D b) (lock b ≔ 0) (λ t rd′ k. kept-lock b 0 rd′ (λ d e. absurd (omega arith)) k))
 
   abbrev KeptFree : Memory → Type 0
   KeptFree rd′ = Kept rd′ × Free rd′
@@ -201,7 +204,7 @@ module _ (n D : ℕ) (rd : Memory) where
   withdraws-keep =
       keeps-rows Kept (withdraw n rd) 0 D
       (λ d l m.
-      keeps-cond Kept (eqb (rd (field Pc d)) 0 && not (eqb (rd (field Count d)) 0)) (field Count d ≔ 0)
+      keeps-cond Kept (unbegun rd d) (field Count d ≔ 0)
       (λ t rd′ k. kept-count d rd′ (eqb-true _ _ (and-left (eqb (rd (field Pc d)) 0) (not (eqb (rd (field Count d)) 0)) t)) k))
 
   private-relock : Parts n D rd → (d : ℕ) → d < D → (b : ℕ) → b < 64 → Keeps Kept (relock n rd d b)

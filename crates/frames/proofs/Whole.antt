@@ -57,7 +57,8 @@ private-then (refused r) more m c d h = absurd h
 pub turns-still : (k : ℕ) (m : Image) (c : Cursors) (d : ℕ) → Still (outcome mark ownWords (uncut m c) d) → turnsLine k m c d ≡ told [] m c
 unfolding turnsLine
 turns-still zero m c d h = refl
-turns-still (suc k) m c d h = private-then (outcome mark ownWords (uncut m c) d) (λ m′ c′. turnsLine k m′ c′ d) m c d h ∙ ap (onto Nothing) (turns-still k m c d h)
+turns-still (suc k) m c d h =
+    private-then (outcome mark ownWords (uncut m c) d) (λ m′ c′. turnsLine k m′ c′ d) m c d h ∙ ap (onto Nothing) (turns-still k m c d h)
 
 private-turn : (o : Outcome) (f k : ℕ) (m : Image) (c : Cursors) (d : ℕ) (r : Repair)
     → ((m′ : Image) (c′ : Cursors) (x : Printed) → pieces f (day m′ (played c′ x (TurnsLeft d k) r)) ≡ turnsLine k m′ c′ d)

@@ -15,7 +15,8 @@ use Rattle.engine.specs.declared.Cursors.{Cursors}
 use Rattle.engine.specs.Cursor.{allIdle}
 use Rattle.recovery.specs.declared.Refusal.the-variants.{Image as ImageRefused}
 use Rattle.recovery.specs.declared.Answer.the-variants.{Refused}
-use Rattle.recovery.specs.Recovery.{rows, unsound, badLock, plan, resumedAll, Recovered, accepted, misshapen, unsoundRecord, wrongLock, byLocks, byRecords, recovery}
+use Rattle.recovery.specs.Recovery.{rows, unsound, badLock, plan, resumedAll, byLocks, byRecords, recovery}
+use Rattle.recovery.specs.Recovery.{Recovered, accepted, misshapen, unsoundRecord, wrongLock}
 use Rattle.recovery.specs.Repair.{Restorable, noRepair, slotAt}
 use Rattle.recovery.specs.Recover.{isDone, byRecord, byLock, answerOf, cursorsOf, repairBy, storesOf, recoveryLeaves, recoveryLeft}
 use Rattle.recovery.proofs.Records.{restorable}

@@ -98,7 +98,8 @@ module _ (s : ℕ) (w : s < 2 ^ 64) (h : s ≡ 0 → ⊥) where
 
   -- ---- one store of the loop
 
-  pub image-lock : (v n left : ℕ) (m : Image) → putAll n (left - 1) (put left m (indexOf n (lock Low)) v) (rows (lockSlot (without s Low) v) 0 64) ≡ putAll n left m (rows (lockSlot s v) 0 64)
+  pub image-lock : (v n left : ℕ) (m : Image)
+      → putAll n (left - 1) (put left m (indexOf n (lock Low)) v) (rows (lockSlot (without s Low) v) 0 64) ≡ putAll n left m (rows (lockSlot s v) 0 64)
   image-lock v n left m = rw (locks-next v) (sym (putAll-cons n left m (lock Low ≔ v) (rows (lockSlot (without s Low) v) 0 64)))
 
   pub left-lock : (v left : ℕ) → left - 1 - length (rows (lockSlot (without s Low) v) 0 64) ≡ left - length (rows (lockSlot s v) 0 64)

@@ -41,7 +41,8 @@ module _ (n : ℕ) (rd : Memory) (d : ℕ) where
   section-passes e h =
       let k = rd (field Count d) in
       let t = private-not (eqb k 0) _ _ e (ne-eqb k 0 h) in
-      passed-is (check n k (codeIn n rd d)) (and-left _ _ (and-left (passes (check n k (codeIn n rd d)) && leb 1 (rd (field Number d))) (leb (rd (field Finished d)) (rd (field Number d))) t))
+      let numbered = leb (rd (field Finished d)) (rd (field Number d)) in
+      passed-is (check n k (codeIn n rd d)) (and-left _ _ (and-left (passes (check n k (codeIn n rd d)) && leb 1 (rd (field Number d))) numbered t))
 
   -- so it has at most 64 steps, each in its ranges
   pub section-reads : sectionOk n rd d ≡ true → (s : ℕ) → s < rd (field Count d)
@@ -59,7 +60,8 @@ module _ (n : ℕ) (rd : Memory) (d : ℕ) where
   pub legible : sectionOk n rd d ≡ true → pcOk n rd d ≡ true → Legible n rd d
   unfolding pcOk
   legible s p = λ h.
-      let t = private-named (leb 1 (rd (field Pc d) % 2 ^ 63)) (ltb (namedStep n rd d) (rd (field Count d))) _ _ (private-not (eqb (rd (field Pc d)) 0) _ _ p (ne-eqb _ 0 h)) in
+      let q = private-not (eqb (rd (field Pc d)) 0) _ _ p (ne-eqb _ 0 h) in
+      let t = private-named (leb 1 (rd (field Pc d) % 2 ^ 63)) (ltb (namedStep n rd d) (rd (field Count d))) _ _ q in
       let l = ltb-true (namedStep n rd d) (rd (field Count d)) (t .1) in
       let r = section-reads s (namedStep n rd d) l in
       record { some = leb-true 1 _ (t .0); named = l; most = r .0; ranges = r .1 }
@@ -154,9 +156,16 @@ module _ (n : ℕ) (rd : Memory) (D : ℕ) where
       let f = private-found (sound n rd d) d (unsound n rd D (d + 1) k) e in
       private-rest d j (f .0) a (λ l. all-sound k (d + 1) (f .1) j l (omega arith))
 
-pub restorable : (n : ℕ) (m : Image) → n ≤ 64 → workers m ≤ 8 → length m ≡ lengthOf n (workers m) → unsound n (at n m) (workers m) 0 (workers m) ≡ [] → Restorable n m
+pub restorable : (n : ℕ) (m : Image) → n ≤ 64 → workers m ≤ 8 → length m ≡ lengthOf n (workers m)
+    → unsound n (at n m) (workers m) 0 (workers m) ≡ [] → Restorable n m
 restorable n m few most whole e =
-    record { few = few; most = most; whole = whole; legible = λ d h. sound-legible n (at n m) d (all-sound n (at n m) (workers m) (workers m) 0 e d (omega arith) (omega arith)) }
+    let D = workers m in
+    record {
+      few = few;
+      most = most;
+      whole = whole;
+      legible = λ d h. sound-legible n (at n m) d (all-sound n (at n m) D D 0 e d (omega arith) (omega arith));
+    }
 
 pub inside : (n : ℕ) (m : Image) (d : ℕ) → Restorable n m → d < workers m → Inside n m d
 inside n m d r h = record { few = r .few; below = h; most = r .most; whole = r .whole }

@@ -30,7 +30,11 @@ module _ (f : ℕ → List Store) where
       let p : c + 0 ≡ c = omega arith in
       let q : e + 0 ≡ e = omega arith in
       let first : f c ≡ g e = rw (p, q) at (h 0 (omega arith)) in
-      rw (first, rows-same g k (c + 1) (e + 1) (λ i l. let a : c + 1 + i ≡ c + suc i = omega arith in let b : e + 1 + i ≡ e + suc i = omega arith in rw (a, b) (h (suc i) (omega arith))))
+      let next : (i : ℕ) → i < k → f (c + 1 + i) ≡ g (e + 1 + i) = λ i l.
+      let a : c + 1 + i ≡ c + suc i = omega arith in
+      let b : e + 1 + i ≡ e + suc i = omega arith in
+      rw (a, b) (h (suc i) (omega arith)) in
+      rw (first, rows-same g k (c + 1) (e + 1) next)
 
   pub rows-none : (k c : ℕ) → ((i : ℕ) → i < k → f (c + i) ≡ []) → rows f c k ≡ []
   unfolding rows

@@ -1,6 +1,7 @@
 -- The sets of a repair against the definitions: eight elements of a list are the list; the union of the intents has the
 -- locks that somebody intends; the set of the withdrawn has the workers whose section is not begun; the claimants of a
--- lock are counted in the list of the owed sets, and the locks that have one or two of them are two sets. Further, where a loop finds the lowest lock that is wrong.
+-- lock are counted in the list of the owed sets, and the locks that have one or two of them are two sets. Further, where a loop
+-- finds the lowest lock that is wrong.
 use Prim.Native.Nat.{ℕ, suc, zero, _+_, _-_, _<_, _≤_}
 use borrow.Author.Tests.{lt-ltb, le-ltb, ltb-true, ltb-false, le-leb, lt-leb, leb-true, leb-false}
 use mathlib.Core.Path.{_≡_, refl, sym, ap, _∙_}

@@ -17,7 +17,8 @@ use Rattle.image.specs.Image.{Image, at, workers, putAll}
 use Rattle.image.proofs.Lists.{putAll-append}
 use Rattle.recovery.specs.declared.Repair.{Repair}
 use Rattle.recovery.specs.Recovery.{eight, rows, owed, intend, withdraw, relock, relocks, unlock, plan}
-use Rattle.recovery.specs.Repair.{owedAt, freedBy, withdrawnBy, repairOf, noRepair, lockSlot, intentSlot, withdrawSlot, relockSlot, slotAt, slotOf, slotPut, slotLeft}
+use Rattle.recovery.specs.Repair.{owedAt, freedBy, withdrawnBy, repairOf, noRepair}
+use Rattle.recovery.specs.Repair.{lockSlot, intentSlot, withdrawSlot, relockSlot, slotAt, slotOf, slotPut, slotLeft}
 use Rattle.recovery.proofs.Rows.{rows-at, rows-same, rows-none, rows-part}
 use Rattle.recovery.proofs.Sets.{eight-at, freed-has, withdrawn-has, withdrawn-past, owed-inside, owed-outside}
 
@@ -83,7 +84,12 @@ module _ (r : Repair) (a k d : ℕ) where
     pub left-step-slot : (left left′ : ℕ) → left′ ≡ slotLeft left (slotOf n (slotAt r (a + d)))
         → left′ - length (rows (slotAt r) (a + (d + 1)) (k - (d + 1))) ≡ left - length (rows (slotAt r) (a + d) (k - d))
     left-step-slot left left′ q =
-        rw (q, slots-step h, left-slot n left (slotAt r (a + d)) (slot-single r (a + d)), length-append (slotAt r (a + d)) (rows (slotAt r) (a + (d + 1)) (k - (d + 1))))
+        rw (
+          q,
+          slots-step h,
+          left-slot n left (slotAt r (a + d)) (slot-single r (a + d)),
+          length-append (slotAt r (a + d)) (rows (slotAt r) (a + (d + 1)) (k - (d + 1))),
+        )
         (omega arith)
 
 -- ---- the slots by their number
@@ -119,7 +125,8 @@ module _ (r : Repair) where
 
   relock-stores : (d : ℕ) → d < 8 → rows (slotAt r) (80 + 64 * d) 64 ≡ rows (lockSlot (getD (r .owed) d 0) (d + 1)) 0 64
   relock-stores d h =
-      rows-same (slotAt r) (lockSlot (getD (r .owed) d 0) (d + 1)) 64 (80 + 64 * d) 0 (λ i l. slot-relock (80 + 64 * d + i) d (0 + i) (omega arith) h (omega arith))
+      rows-same (slotAt r) (lockSlot (getD (r .owed) d 0) (d + 1)) 64 (80 + 64 * d) 0
+      (λ i l. slot-relock (80 + 64 * d + i) d (0 + i) (omega arith) h (omega arith))
 
   -- the relocks that are left after those of d workers
   abbrev Relocks : ℕ → List Store
@@ -137,7 +144,8 @@ module _ (r : Repair) where
   relocks-end d h = let e : 512 - 64 * d ≡ 0 = omega arith in rw e
 
   module _ (n d : ℕ) (h : d < 8) (left left′ : ℕ) (q : left′ ≡ left - length (rows (lockSlot (getD (r .owed) d 0) (d + 1)) 0 64)) where
-    pub image-relock : (m m′ : Image) → m′ ≡ putAll n left m (rows (lockSlot (getD (r .owed) d 0) (d + 1)) 0 64) → putAll n left′ m′ (Relocks (d + 1)) ≡ putAll n left m (Relocks d)
+    pub image-relock : (m m′ : Image) → m′ ≡ putAll n left m (rows (lockSlot (getD (r .owed) d 0) (d + 1)) 0 64)
+        → putAll n left′ m′ (Relocks (d + 1)) ≡ putAll n left m (Relocks d)
     image-relock m m′ p = rw (p, q, relocks-step d h) (sym (putAll-append n left m (rows (lockSlot (getD (r .owed) d 0) (d + 1)) 0 64) (Relocks (d + 1))))
 
     pub left-relock : left′ - length (Relocks (d + 1)) ≡ left - length (Relocks d)
@@ -164,7 +172,19 @@ module _ (r : Repair) where
       let B = rows (slotAt r) 64 8 in
       let C = rows (slotAt r) 72 8 in
       let D = rows (slotAt r) 80 512 in (
-        rw (stages, putAll-append n left m A (B ++ (C ++ D)), ← q₁, ← p₁, putAll-append n left₁ m₁ B (C ++ D), ← q₂, ← p₂, putAll-append n left₂ m₂ C D, ← q₃, ← p₃) p₄,
+        rw (
+          stages,
+          putAll-append n left m A (B ++ (C ++ D)),
+          ← q₁,
+          ← p₁,
+          putAll-append n left₁ m₁ B (C ++ D),
+          ← q₂,
+          ← p₂,
+          putAll-append n left₂ m₂ C D,
+          ← q₃,
+          ← p₃,
+        )
+            p₄,
         rw (stages, length-append A (B ++ (C ++ D)), length-append B (C ++ D), length-append C D) (omega arith),
       )
 
@@ -233,7 +253,8 @@ module _ (n : ℕ) (rd : Memory) (D : ℕ) (few : D ≤ 8) where
       rw (
         rows-at (slotAt R) 72 D (520 - D) (72 + D) 520 (omega arith) refl,
         withdraws-are,
-        rows-part (slotAt R) (72 + D) (8 - D) 512 80 (520 - D) (omega arith) (omega arith) (λ i l. no-withdraw (72 + D + i) (D + i) (omega arith) (omega arith) (omega arith)),
+        rows-part (slotAt R) (72 + D) (8 - D) 512 80 (520 - D) (omega arith) (omega arith)
+            (λ i l. no-withdraw (72 + D + i) (D + i) (omega arith) (omega arith) (omega arith)),
         last-stage,
       )
 
@@ -245,7 +266,8 @@ module _ (n : ℕ) (rd : Memory) (D : ℕ) (few : D ≤ 8) where
         unlocks-are,
         rows-at (slotAt R) 64 D (528 - D) (64 + D) 528 (omega arith) refl,
         intents-are,
-        rows-part (slotAt R) (64 + D) (8 - D) 520 72 (528 - D) (omega arith) (omega arith) (λ i l. no-intent (64 + D + i) (D + i) (omega arith) (omega arith) (omega arith)),
+        rows-part (slotAt R) (64 + D) (8 - D) 520 72 (528 - D) (omega arith) (omega arith)
+            (λ i l. no-intent (64 + D + i) (D + i) (omega arith) (omega arith) (omega arith)),
         third-stage,
       )
 

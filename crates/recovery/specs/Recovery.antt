@@ -116,7 +116,8 @@ module _ (n : ℕ) (rd : Memory) where
     unfoldable pub pcOk : Bool
     pcOk =
         cond (eqb (rd (field Pc d)) 0) (eqb (rd (field Owned d)) 0)
-        (leb 1 (rd (field Pc d) % 2 ^ 63) && ltb namedStep (rd (field Count d)) && entryOk namedOp && (eqb (rd (field Owned d)) heldHere || eqb (rd (field Owned d)) heldNext))
+        (leb 1 (rd (field Pc d) % 2 ^ 63) && ltb namedStep (rd (field Count d)) && entryOk namedOp
+        && (eqb (rd (field Owned d)) heldHere || eqb (rd (field Owned d)) heldNext))
 
     -- the record is sound (else cause 12)
     unfoldable pub sound : Bool

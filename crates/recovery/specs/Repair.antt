@@ -71,7 +71,9 @@ withdrawnBy rd (suc k) = cond (unbegun rd k) (with (withdrawnBy rd k) k) (withdr
 
 unfoldable pub repairOf : ℕ → Image → Repair
 repairOf n m =
-    record { workers = workers m; freed = freedBy (at n m) (workers m); withdrawn = withdrawnBy (at n m) (workers m); owed = eight (owedAt n (at n m) (workers m)) }
+    let rd = at n m in
+    let D = workers m in
+    record { workers = D; freed = freedBy rd D; withdrawn = withdrawnBy rd D; owed = eight (owedAt n rd D) }
 
 -- the repair that stores nothing
 unfoldable pub noRepair : Repair

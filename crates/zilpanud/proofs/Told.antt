@@ -206,7 +206,8 @@ module _ (n : ℕ) where
   unfolding sweep outcomeAt
   private-sweep zero d s = tt
   private-sweep (suc k) d s =
-      private-swept (outcomeAt n (s .world) d) s _ (private-turn n (at n (s .world .image)) d (cursorAt (s .world .cursors) d)) (private-sweep k (d + 1) (turned n s d))
+      private-swept (outcomeAt n (s .world) d) s _ (private-turn n (at n (s .world .image)) d (cursorAt (s .world .cursors) d))
+      (private-sweep k (d + 1) (turned n s d))
 
   private-after : (more : Counting → Ran) (x : Sweep) → ((s : Counting) → Ending (more s)) → Halting x → Ending (afterSweep n more x)
   unfolding afterSweep

@@ -63,9 +63,11 @@ pub extern "C" fn zilpanud_submit(
     ensures code { λ r. ⌜ r
         ≡ submitCode (submitting (lent (now (image .entry)) (now (step .entry)) (now (turn .entry)) (now (left .entry))) worker number (now (words .entry))) ⌝ }
     ensures detail { λ r. ⌜ now (detail .exit)
-        ≡ submitDetail (submitting (lent (now (image .entry)) (now (step .entry)) (now (turn .entry)) (now (left .entry))) worker number (now (words .entry))) ⌝ }
+        ≡ submitDetail
+        (submitting (lent (now (image .entry)) (now (step .entry)) (now (turn .entry)) (now (left .entry))) worker number (now (words .entry))) ⌝ }
     ensures after { λ r. ⌜ lent (now (image .exit)) (now (step .exit)) (now (turn .exit)) (now (left .exit))
-        ≡ submitsTo (lent (now (image .entry)) (now (step .entry)) (now (turn .entry)) (now (left .entry))) worker number (now (args .entry)) (now (words .entry)) ⌝ }
+        ≡ submitsTo (lent (now (image .entry)) (now (step .entry)) (now (turn .entry)) (now (left .entry))) worker number
+        (now (args .entry)) (now (words .entry)) ⌝ }
 {
     let c = cursors::lent(step, turn);
     let r = engine::submit(image, c, worker, number, args, words, left);

@@ -20,12 +20,14 @@ returns c = rw (← c .before .read-field .ensures, eq-eqb (c .before .read-fiel
 sub-s : tie.Need-sub-s
 sub-s c =
     let S = c .before .before .before in
-    pc-low (S .args .own) (at (S .args .own) (now (S .args .image))) (S .args .d) (c .before .read-field .result) (c .before .read-field .ensures) (S .pre .1) (c .if1 .left) .0
+    let f = c .before .read-field in
+    pc-low (S .args .own) (at (S .args .own) (now (S .args .image))) (S .args .d) (f .result) (f .ensures) (S .pre .1) (c .if1 .left) .0
 
 read-step-requires : tie.Need-read-step-requires
 read-step-requires c κs =
     let S = c .before .before .before in
-    let p = pc-low (S .args .own) (at (S .args .own) (now (S .args .image))) (S .args .d) (c .before .read-field .result) (c .before .read-field .ensures) (S .pre .1) (c .if1 .left) in
+    let f = c .before .read-field in
+    let p = pc-low (S .args .own) (at (S .args .own) (now (S .args .image))) (S .args .d) (f .result) (f .ensures) (S .pre .1) (c .if1 .left) in
     (S .pre .0, omega arith)
 
 op-of-requires : tie.Need-op-of-requires

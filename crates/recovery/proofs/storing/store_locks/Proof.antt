@@ -14,7 +14,8 @@ use Rattle.recovery.proofs.storing.store_locks.Tie as tie
 
 abbrev Inv-loop : tie.InvT-loop
 Inv-loop image₀ set value left k₀ rest₀ image k rest =
-    (rest < 2 ^ 64) × (length image ≡ length image₀) × ((n : ℕ) → putAll n k image (rows (lockSlot rest value) 0 64) ≡ putAll n k₀ image₀ (rows (lockSlot set value) 0 64))
+    (rest < 2 ^ 64) × (length image ≡ length image₀)
+    × ((n : ℕ) → putAll n k image (rows (lockSlot rest value) 0 64) ≡ putAll n k₀ image₀ (rows (lockSlot set value) 0 64))
     × (k - length (rows (lockSlot rest value) 0 64) ≡ k₀ - length (rows (lockSlot set value) 0 64))
 
 abbrev μ-loop : tie.MeasureT-loop
@@ -52,7 +53,9 @@ loop-again c =
     let l = less-without (L .rest) (L .inv .0) h in (
       rw (c .without .ensures) (omega arith),
       s .kept .0 ∙ L .inv .1,
-      λ n. rw (c .without .ensures, s .ensures .0, s .ensures .1, i .ensures n) (image-lock (L .rest) (L .inv .0) h (A .value) n (L .k) (L .image) ∙ L .inv .2 n),
+      λ n.
+          rw (c .without .ensures, s .ensures .0, s .ensures .1, i .ensures n)
+          (image-lock (L .rest) (L .inv .0) h (A .value) n (L .k) (L .image) ∙ L .inv .2 n),
       rw (c .without .ensures, s .ensures .1) (left-lock (L .rest) (L .inv .0) h (A .value) (L .k) ∙ L .inv .3),
     )
 

@@ -15,7 +15,8 @@ use Rattle.recovery.proofs.storing.store_relocks.Tie as tie
 
 abbrev Inv-loop : tie.InvT-loop
 Inv-loop image₀ left₀ r d₀ image left d =
-    (d ≤ 8) × (length image ≡ length image₀) × ((n : ℕ) → putAll n left image (rows (slotAt r) (80 + 64 * d) (512 - 64 * d)) ≡ putAll n left₀ image₀ (rows (slotAt r) 80 512))
+    (d ≤ 8) × (length image ≡ length image₀)
+    × ((n : ℕ) → putAll n left image (rows (slotAt r) (80 + 64 * d) (512 - 64 * d)) ≡ putAll n left₀ image₀ (rows (slotAt r) 80 512))
     × (left - length (rows (slotAt r) (80 + 64 * d) (512 - 64 * d)) ≡ left₀ - length (rows (slotAt r) 80 512))
 
 abbrev μ-loop : tie.MeasureT-loop
