@@ -5,9 +5,9 @@
 // What it must print stands in the file stdout and comes from rows.py, which plays document 01's rules for one worker and was
 // written from that paper alone, and never from a run of this program. The command, in the repository's root:
 //     python3 crates/asked_sweep/rows.py > crates/asked_sweep/stdout
-use engine::Cursors;
-use engine::Standing;
-use engine::Submitted;
+use working::Cursors;
+use intake::Standing;
+use intake::Submitted;
 
 // More stores than any call here makes.
 const ENOUGH: u64 = 100000;
@@ -44,7 +44,7 @@ fn argument(adds: bool) -> u64 {
 }
 
 // Submits the section under number 1: acquire 3; the assignment; release 3; finish.
-fn submit(image: &mut [u64], c: Cursors, adds: bool, left: &mut u64) -> engine::Entered {
+fn submit(image: &mut [u64], c: Cursors, adds: bool, left: &mut u64) -> intake::Entered {
     let mut args = [0u64; 8];
     args[0] = argument(adds);
     let words = [
@@ -53,7 +53,7 @@ fn submit(image: &mut [u64], c: Cursors, adds: bool, left: &mut u64) -> engine::
         word(2, 3, 0, 0),
         word(8, 0, 0, 0),
     ];
-    engine::submit(image, c, 0, 1, &args, &words, left)
+    edition::submit(image, c, 0, 1, &args, &words, left)
 }
 
 // Turns of one store each, so many as there are stores past the 14 of the submit.
@@ -62,7 +62,7 @@ fn turns(image: &mut [u64], start: Cursors, stores: u64) {
     let mut made: u64 = 14;
     while made < stores {
         let mut one: u64 = 1;
-        let t = engine::turn(image, c, 0, &mut one);
+        let t = edition::turn(image, c, 0, &mut one);
         c = t.cursors;
         made += 1;
     }
@@ -71,7 +71,7 @@ fn turns(image: &mut [u64], start: Cursors, stores: u64) {
 // Formats, submits and makes turns until power goes after so many stores. The cursors are lost with it.
 fn cut(image: &mut [u64], adds: bool, stores: u64) {
     let mut enough = ENOUGH;
-    let f = engine::format(image, 1, &mut enough);
+    let f = edition::format(image, 1, &mut enough);
     let c = f.cursors;
     let mut left = stores;
     let h = submit(image, c, adds, &mut left);
@@ -82,20 +82,20 @@ fn cut(image: &mut [u64], adds: bool, stores: u64) {
 // A recovery that is cut after so many stores, and a whole one.
 fn recover(image: &mut [u64], stores: u64) -> Cursors {
     let mut left = stores;
-    recovery::recover(image, &mut left);
+    edition::recover(image, &mut left);
     let mut enough = ENOUGH;
-    let r = recovery::recover(image, &mut enough);
+    let r = edition::recover(image, &mut enough);
     r.cursors
 }
 
 // Asks after number 1, and tells the answer.
 fn ask(image: &[u64]) {
-    let s = engine::asking::standing(image, 0, 1);
+    let s = edition::standing(image, 0, 1);
     match s {
         Standing::NotBegun => text(b"not begun"),
         Standing::Begun => text(b"begun"),
         Standing::Finished => text(b"finished"),
-        Standing::Refused(r) => refused(engine::cause(r)),
+        Standing::Refused(r) => refused(working::cause(r)),
     }
 }
 
@@ -106,7 +106,7 @@ fn submit_again(image: &mut [u64], c: Cursors, adds: bool) -> Cursors {
     let a = h.answer;
     match a {
         Submitted::Taken => text(b"taken"),
-        Submitted::Refused(r) => refused(engine::cause(r)),
+        Submitted::Refused(r) => refused(working::cause(r)),
     }
     h.cursors
 }
@@ -118,7 +118,7 @@ fn client(image: &mut [u64], c: Cursors, adds: bool) -> Cursors {
     let entered = submit_again(image, c, adds);
     text(b"; ");
     let mut enough = ENOUGH;
-    let r = engine::run(image, entered, 384, &mut enough);
+    let r = edition::run(image, entered, 384, &mut enough);
     r.cursors
 }
 

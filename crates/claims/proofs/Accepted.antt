@@ -12,15 +12,16 @@ use Rattle.base.proofs.Bools.{and-left, and-right, or-either}
 use Rattle.image.specs.declared.Field.the-variants.{Count, Pc, Intent, Owned, Number, Finished}
 use Rattle.image.specs.Place.{field, Memory}
 use Rattle.image.specs.Image.{indexOf}
-use Rattle.section.specs.declared.Op.{Op}
-use Rattle.section.specs.declared.Op.the-variants.{Acquire, Release, Assign, Jump, Finish, Unknown}
+use Rattle.code.specs.declared.Op.{Op}
+use Rattle.code.specs.declared.Op.the-variants.{Acquire, Release, Assign, Jump, Finish, Unknown}
 use Rattle.section.specs.Check.{check, passes}
 use Rattle.section.proofs.Facts.{passed-valid}
 use Rattle.section.proofs.Held.{after-assign}
 use Rattle.section.proofs.Passing.{passed-is}
-use Rattle.engine.specs.Cursor.{idle, on}
-use Rattle.engine.specs.Turn.{codeIn, activeAddr, activeVal}
-use Rattle.recovery.specs.Recovery.{targetOf, targetTurn, owedOf, owed, namedStep, namedOp, sectionOk, entryOk, pcOk, resumed}
+use Rattle.working.specs.Cursor.{idle, on}
+use Rattle.plan.specs.Turn.{codeIn, activeAddr, activeVal}
+use Rattle.soundness.specs.Sound.{targetOf, owedOf, owed, namedStep, namedOp, sectionOk, entryOk, pcOk}
+use Rattle.repair.specs.Plan.{targetTurn, resumed}
 use Rattle.claims.specs.Reference.{Given}
 use Rattle.claims.proofs.Invariant.{opAt, heldAt, Sectioned, logsHeld, Named, Due, Phase, resting, due}
 use Rattle.claims.proofs.LiveCrashed.{owed-none}

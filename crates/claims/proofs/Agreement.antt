@@ -7,10 +7,11 @@ use mathlib.Core.Bool.{Bool, true, false, cond}
 use mathlib.Core.List.{List}
 use Rattle.tally.specs.Tally.{none}
 use Rattle.image.specs.Image.{workers, headerOk}
-use Rattle.engine.specs.Turn.{Outcome, stored, jumped, unheld, waiting, resting, refused}
-use Rattle.engine.specs.World.{World, world, leaves, outcomeAt, outcome}
-use Rattle.engine.specs.Submit.{submitAnswer, submitLeaves}
-use Rattle.engine.specs.Run.{anyOpen, Counting, counting, Ran, ran, Sweep, turned, swept, sweep, afterSweep, roundsOf, runOf}
+use Rattle.plan.specs.Turn.{Outcome, stored, jumped, unheld, waiting, resting, refused}
+use Rattle.working.specs.World.{World, world}
+use Rattle.turn.specs.Call.{leaves, outcomeAt, outcome}
+use Rattle.intake.specs.Submit.{submitAnswer, submitLeaves}
+use Rattle.run.specs.Run.{anyOpen, Counting, counting, Ran, ran, Sweep, turned, swept, sweep, afterSweep, roundsOf, runOf}
 use Rattle.recovery.specs.Recovery.{Recovered, accepted, misshapen, unsoundRecord, wrongLock, recovery}
 use Rattle.recovery.specs.Recover.{cursorsOf, recoveryLeaves, recoveryLeft}
 use Rattle.claims.specs.Calls.{Traced, turnedAt, refuses, round, rounds, ranBy, call, recoveredBy, submits, turns, runs, recovers}
@@ -68,7 +69,7 @@ module _ (mark n : ℕ) where
   unfolding rounds roundsOf
   rounds-agree zero D w s e = by (anyOpen D 0 (s .world .cursors))
     where
-      by : (b : Bool) → w .world ≡ cond b (ran Rattle.engine.specs.declared.End.the-variants.Spent s) (ran Rattle.engine.specs.declared.End.the-variants.AllIdle s) .after .world
+      by : (b : Bool) → w .world ≡ cond b (ran Rattle.run.specs.declared.End.the-variants.Spent s) (ran Rattle.run.specs.declared.End.the-variants.AllIdle s) .after .world
       by true = e
       by false = e
   rounds-agree (suc r) D w s e =
@@ -76,7 +77,7 @@ module _ (mark n : ℕ) where
       rw same (by (anyOpen D 0 (s .world .cursors)) (round-agrees (rounds mark n r D) (roundsOf n r D) (λ v t q. rounds-agree r D v t q) D 0 w s e))
     where
       by : (b : Bool) → round mark n (rounds mark n r D) w 0 D .world ≡ afterSweep n (roundsOf n r D) (sweep n D 0 s) .after .world
-          → cond b (round mark n (rounds mark n r D) w 0 D) w .world ≡ cond b (afterSweep n (roundsOf n r D) (sweep n D 0 s)) (ran Rattle.engine.specs.declared.End.the-variants.AllIdle s) .after .world
+          → cond b (round mark n (rounds mark n r D) w 0 D) w .world ≡ cond b (afterSweep n (roundsOf n r D) (sweep n D 0 s)) (ran Rattle.run.specs.declared.End.the-variants.AllIdle s) .after .world
       by true h = h
       by false h = e
 
@@ -87,6 +88,6 @@ module _ (mark n : ℕ) where
     where
       by : (b : Bool)
           → cond b (rounds mark n r (workers (w .world .image)) w) w .world
-          ≡ cond b (roundsOf n r (workers (w .world .image)) (counting (w .world) none)) (ran (Rattle.engine.specs.declared.End.the-variants.Halted Rattle.engine.specs.declared.Refusal.the-variants.Image) (counting (w .world) none)) .after .world
+          ≡ cond b (roundsOf n r (workers (w .world .image)) (counting (w .world) none)) (ran (Rattle.run.specs.declared.End.the-variants.Halted Rattle.working.specs.declared.Refusal.the-variants.Image) (counting (w .world) none)) .after .world
       by true = rounds-agree r (workers (w .world .image)) w (counting (w .world) none) refl
       by false = refl

@@ -12,13 +12,14 @@ use Rattle.tally.specs.declared.Tally.{Tally}
 use Rattle.tally.specs.Tally.{none}
 use Rattle.image.specs.Place.{Memory}
 use Rattle.image.specs.Image.{at, workers, headerOk}
-use Rattle.engine.specs.declared.Answer.the-variants.{Idle}
-use Rattle.engine.specs.declared.End.the-variants.{AllIdle, Spent}
-use Rattle.engine.specs.Cursor.{idle, cursorAt}
-use Rattle.engine.specs.Turn.{Outcome, stored, jumped, unheld, waiting, resting, refused, turnAt}
-use Rattle.engine.specs.World.{World, answerOf, outcomeAt, outcome}
-use Rattle.engine.specs.Run.{anyOpen, Counting, counting, Ran, ran, Sweep, turned, swept, sweep, afterSweep, roundsOf, runOf}
-use Rattle.engine.proofs.Planned.{idle-is}
+use Rattle.turn.specs.declared.Answer.the-variants.{Idle}
+use Rattle.run.specs.declared.End.the-variants.{AllIdle, Spent}
+use Rattle.working.specs.Cursor.{idle, cursorAt}
+use Rattle.plan.specs.Turn.{Outcome, stored, jumped, unheld, waiting, resting, refused, turnAt}
+use Rattle.working.specs.World.{World}
+use Rattle.turn.specs.Call.{answerOf, outcomeAt, outcome}
+use Rattle.run.specs.Run.{anyOpen, Counting, counting, Ran, ran, Sweep, turned, swept, sweep, afterSweep, roundsOf, runOf}
+use Rattle.working.proofs.Placed.{idle-is}
 use Rattle.claims.specs.Calls.{Traced, turnedAt, refuses, round, rounds, runs, whole, call, lent, move}
 use Rattle.claims.specs.Claims.{isHalted, runEnd}
 use Rattle.claims.proofs.Progress.{isResting, open-acts}

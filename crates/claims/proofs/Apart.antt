@@ -15,16 +15,17 @@ use borrow.Author.Tests.{ltb-true, ltb-false, lt-leb, eq-eqb, ne-eqb}
 use Rattle.mask.specs.Mask.{has}
 use Rattle.image.specs.declared.Field.{Field}
 use Rattle.image.specs.declared.Field.the-variants.{Pc, Intent, Owned}
-use Rattle.image.specs.Place.{Place, cell, lock, field, own, step, same, Memory}
+use Rattle.image.specs.Place.{Place, cell, lock, field, own, step, Memory}
+use Rattle.image.specs.inner.Same.{same}
 use Rattle.image.proofs.Places.{same-refl, same-place}
-use Rattle.section.specs.declared.Expr.{Expr}
-use Rattle.section.specs.declared.Op.{Op}
-use Rattle.section.specs.declared.Op.the-variants.{Acquire, Release, Assign, Jump, Finish, Unknown}
+use Rattle.code.specs.declared.Expr.{Expr}
+use Rattle.code.specs.declared.Op.{Op}
+use Rattle.code.specs.declared.Op.the-variants.{Acquire, Release, Assign, Jump, Finish, Unknown}
 use Rattle.section.specs.Check.{covered}
 use Rattle.section.proofs.Held.{after-release, after-assign}
-use Rattle.engine.specs.Cursor.{Cursor}
-use Rattle.engine.specs.Turn.{operand, codeIn, wordIn, activeVal}
-use Rattle.recovery.specs.Recovery.{targetOf, namedOp}
+use Rattle.working.specs.Cursor.{Cursor}
+use Rattle.plan.specs.Turn.{operand, codeIn, wordIn, activeVal}
+use Rattle.soundness.specs.Sound.{targetOf, namedOp}
 use Rattle.claims.specs.Reference.{Given, Job, State, readIn}
 use Rattle.claims.proofs.Virtual.{misses, entryOf, virtual, virtual-none, virtual-due}
 use Rattle.claims.proofs.Invariant.{opAt, heldAt, Sectioned, Named, Nearing, Due, Phase, resting, fresh, due, unlocking, unlocked, between, ended, Live, JobOf, Mirrors}

@@ -5,7 +5,8 @@ use mathlib.Core.Path.{_≡_, fun-ext}
 use mathlib.Core.Bool.{true}
 use mathlib.Core.List.{List}
 use lib.ListN.{take}
-use Rattle.image.specs.Place.{Place, valid, upd, updAll, Store}
+use Rattle.image.specs.Place.{Place, valid, Store}
+use Rattle.image.specs.inner.Same.{upd, updAll}
 use Rattle.image.specs.Image.{Image, indexOf, at, put, putAll}
 use Rattle.image.proofs.Header.{Sized}
 use Rattle.image.proofs.Stores.{at-store}

@@ -9,18 +9,19 @@ use lib.ListN.{length}
 use lib.Seq.{take-all}
 use native.Mathlib.Omega.{arith}
 use Rattle.image.specs.declared.Field.the-variants.{Number}
-use Rattle.image.specs.Place.{Place, field, Memory, upd}
+use Rattle.image.specs.Place.{Place, field, Memory}
+use Rattle.image.specs.inner.Same.{upd}
 use Rattle.image.specs.Image.{at, workers}
 use Rattle.image.proofs.Header.{header-workers}
 use Rattle.section.specs.Check.{codeOf}
 use Rattle.section.proofs.Facts.{check-parts}
-use Rattle.engine.specs.declared.Submitted.the-variants.{Taken}
-use Rattle.engine.specs.Cursor.{Cursor, on, cursorAt, placed}
-use Rattle.engine.specs.Turn.{Outcome, stored, jumped, unheld, waiting, resting, refused}
-use Rattle.engine.specs.Submit.{submission}
-use Rattle.engine.proofs.Placed.{sayable}
-use Rattle.engine.proofs.Submission.{submission-length}
-use Rattle.recovery.specs.Recovery.{resumed}
+use Rattle.intake.specs.declared.Submitted.the-variants.{Taken}
+use Rattle.working.specs.Cursor.{Cursor, on, cursorAt, placed}
+use Rattle.plan.specs.Turn.{Outcome, stored, jumped, unheld, waiting, resting, refused}
+use Rattle.intake.specs.Submit.{submission}
+use Rattle.working.proofs.Placed.{sayable}
+use Rattle.intake.proofs.Submission.{submission-length}
+use Rattle.repair.specs.Plan.{resumed}
 use Rattle.claims.specs.Events.{but}
 use Rattle.claims.specs.Calls.{Traced, turnBy}
 use Rattle.claims.proofs.Turns.{Stepped}

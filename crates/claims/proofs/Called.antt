@@ -11,19 +11,22 @@ use borrow.Author.Tests.{eqb-true}
 use native.Mathlib.Omega.{arith}
 use Rattle.base.proofs.Bools.{and-left, and-right}
 use Rattle.image.specs.declared.Field.the-variants.{Count, Pc, Finished}
-use Rattle.image.specs.Place.{field, Memory, updAll}
+use Rattle.image.specs.Place.{field, Memory}
+use Rattle.image.specs.inner.Same.{updAll}
 use Rattle.image.specs.Image.{Image, at, workers, headerOk, putAll}
 use Rattle.image.proofs.Lists.{header-all, workers-all}
 use Rattle.section.specs.declared.Verdict.the-variants.{Pass}
 use Rattle.section.specs.Check.{codeOf, check}
 use Rattle.section.proofs.Facts.{check-parts}
-use Rattle.engine.specs.declared.Submitted.the-variants.{Taken}
-use Rattle.engine.specs.Cursor.{on, isIdle, cursorAt, placed}
-use Rattle.engine.specs.World.{World, world}
-use Rattle.engine.specs.Submit.{submission, free, submitAnswer, isTaken}
-use Rattle.engine.proofs.Planned.{idle-is}
-use Rattle.engine.proofs.Submission.{submission-length, accepted as met}
-use Rattle.recovery.specs.Recovery.{plan, resumedAll, recovery, accepted, owed}
+use Rattle.intake.specs.declared.Submitted.the-variants.{Taken}
+use Rattle.working.specs.Cursor.{on, isIdle, cursorAt, placed}
+use Rattle.working.specs.World.{World, world}
+use Rattle.intake.specs.Submit.{submission, free, submitAnswer, isTaken}
+use Rattle.working.proofs.Placed.{idle-is}
+use Rattle.intake.proofs.Submission.{submission-length, accepted as met}
+use Rattle.repair.specs.Plan.{plan, resumedAll}
+use Rattle.recovery.specs.Recovery.{recovery, accepted}
+use Rattle.soundness.specs.Sound.{owed}
 use Rattle.claims.specs.Reference.{Given, given}
 use Rattle.claims.specs.Events.{but}
 use Rattle.claims.specs.Calls.{Trace, Traced, traced, taking, forgetful}

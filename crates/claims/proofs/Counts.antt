@@ -16,14 +16,15 @@ use lib.Dec.{ltb}
 use borrow.Author.Tests.{ltb-false, eq-eqb, ne-eqb}
 use Rattle.mask.specs.Mask.{has, with, without}
 use Rattle.image.specs.declared.Field.the-variants.{Count, Pc, Owned}
-use Rattle.image.specs.Place.{Place, cell, field, own, step, same, Memory, upd}
-use Rattle.section.specs.declared.Expr.{Expr}
-use Rattle.section.specs.declared.Op.{Op}
-use Rattle.section.specs.declared.Op.the-variants.{Acquire, Release, Assign, Finish}
-use Rattle.section.specs.Op.{opOf, eval}
-use Rattle.engine.specs.Cursor.{Cursor}
-use Rattle.engine.specs.Turn.{operand, spareVal, switched}
-use Rattle.recovery.specs.Recovery.{targetOf}
+use Rattle.image.specs.Place.{Place, cell, field, own, step, Memory}
+use Rattle.image.specs.inner.Same.{same, upd}
+use Rattle.code.specs.declared.Expr.{Expr}
+use Rattle.code.specs.declared.Op.{Op}
+use Rattle.code.specs.declared.Op.the-variants.{Acquire, Release, Assign, Finish}
+use Rattle.code.specs.Op.{opOf, eval}
+use Rattle.working.specs.Cursor.{Cursor}
+use Rattle.plan.specs.Turn.{operand, spareVal, switched}
+use Rattle.soundness.specs.Sound.{targetOf}
 use Rattle.claims.specs.Reference.{Given, Job, job, State, state, readIn, heldIn, taken, onto, assigned, advance}
 use Rattle.claims.proofs.Virtual.{virtual}
 use Rattle.claims.proofs.Invariant.{opAt, Live, JobOf, Mirrors}

@@ -8,11 +8,11 @@ use lib.ListN.{getD, replicate, length-set}
 use lib.Dec.{eqb}
 use native.Mathlib.Omega.{arith}
 use native.Mathlib.Decide.{ℕ-discrete}
-use Rattle.engine.specs.declared.Cursors.{Cursors}
-use Rattle.engine.specs.Cursor.{Cursor, idle, on, isIdle, cursorAt, setAt, placed, allIdle}
-use Rattle.engine.specs.Run.{anyOpen}
-use Rattle.engine.proofs.Placed.{Full, sayable, placed-same, placed-other}
-use Rattle.engine.proofs.Planned.{idle-is}
+use Rattle.working.specs.declared.Cursors.{Cursors}
+use Rattle.working.specs.Cursor.{Cursor, idle, on, isIdle, cursorAt, setAt, placed, allIdle}
+use Rattle.run.specs.Run.{anyOpen}
+use Rattle.working.proofs.Placed.{Full, sayable, placed-same, placed-other}
+use Rattle.working.proofs.Placed.{idle-is}
 use Rattle.claims.specs.Events.{but}
 use Rattle.claims.proofs.LiveTurn.{but-same, but-other}
 

@@ -1,6 +1,6 @@
 -- The user's demands 2 and 3, at the edition that the entry points serve, and what a planner may be told by them.
 use native.Mathlib.Omega.{arith}
-use Rattle.engine.specs.Edition.{mark, ownWords}
+use Rattle.edition.specs.Edition.{mark, ownWords}
 use Rattle.claims.specs.Claims.{FormattedRests, DurableAlways, Linearizable, RunsAreTurns, EveryOrderHad}
 use Rattle.claims.specs.Once.{OnceAlways, ToldAlways, AskedAlways, BegunFinishes, ThroughAlways, RetriedAlways, ExactlyOnce}
 use Rattle.claims.specs.Moments.{UntouchedAlways}

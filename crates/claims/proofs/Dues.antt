@@ -13,17 +13,19 @@ use Rattle.mask.specs.Mask.{has, without}
 use Rattle.mask.proofs.Laws.{has-without}
 use Rattle.mask.proofs.Sets.{without-stranger}
 use Rattle.image.specs.declared.Field.the-variants.{Count, Pc, Intent, Owned, Number, Finished}
-use Rattle.image.specs.Place.{cell, lock, field, own, Memory, upd}
+use Rattle.image.specs.Place.{cell, lock, field, own, Memory}
+use Rattle.image.specs.inner.Same.{upd}
 use Rattle.image.proofs.Places.{upd-same}
-use Rattle.section.specs.declared.Expr.{Expr}
-use Rattle.section.specs.declared.Op.{Op}
-use Rattle.section.specs.declared.Op.the-variants.{Acquire, Release, Assign, Jump, Finish, Unknown}
+use Rattle.code.specs.declared.Expr.{Expr}
+use Rattle.code.specs.declared.Op.{Op}
+use Rattle.code.specs.declared.Op.the-variants.{Acquire, Release, Assign, Jump, Finish, Unknown}
 use Rattle.section.proofs.Held.{after-release, after-assign}
-use Rattle.section.proofs.Ranges.{release-range, assign-range, opTurns}
+use Rattle.code.proofs.Ranges.{release-range, assign-range, opTurns}
 use Rattle.section.proofs.Steps.{ends}
-use Rattle.engine.specs.Cursor.{on}
-use Rattle.engine.specs.Turn.{operand, codeIn, activeVal, opTurn, turnAt, stored, unheld}
-use Rattle.recovery.specs.Recovery.{targetOf, targetTurn}
+use Rattle.working.specs.Cursor.{on}
+use Rattle.plan.specs.Turn.{operand, codeIn, activeVal, opTurn, turnAt, stored, unheld}
+use Rattle.soundness.specs.Sound.{targetOf}
+use Rattle.repair.specs.Plan.{targetTurn}
 use Rattle.claims.specs.Reference.{Given}
 use Rattle.claims.proofs.Invariant.{opAt, heldAt, Sectioned, Named, Due, stay, resting, unlocking, unlocked}
 use Rattle.claims.proofs.Turns.{inRecord, ownWord, ownCell, frees, Stepped}

@@ -17,16 +17,19 @@ use Rattle.image.proofs.Header.{header-workers}
 use Rattle.image.proofs.Lists.{putAll-cut}
 use Rattle.section.specs.Check.{codeOf}
 use Rattle.section.proofs.Facts.{check-parts}
-use Rattle.engine.specs.declared.Cursors.{Cursors}
-use Rattle.engine.specs.declared.Submitted.{Submitted}
-use Rattle.engine.specs.declared.Submitted.the-variants.{Taken, Refused}
-use Rattle.engine.specs.Cursor.{on, placed, allIdle}
-use Rattle.engine.specs.Turn.{Outcome, stored, jumped, unheld, waiting, resting, refused}
-use Rattle.engine.specs.World.{world, outcomeAt, outcome}
-use Rattle.engine.specs.Run.{anyOpen}
-use Rattle.engine.specs.Submit.{submission, free, submitAnswer, submitLeaves, isTaken}
-use Rattle.engine.proofs.Submission.{accepted as met, submission-length}
-use Rattle.recovery.specs.Recovery.{Recovered, accepted, misshapen, byLocks, byRecords, badLock, unsound, plan, resumedAll, recovery}
+use Rattle.working.specs.declared.Cursors.{Cursors}
+use Rattle.intake.specs.declared.Submitted.{Submitted}
+use Rattle.intake.specs.declared.Submitted.the-variants.{Taken, Refused}
+use Rattle.working.specs.Cursor.{on, placed, allIdle}
+use Rattle.plan.specs.Turn.{Outcome, stored, jumped, unheld, waiting, resting, refused}
+use Rattle.working.specs.World.{world}
+use Rattle.turn.specs.Call.{outcomeAt, outcome}
+use Rattle.run.specs.Run.{anyOpen}
+use Rattle.intake.specs.Submit.{submission, free, submitAnswer, submitLeaves, isTaken}
+use Rattle.intake.proofs.Submission.{accepted as met, submission-length}
+use Rattle.recovery.specs.Recovery.{Recovered, accepted, misshapen, byLocks, byRecords, recovery}
+use Rattle.soundness.specs.Sound.{badLock, unsound}
+use Rattle.repair.specs.Plan.{plan, resumedAll}
 use Rattle.claims.specs.Reference.{given}
 use Rattle.claims.specs.Calls.{Trace, Traced, traced, taking, forgetful, turnBy, turnedAt, refuses, round, rounds, ranBy, submitTrace, recoveredBy}
 use Rattle.claims.specs.Calls.{Call, submits, turns, runs, recovers, call, lent, callable}

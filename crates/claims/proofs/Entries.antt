@@ -10,12 +10,13 @@ use lib.Dec.{ltb, eqb}
 use borrow.Author.Tests.{ne-eqb}
 use Rattle.image.specs.declared.Field.{Field}
 use Rattle.image.specs.declared.Field.the-variants.{Pc, Addr0, Val0, Addr1, Val1, Owned}
-use Rattle.image.specs.Place.{sameField, Place, cell, lock, field, own, step, same, Memory}
+use Rattle.image.specs.inner.Same.{sameField, same}
+use Rattle.image.specs.Place.{Place, cell, lock, field, own, step, Memory}
 use Rattle.image.proofs.Places.{same-place}
-use Rattle.section.specs.declared.Op.{Op}
-use Rattle.section.specs.declared.Op.the-variants.{Acquire, Release, Assign, Jump, Finish, Unknown}
-use Rattle.engine.specs.Turn.{operand, second, spareAddr, spareVal, activeVal}
-use Rattle.recovery.specs.Recovery.{targetOf, namedStep, namedOp}
+use Rattle.code.specs.declared.Op.{Op}
+use Rattle.code.specs.declared.Op.the-variants.{Acquire, Release, Assign, Jump, Finish, Unknown}
+use Rattle.plan.specs.Turn.{operand, second, spareAddr, spareVal, activeVal}
+use Rattle.soundness.specs.Sound.{targetOf, namedStep, namedOp}
 use Rattle.claims.specs.Calls.{isPc}
 use Rattle.claims.proofs.Virtual.{none, due, entryOf}
 use Rattle.claims.proofs.Invariant.{opAt, Named, logsHeld}

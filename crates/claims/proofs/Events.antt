@@ -66,12 +66,12 @@ own-none d e [] h o = refl
 own-none d e (g ∷ gs) h (i, o) = rw (ne-eqb (g .worker) e (λ q. h (sym q ∙ i))) (own-none d e gs h o)
 
 -- ts: the sections taken so far
-record Among (ts : List Given) (r : Reading) : Type 0 where
+record Drawn (ts : List Given) (r : Reading) : Type 0 where
   mine : (d : ℕ) → Own d (r .pending d)
   within : (d : ℕ) → Within (ofWorker d (r .begun) ++ r .pending d) (ofWorker d ts)
 
-module _ (ts : List Given) (r : Reading) (a : Among ts r) where
-  among-taken : (g : Given) → Among (ts ++ (g ∷ [])) (learn r (taken g))
+module _ (ts : List Given) (r : Reading) (a : Drawn ts r) where
+  among-taken : (g : Given) → Drawn (ts ++ (g ∷ [])) (learn r (taken g))
   among-taken g =
       record { mine = λ d. by-mine d (ℕ-discrete d (g .worker)); within = λ d. by-within d (ℕ-discrete d (g .worker)) }
     where
@@ -85,7 +85,7 @@ module _ (ts : List Given) (r : Reading) (a : Among ts r) where
           (within-snoc (ofWorker d (r .begun)) (ofWorker d ts) g (within-front (ofWorker d (r .begun)) (r .pending d) (ofWorker d ts) (a .within d)))
       by-within d (no i) = rw (ne-eqb d (g .worker) i, of-snoc-other d ts g (λ q. i (sym q))) (a .within d)
 
-  among-recorded : (e s : ℕ) → Among ts (learn r (recorded e s))
+  among-recorded : (e s : ℕ) → Drawn ts (learn r (recorded e s))
   among-recorded e s = record { mine = λ d. by-mine d (ℕ-discrete d e); within = λ d. by-within d (ℕ-discrete d e) }
     where
       by-mine : (d : ℕ) → Dec (d ≡ e) → Own d (but (r .pending) e [] d)
@@ -98,11 +98,11 @@ module _ (ts : List Given) (r : Reading) (a : Among ts r) where
       by-within d (no i) =
           rw (ne-eqb d e i, of-append d (r .begun) (r .pending e), own-none e d (r .pending e) i (a .mine e), append-nil) (a .within d)
 
-  among-lost : Among ts (learn r lost)
+  among-lost : Drawn ts (learn r lost)
   among-lost =
       record { mine = λ d. tt; within = λ d. rw append-nil (within-front (ofWorker d (r .begun)) (r .pending d) (ofWorker d ts) (a .within d)) }
 
-among-all : (ts : List Given) (r : Reading) (es : List Event) → Among ts r → Among (ts ++ takenIn es) (readFrom r es)
+among-all : (ts : List Given) (r : Reading) (es : List Event) → Drawn ts r → Drawn (ts ++ takenIn es) (readFrom r es)
 unfolding readFrom takenIn
 among-all ts r [] a = rw append-nil a
 among-all ts r (taken g ∷ es) a = rw (← append-assoc ts (g ∷ []) (takenIn es)) (among-all (ts ++ (g ∷ [])) (learn r (taken g)) es (among-taken ts r a g))
@@ -114,5 +114,5 @@ among-all ts r (lost ∷ es) a = among-all ts (learn r lost) es (among-lost ts r
 
 pub begun-within : (es : List Event) (d : ℕ) → Within (ofWorker d (begunIn es)) (ofWorker d (takenIn es))
 begun-within es d =
-    let start : Among [] (reading (λ e. []) []) = record { mine = λ e. tt; within = λ e. tt } in
+    let start : Drawn [] (reading (λ e. []) []) = record { mine = λ e. tt; within = λ e. tt } in
     within-front (ofWorker d (begunIn es)) _ (ofWorker d (takenIn es)) (among-all [] (reading (λ e. []) []) es start .within d)

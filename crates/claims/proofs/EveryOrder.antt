@@ -17,11 +17,11 @@ use Rattle.image.specs.Place.{field}
 use Rattle.image.specs.Image.{Image, at, workers, cellsOf}
 use Rattle.image.proofs.Header.{header-sized}
 use Rattle.image.proofs.Cells.{cells-length, cells-at}
-use Rattle.engine.specs.Cursor.{idle, cursorAt}
+use Rattle.working.specs.Cursor.{idle, cursorAt}
 use Rattle.claims.specs.Reference.{Job, State, Given, start, advance, follow, noneLeft, initial}
 use Rattle.claims.specs.Calls.{Traced, Move, play, from, callable, ofMove, machine}
 use Rattle.claims.specs.Claims.{EveryOrderHad, concat, ofWorker, numbered, callsOf, cursorOf, Rested, Had, admissible}
-use Rattle.claims.proofs.OrderLevel.{Stand, Even, Begun, even-stands}
+use Rattle.claims.proofs.OrderLevel.{Stand, Even, AllBegun, even-stands}
 use Rattle.claims.proofs.OrderBlock.{idle-begun}
 use Rattle.claims.proofs.OrderSubmit.{Able}
 use Rattle.claims.proofs.OrderStep.{some-same, none-some}
@@ -68,7 +68,7 @@ record Meets (D : ℕ) (w : Traced) (s : State) : Type 0 where
   cells : cellsOf (w .world .image) ≡ s .cells
   cursors : (d : ℕ) → d < D → cursorAt (w .world .cursors) d ≡ cursorOf (getD (s .queues) d [])
 
-even-meets : (mark n D : ℕ) (w : Traced) (s t : State) (gs : ℕ → List Given) → Even mark n D w s gs → Begun w → s ≡ t → Meets D w t
+even-meets : (mark n D : ℕ) (w : Traced) (s t : State) (gs : ℕ → List Given) → Even mark n D w s gs → AllBegun w → s ≡ t → Meets D w t
 even-meets mark n D w s t gs E begun e =
     subst (Meets D w) e (record { cells = even-cells mark n D w s gs E; cursors = even-stands mark n D w s gs E begun })
 
@@ -87,7 +87,7 @@ module _ (mark n D : ℕ) (least : 8 ≤ n) (most : n ≤ 64) (final : State) wh
 
   abbrev Has : List ℕ → Type 0
   Has order =
-      (w : Traced) (s : State) (gs : ℕ → List Given) → Even mark n D w s gs → Begun w → ((e : ℕ) → e < D → Able n e (gs e)) → follow s order ≡ some final
+      (w : Traced) (s : State) (gs : ℕ → List Given) → Even mark n D w s gs → AllBegun w → ((e : ℕ) → e < D → Able n e (gs e)) → follow s order ≡ some final
       → Blocks w s gs order
 
   no-blocks : Has []
@@ -109,7 +109,7 @@ module _ (mark n D : ℕ) (least : 8 ≤ n) (most : n ≤ 64) (final : State) wh
 
   -- a block, and those of the order behind its entry
   one-block :
-      (d : ℕ) (ds : List ℕ) (w : Traced) (s t : State) (gs : ℕ → List Given) → Even mark n D w s gs → Begun w → advance s d ≡ some t
+      (d : ℕ) (ds : List ℕ) (w : Traced) (s t : State) (gs : ℕ → List Given) → Even mark n D w s gs → AllBegun w → advance s d ≡ some t
       → (en : EntryHad mark n D w d t gs)
       → Blocks (play mark n (en .moves) w) t (en .rests) ds → Blocks w s gs (d ∷ ds)
   one-block d ds w s t gs E begun a en B =

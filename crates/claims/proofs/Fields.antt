@@ -9,9 +9,10 @@ use lib.Dec.{eqb, ltb}
 use borrow.Author.Tests.{eq-eqb, ne-eqb}
 use Rattle.image.specs.declared.Field.{Field}
 use Rattle.image.specs.declared.Field.the-variants.{Count, Pc, Addr0, Val0, Addr1, Val1, Intent, Owned, Number, Finished}
-use Rattle.image.specs.Place.{cell, lock, field, own, step, sameField, Memory, upd}
+use Rattle.image.specs.Place.{cell, lock, field, own, step, Memory}
+use Rattle.image.specs.inner.Same.{sameField, upd}
 use Rattle.image.proofs.Places.{upd-same}
-use Rattle.engine.specs.Turn.{operand, second, spareAddr, spareVal, activeAddr, activeVal, switched}
+use Rattle.plan.specs.Turn.{operand, second, spareAddr, spareVal, activeAddr, activeVal, switched}
 
 -- what every store but those of the pc, the count and the active entry keeps
 pub record KeepsNamed (n : ℕ) (rd rd′ : Memory) (d : ℕ) : Type 0 where

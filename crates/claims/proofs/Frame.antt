@@ -13,22 +13,23 @@ use Rattle.mask.specs.Mask.{has, with}
 use Rattle.image.specs.declared.Field.{Field}
 use Rattle.image.specs.declared.Field.the-variants.{Count, Pc, Intent, Owned, Number, Finished}
 use Rattle.image.specs.Place.{cell, field, own, step, Memory}
-use Rattle.section.specs.declared.Expr.{Expr}
-use Rattle.section.specs.declared.Expr.the-variants.{Literal, Sum, Difference, Less}
-use Rattle.section.specs.declared.Op.{Op}
-use Rattle.section.specs.declared.Op.the-variants.{Acquire, Release, Assign, Jump, Finish, Unknown}
-use Rattle.section.specs.Op.{eval}
+use Rattle.code.specs.declared.Expr.{Expr}
+use Rattle.code.specs.declared.Expr.the-variants.{Literal, Sum, Difference, Less}
+use Rattle.code.specs.declared.Op.{Op}
+use Rattle.code.specs.declared.Op.the-variants.{Acquire, Release, Assign, Jump, Finish, Unknown}
+use Rattle.code.specs.Op.{eval}
 use Rattle.section.specs.Check.{Code, heldBefore, covered, coveredIn}
 use Rattle.section.specs.Valid.{Valid}
-use Rattle.section.specs.Fits.{ranged}
+use Rattle.code.specs.inner.Fits.{ranged}
 use Rattle.section.proofs.Held.{held-zero, after-jump, after-assign}
-use Rattle.section.proofs.Ranges.{expr-range}
-use Rattle.engine.specs.Cursor.{Cursor, on}
-use Rattle.engine.specs.Turn.{operand, codeIn, wordIn, spareAddr, spareVal, activeAddr, activeVal}
-use Rattle.recovery.specs.Recovery.{targetOf, targetTurn}
+use Rattle.code.proofs.Ranges.{expr-range}
+use Rattle.working.specs.Cursor.{Cursor, on}
+use Rattle.plan.specs.Turn.{operand, codeIn, wordIn, spareAddr, spareVal, activeAddr, activeVal}
+use Rattle.soundness.specs.Sound.{targetOf}
+use Rattle.repair.specs.Plan.{targetTurn}
 use Rattle.claims.specs.Reference.{Given}
 use Rattle.claims.proofs.Invariant.{opAt, heldAt, Sectioned, Nearing, Due, Jumps, stay, leap, Phase, resting, fresh, due, unlocking, unlocked, between, ended}
-use Rattle.claims.proofs.Sets.{Within, within-refl, within-with, within-none}
+use Rattle.claims.proofs.Sets.{Subset, within-refl, within-with, within-none}
 use Rattle.claims.proofs.Fields.{KeepsNamed, spare-addr-kept, spare-val-kept}
 use Rattle.claims.proofs.Origins.{op-kept, held-kept, value-kept, sectioned-kept, named-kept, entered-kept}
 
@@ -57,16 +58,16 @@ eval-same n h f g r (Less b c) k l =
     rw (r b p (l .0), r c q (l .1))
 
 -- a step that has come near its pc has what it holds among its locks
-pub nearing-within : (n : ℕ) (rd : Memory) (e s t h locks : ℕ) (x : Op) → Nearing n rd e s t h locks x → Within h locks
-nearing-within n rd e s t h locks (Acquire a) (p, i, l, u, v) = subst (Within h) (sym l) (by (leb t 1))
+pub nearing-within : (n : ℕ) (rd : Memory) (e s t h locks : ℕ) (x : Op) → Nearing n rd e s t h locks x → Subset h locks
+nearing-within n rd e s t h locks (Acquire a) (p, i, l, u, v) = subst (Subset h) (sym l) (by (leb t 1))
   where
-    by : (b : Bool) → Within h (cond b h (with h a))
+    by : (b : Bool) → Subset h (cond b h (with h a))
     by true = within-refl h
     by false = within-with h a
-nearing-within n rd e s t h locks (Release a) (p, i, l, u, v) = subst (Within h) (sym l) (within-refl h)
-nearing-within n rd e s t h locks (Assign a z) (p, i, l, u, v) = subst (Within h) (sym l) (within-refl h)
-nearing-within n rd e s t h locks (Jump a b) (p, i, l) = subst (Within h) (sym l) (within-refl h)
-nearing-within n rd e s t h locks Finish (p, i, l, f) = subst (Within h) (sym l) (within-refl h)
+nearing-within n rd e s t h locks (Release a) (p, i, l, u, v) = subst (Subset h) (sym l) (within-refl h)
+nearing-within n rd e s t h locks (Assign a z) (p, i, l, u, v) = subst (Subset h) (sym l) (within-refl h)
+nearing-within n rd e s t h locks (Jump a b) (p, i, l) = subst (Subset h) (sym l) (within-refl h)
+nearing-within n rd e s t h locks Finish (p, i, l, f) = subst (Subset h) (sym l) (within-refl h)
 nearing-within n rd e s t h locks Unknown z = absurd z
 
 pub some-steps : {n k : ℕ} {code : Code} → Valid n k code → 0 < k
@@ -99,7 +100,7 @@ module _ (n : ℕ) (rd rd′ : Memory) (e locks : ℕ) (A : Agree rd rd′ e loc
   sectioned-same s = sectioned-kept n rd rd′ e keeps (A .fields Number) (rw (A .fields Number, A .fields Finished) (s .unfinished)) s
 
   -- a covered word
-  word-same : (h x : ℕ) → Within h locks → covered h x ≡ true → wordIn n rd′ e x ≡ wordIn n rd e x
+  word-same : (h x : ℕ) → Subset h locks → covered h x ≡ true → wordIn n rd′ e x ≡ wordIn n rd e x
   unfolding operand
   word-same h x w c = by (ltb x 512) refl (leb 512 x) refl
     where
@@ -113,7 +114,7 @@ module _ (n : ℕ) (rd rd′ : Memory) (e locks : ℕ) (A : Agree rd rd′ e loc
 
   -- how far a step has come: the words that an assignment reads are covered by h, which is within the locks
   nearing-same :
-      (s t h : ℕ) (x : Op) → Within h locks → ((a : ℕ) (z : Expr) → x ≡ Assign a z → (coveredIn h z ≡ true) × ranged n z) → Nearing n rd e s t h locks x → Nearing n rd′ e s t h locks x
+      (s t h : ℕ) (x : Op) → Subset h locks → ((a : ℕ) (z : Expr) → x ≡ Assign a z → (coveredIn h z ≡ true) × ranged n z) → Nearing n rd e s t h locks x → Nearing n rd′ e s t h locks x
   nearing-same s t h (Acquire a) w c (p, i, l, u, v) = (p, A .fields Intent ∙ i, l, λ m. spareAddr-same ∙ u m, λ m. spareVal-same ∙ v m)
   nearing-same s t h (Release a) w c (p, i, l, u, v) = (p, A .fields Intent ∙ i, l, λ m. spareAddr-same ∙ u m, λ m. spareVal-same ∙ v m)
   nearing-same s t h (Assign a z) w c (p, i, l, u, v) = (
@@ -149,7 +150,7 @@ module _ (n : ℕ) (rd rd′ : Memory) (e locks : ℕ) (A : Agree rd rd′ e loc
   intent-same s (inl h) = inl (A .fields Intent ∙ (h ∙ sym (held-kept n rd rd′ e keeps s)))
   intent-same s (inr h) = inr (A .fields Intent ∙ (h ∙ sym (held-kept n rd rd′ e keeps (suc s))))
 
-  jumps-same : (i j k : ℕ) → Valid n (rd (field Count e)) (codeIn n rd e) → Within (heldAt n rd e i) locks → Jumps n rd e i j k → Jumps n rd′ e i j k
+  jumps-same : (i j k : ℕ) → Valid n (rd (field Count e)) (codeIn n rd e) → Subset (heldAt n rd e i) locks → Jumps n rd e i j k → Jumps n rd′ e i j k
   jumps-same i j k v w stay = stay
   jumps-same i j k v w (leap jj kk a b js l o) =
       let c = subst (λ (h : ℕ). covered h a ≡ true) (jumps-held n rd e i jj kk v js) (v .tests kk a b l o) in
@@ -157,7 +158,7 @@ module _ (n : ℕ) (rd rd′ : Memory) (e locks : ℕ) (A : Agree rd rd′ e loc
       (leap jj kk a b (jumps-same i jj kk v w js) (rw (A .fields Count) l) (op-kept n rd rd′ e keeps kk ∙ o))
 
   -- a target that stands on a word covered by h
-  target-same : (h s : ℕ) → Within h locks → ((a : ℕ) (z : Expr) → opAt n rd e s ≡ Assign a z → covered h a ≡ true) → rd′ (targetOf e (opAt n rd e s)) ≡ rd (targetOf e (opAt n rd e s))
+  target-same : (h s : ℕ) → Subset h locks → ((a : ℕ) (z : Expr) → opAt n rd e s ≡ Assign a z → covered h a ≡ true) → rd′ (targetOf e (opAt n rd e s)) ≡ rd (targetOf e (opAt n rd e s))
   target-same h s w c = by (opAt n rd e s) refl
     where
       by : (x : Op) → opAt n rd e s ≡ x → rd′ (targetOf e x) ≡ rd (targetOf e x)
@@ -198,7 +199,7 @@ phase-same n rd rd′ e g c locks j (between s k t l jj q m f u z o h y) A =
     in
     between s k t l jj (sectioned-same n rd rd′ e l A q) (named-kept n rd rd′ e (keeps n rd rd′ e l A) s m)
     (rw (op-kept n rd rd′ e (keeps n rd rd′ e l A) s) (f′ ∙ (f ∙ sym (value-kept n rd rd′ e (keeps n rd rd′ e l A)))))
-    (jumps-same n rd rd′ e l A (suc s) jj k (q .valid) (subst (λ (x : ℕ). Within x l) h w) u)
+    (jumps-same n rd rd′ e l A (suc s) jj k (q .valid) (subst (λ (x : ℕ). Subset x l) h w) u)
     (rw (A .fields Count) z)
     (A .fields Owned ∙ (o ∙ sym (held-kept n rd rd′ e (keeps n rd rd′ e l A) k)))
     (held-kept n rd rd′ e (keeps n rd rd′ e l A) k ∙ (h ∙ sym (held-kept n rd rd′ e (keeps n rd rd′ e l A) (suc s))))

@@ -8,7 +8,7 @@ use native.Mathlib.Omega.{arith}
 use Rattle.image.specs.declared.Field.the-variants.{Pc}
 use Rattle.image.specs.Place.{field}
 use Rattle.image.specs.Image.{Image, at, workers, cellsOf}
-use Rattle.engine.specs.Cursor.{idle, cursorAt}
+use Rattle.working.specs.Cursor.{idle, cursorAt}
 use Rattle.claims.specs.Calls.{Traced, recovers, Move, whole, play, from, legal, endsCut, machine}
 use Rattle.claims.specs.Claims.{Rested, Idle, after, mended, working, roundsIn}
 use Rattle.claims.proofs.Worlds.{Running}

@@ -13,14 +13,15 @@ use Rattle.mask.specs.Mask.{has, with, without}
 use Rattle.image.specs.declared.Field.the-variants.{Count, Pc, Intent, Owned, Number, Finished}
 use Rattle.image.specs.Place.{cell, lock, field, own, step, Memory}
 use Rattle.image.specs.Image.{indexOf}
-use Rattle.section.specs.declared.Op.{Op}
-use Rattle.section.specs.declared.Op.the-variants.{Acquire, Release, Assign, Jump, Finish, Unknown}
-use Rattle.section.specs.Op.{opOf, eval}
+use Rattle.code.specs.declared.Op.{Op}
+use Rattle.code.specs.declared.Op.the-variants.{Acquire, Release, Assign, Jump, Finish, Unknown}
+use Rattle.code.specs.Op.{opOf, eval}
 use Rattle.section.specs.Check.{heldBefore}
 use Rattle.section.specs.Valid.{Valid}
-use Rattle.engine.specs.Cursor.{Cursor, idle, on}
-use Rattle.engine.specs.Turn.{operand, codeIn, wordIn, spareAddr, spareVal, activeAddr, activeVal}
-use Rattle.recovery.specs.Recovery.{targetOf, targetTurn, namedStep, sound, lockOk}
+use Rattle.working.specs.Cursor.{Cursor, idle, on}
+use Rattle.plan.specs.Turn.{operand, codeIn, wordIn, spareAddr, spareVal, activeAddr, activeVal}
+use Rattle.soundness.specs.Sound.{targetOf, namedStep, sound, lockOk}
+use Rattle.repair.specs.Plan.{targetTurn}
 use Rattle.claims.specs.Reference.{Given, Job, State}
 use Rattle.claims.proofs.Virtual.{virtual}
 
@@ -94,7 +95,7 @@ module _ (n : ℕ) (rd : Memory) (d : ℕ) where
     leap : (j k a b : ℕ) → Jumps i j k → k < rd (field Count d) → opAt k ≡ Jump a b → Jumps i (suc j) (cond (eqb (wordIn n rd d a) 0) b (suc k))
 
   -- the record holds the section as it was submitted
-  pub record Entered (g : Given) : Type 0 where
+  pub record Lodged (g : Given) : Type 0 where
     pub by : g .worker ≡ d
     pub numbered : g .number ≡ rd (field Number d)
     pub code : (i : ℕ) → i < rd (field Count d) → getD (g .code) i 0 ≡ rd (step d i)
@@ -107,7 +108,7 @@ module _ (n : ℕ) (rd : Memory) (d : ℕ) where
     resting : rd (field Count d) ≡ 0 → rd (field Pc d) ≡ 0 → rd (field Intent d) ≡ 0 → rd (field Owned d) ≡ 0 → Phase g idle 0 0
     -- a section that is not begun
     fresh :
-        (t locks : ℕ) → Sectioned → Entered g → rd (field Pc d) ≡ 0 → rd (field Owned d) ≡ 0 → Nearing 0 t 0 locks (opAt 0)
+        (t locks : ℕ) → Sectioned → Lodged g → rd (field Pc d) ≡ 0 → rd (field Owned d) ≡ 0 → Nearing 0 t 0 locks (opAt 0)
         → Phase g (on 0 t) locks 0
     -- the pc names step s, whose target store is next; also after recovery
     due : (s locks : ℕ) → Sectioned → Named s → Due s locks (opAt s) → Phase g (on s (targetTurn (opAt s))) locks 0

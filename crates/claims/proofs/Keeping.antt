@@ -12,12 +12,12 @@ use native.Mathlib.Omega.{arith}
 use native.Mathlib.Decide.{decLt}
 use Rattle.base.proofs.Bools.{and-left, and-right}
 use Rattle.image.specs.Image.{Image, at}
-use Rattle.engine.specs.declared.Submitted.{Submitted}
-use Rattle.engine.specs.declared.Submitted.the-variants.{Taken, Refused}
-use Rattle.engine.specs.Cursor.{cursorAt}
-use Rattle.engine.specs.Turn.{Outcome, stored, jumped, unheld, waiting, resting, refused, turnAt}
-use Rattle.engine.specs.World.{outcomeAt, outcome}
-use Rattle.engine.specs.Submit.{submitAnswer, submitLeaves}
+use Rattle.intake.specs.declared.Submitted.{Submitted}
+use Rattle.intake.specs.declared.Submitted.the-variants.{Taken, Refused}
+use Rattle.working.specs.Cursor.{cursorAt}
+use Rattle.plan.specs.Turn.{Outcome, stored, jumped, unheld, waiting, resting, refused, turnAt}
+use Rattle.turn.specs.Call.{outcomeAt, outcome}
+use Rattle.intake.specs.Submit.{submitAnswer, submitLeaves}
 use Rattle.recovery.specs.Recovery.{recovery}
 use Rattle.claims.specs.Reference.{given}
 use Rattle.claims.specs.Calls.{Traced, traced, turnBy, turnedAt, rounds, ranBy, submitTrace, recoveredBy, Call, submits, turns, runs, recovers}

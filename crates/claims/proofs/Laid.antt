@@ -13,10 +13,11 @@ use native.Mathlib.Omega.{arith}
 use native.Mathlib.Decide.{ℕ-discrete}
 use Rattle.image.specs.declared.Field.{Field}
 use Rattle.image.specs.declared.Field.the-variants.{Count, Number}
-use Rattle.image.specs.Place.{Place, cell, lock, field, own, step, same, sameField, Memory, upd, updAll}
+use Rattle.image.specs.Place.{Place, cell, lock, field, own, step, Memory}
+use Rattle.image.specs.inner.Same.{same, sameField, upd, updAll}
 use Rattle.image.proofs.Places.{upd-same}
 use Rattle.image.proofs.Lists.{updAll-nil, updAll-cons}
-use Rattle.engine.specs.Submit.{assigns, submission}
+use Rattle.intake.specs.Submit.{assigns, submission}
 use Rattle.claims.proofs.StoreRows.{updAll-append}
 
 -- ---- a row of stores

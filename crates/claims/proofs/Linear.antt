@@ -15,14 +15,14 @@ use Rattle.base.proofs.Bools.{and-left, and-right}
 use Rattle.image.specs.declared.Field.the-variants.{Pc}
 use Rattle.image.specs.Place.{field}
 use Rattle.image.specs.Image.{Image, at, workers, cellsOf, putAll}
-use Rattle.engine.specs.declared.Submitted.{Submitted}
-use Rattle.engine.specs.declared.Submitted.the-variants.{Taken, Refused}
-use Rattle.engine.specs.Cursor.{Cursor, on, cursorAt, placed, allIdle}
-use Rattle.engine.specs.Turn.{turnAt}
-use Rattle.engine.specs.World.{outcomeAt, outcome}
-use Rattle.engine.specs.Submit.{submission, submitAnswer, submitLeaves}
-use Rattle.engine.proofs.Placed.{placed-same, placed-other}
-use Rattle.engine.proofs.Planned.{idle-is}
+use Rattle.intake.specs.declared.Submitted.{Submitted}
+use Rattle.intake.specs.declared.Submitted.the-variants.{Taken, Refused}
+use Rattle.working.specs.Cursor.{Cursor, on, cursorAt, placed, allIdle}
+use Rattle.plan.specs.Turn.{turnAt}
+use Rattle.turn.specs.Call.{outcomeAt, outcome}
+use Rattle.intake.specs.Submit.{submission, submitAnswer, submitLeaves}
+use Rattle.working.proofs.Placed.{placed-same, placed-other}
+use Rattle.working.proofs.Placed.{idle-is}
 use Rattle.claims.specs.Reference.{Given, given, initial}
 use Rattle.claims.specs.Events.{but}
 use Rattle.claims.specs.Calls.{Traced, traced, turnBy, turnedAt, ranBy, submitTrace, Call, submits, turns, runs, recovers, Move, whole, cut, call, lent, move, play, from, recovering, plain, callable, machine}
@@ -120,7 +120,7 @@ module _ (mark n D : ℕ) (cells : List ℕ) where
   -- ---- a run
 
   -- stores for every turn, and paired
-  record Both (w : Traced) : Type 0 where
+  record Coupled (w : Traced) : Type 0 where
     spare : Spare mark n D cells w
     paired : Paired mark n D cells w
 
@@ -128,10 +128,10 @@ module _ (mark n D : ℕ) (cells : List ℕ) where
   unfolding turnedAt outcomeAt
   paired-turned w d r l left paired = paired-turn mark n D cells w d r l left paired
 
-  both-turned : (w : Traced) (d : ℕ) → d < D → Both w → Both (turnedAt mark n w d)
+  both-turned : (w : Traced) (d : ℕ) → d < D → Coupled w → Coupled (turnedAt mark n w d)
   both-turned w d l b = by (spare-turn mark n D cells w d (b .spare) l) (isMoving (turnAt n (at n (w .world .image)) d (cursorAt (w .world .cursors) d))) refl
     where
-      by : Turn mark n D cells w d → (q : Bool) → isMoving (turnAt n (at n (w .world .image)) d (cursorAt (w .world .cursors) d)) ≡ q → Both (turnedAt mark n w d)
+      by : Turn mark n D cells w d → (q : Bool) → isMoving (turnAt n (at n (w .world .image)) d (cursorAt (w .world .cursors) d)) ≡ q → Coupled (turnedAt mark n w d)
       by t true e =
           let f = t .falls e in
           let k = b .spare .stores in
@@ -141,7 +141,7 @@ module _ (mark n D : ℕ) (cells : List ℕ) where
   run-call : (w : Traced) (r : ℕ) → Running mark n D cells w → plenty mark n D cells ≤ w .world .left → Paired mark n D cells w → Paired mark n D cells (ranBy mark n w r)
   run-call w r h l paired =
       rw (ran-is mark n D cells w r (h .reached))
-      (rounds-keep mark n D cells Both both-turned r w (record { spare = spare-lent mark n D cells w (w .world .left) h (omega arith); paired = paired }) .paired)
+      (rounds-keep mark n D cells Coupled both-turned r w (record { spare = spare-lent mark n D cells w (w .world .left) h (omega arith); paired = paired }) .paired)
 
   -- ---- each call but a recovery
 

@@ -13,13 +13,13 @@ use Rattle.mask.specs.Mask.{has, with}
 use Rattle.image.specs.declared.Field.the-variants.{Count, Pc, Intent, Owned}
 use Rattle.image.specs.Place.{lock, field, Memory}
 use Rattle.image.specs.Image.{indexOf}
-use Rattle.section.specs.declared.Op.{Op}
-use Rattle.section.specs.declared.Op.the-variants.{Acquire, Release, Assign, Jump, Finish, Unknown}
+use Rattle.code.specs.declared.Op.{Op}
+use Rattle.code.specs.declared.Op.the-variants.{Acquire, Release, Assign, Jump, Finish, Unknown}
 use Rattle.section.proofs.Facts.{valid-passed}
 use Rattle.section.proofs.Held.{after-release}
-use Rattle.engine.specs.Cursor.{Cursor}
-use Rattle.engine.specs.Turn.{codeIn, activeAddr}
-use Rattle.recovery.specs.Recovery.{targetOf, owedOf, owed, namedStep, namedOp, sectionOk, entryOk, pcOk}
+use Rattle.working.specs.Cursor.{Cursor}
+use Rattle.plan.specs.Turn.{codeIn, activeAddr}
+use Rattle.soundness.specs.Sound.{targetOf, owedOf, owed, namedStep, namedOp, sectionOk, entryOk, pcOk}
 use Rattle.claims.specs.Reference.{Given}
 use Rattle.claims.proofs.Invariant.{opAt, heldAt, Sectioned, logsHeld, Named, Nearing, Due, Phase, resting, fresh, due, unlocking, unlocked, between, ended, Live, Crashed}
 use Rattle.claims.proofs.Covers.{Covered, Parts, parts-crashed}

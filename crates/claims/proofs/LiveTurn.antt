@@ -11,9 +11,10 @@ use native.Mathlib.Decide.{ℕ-discrete}
 use native.Mathlib.Nat.{div-lt-iff-lt-mul}
 use Rattle.mask.specs.Mask.{has, with, without}
 use Rattle.mask.proofs.Laws.{has-with, has-with-other, has-without, has-without-other}
-use Rattle.image.specs.Place.{Place, cell, lock, field, own, sameField, Memory, upd}
-use Rattle.engine.specs.Cursor.{Cursor}
-use Rattle.engine.specs.Turn.{Outcome, stored, jumped, unheld, waiting, resting, refused}
+use Rattle.image.specs.Place.{Place, cell, lock, field, own, Memory}
+use Rattle.image.specs.inner.Same.{sameField, upd}
+use Rattle.working.specs.Cursor.{Cursor}
+use Rattle.plan.specs.Turn.{Outcome, stored, jumped, unheld, waiting, resting, refused}
 use Rattle.claims.specs.Reference.{Given}
 use Rattle.claims.specs.Events.{but}
 use Rattle.claims.specs.Calls.{isPc}

@@ -14,10 +14,10 @@ use lib.Seq.{getD-set-same, getD-set-other, set-set, set-comm}
 use lib.Dec.{ltb, eqb}
 use Rattle.mask.specs.Mask.{with, without}
 use Rattle.mask.proofs.Laws.{has-none}
-use Rattle.section.specs.declared.Expr.{Expr}
-use Rattle.section.specs.declared.Op.{Op}
-use Rattle.section.specs.declared.Op.the-variants.{Acquire, Release, Assign, Jump, Finish, Unknown}
-use Rattle.section.specs.Op.{opOf, eval}
+use Rattle.code.specs.declared.Expr.{Expr}
+use Rattle.code.specs.declared.Op.{Op}
+use Rattle.code.specs.declared.Op.the-variants.{Acquire, Release, Assign, Jump, Finish, Unknown}
+use Rattle.code.specs.Op.{opOf, eval}
 use Rattle.claims.specs.Reference.{Job, job, State, state, readIn, heldIn, taken, onto, assigned, whole, front, advance, andThen, follow, noneLeft, Given, start, enqueue, feed, initial}
 
 -- ---- orders in two parts

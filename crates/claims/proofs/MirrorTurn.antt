@@ -12,16 +12,18 @@ use lib.Dec.{eqb}
 use borrow.Author.Tests.{eqb-true}
 use Rattle.mask.proofs.Laws.{has-with}
 use Rattle.image.specs.declared.Field.the-variants.{Count, Pc, Intent, Owned, Finished}
-use Rattle.image.specs.Place.{Place, lock, field, Memory, upd}
-use Rattle.section.specs.declared.Op.{Op}
-use Rattle.section.specs.declared.Op.the-variants.{Acquire, Release, Assign, Jump, Finish, Unknown}
-use Rattle.section.specs.Op.{eval}
-use Rattle.engine.specs.Cursor.{Cursor, idle, on}
-use Rattle.engine.specs.Turn.{Outcome, stored, jumped, unheld, waiting, resting, refused, operand, wordIn, spareAddr, spareVal, activeVal, switched, logged, lockTurn, unlockTurn, acquireTurn, releaseTurn, finishTurn, turnAt}
-use Rattle.recovery.specs.Recovery.{targetOf, targetTurn}
+use Rattle.image.specs.Place.{Place, lock, field, Memory}
+use Rattle.image.specs.inner.Same.{upd}
+use Rattle.code.specs.declared.Op.{Op}
+use Rattle.code.specs.declared.Op.the-variants.{Acquire, Release, Assign, Jump, Finish, Unknown}
+use Rattle.code.specs.Op.{eval}
+use Rattle.working.specs.Cursor.{Cursor, idle, on}
+use Rattle.plan.specs.Turn.{Outcome, stored, jumped, unheld, waiting, resting, refused, operand, wordIn, spareAddr, spareVal, activeVal, switched, logged, lockTurn, unlockTurn, acquireTurn, releaseTurn, finishTurn, turnAt}
+use Rattle.soundness.specs.Sound.{targetOf}
+use Rattle.repair.specs.Plan.{targetTurn}
 use Rattle.claims.specs.Reference.{Given, Job, State, follow, enqueue, initial}
 use Rattle.claims.specs.Calls.{isPc}
-use Rattle.claims.proofs.Invariant.{opAt, heldAt, Sectioned, logsHeld, Nearing, Jumps, Entered, Phase, resting as rests, fresh, due, unlocking, unlocked, between, ended, Live, JobOf, Mirrors}
+use Rattle.claims.proofs.Invariant.{opAt, heldAt, Sectioned, logsHeld, Nearing, Jumps, Lodged, Phase, resting as rests, fresh, due, unlocking, unlocked, between, ended, Live, JobOf, Mirrors}
 use Rattle.claims.proofs.Machine.{follow-then, initial-more}
 use Rattle.claims.proofs.Entries.{named-pc, operand-no-pc, addr-no-pc, val-no-pc}
 use Rattle.claims.proofs.Stutter.{mirror-kept, unmirrored-lock, unmirrored-intent, unmirrored-finished, unmirrored-spare-addr, unmirrored-spare-val, unmirrored-resting, mirror-target}
@@ -102,7 +104,7 @@ module _ (n D : ℕ) (rd : Memory) (cursor : ℕ → Cursor) (locks jumps : ℕ 
     (S : State) (M : Mirrors n D rd S) where
   -- a section that is not begun
   fresh-turn :
-      (t : ℕ) → Sectioned n rd d → Entered n rd d (given d) → rd (field Pc d) ≡ 0 → rd (field Owned d) ≡ 0 → Nearing n rd d 0 t 0 (locks d) (opAt n rd d 0)
+      (t : ℕ) → Sectioned n rd d → Lodged n rd d (given d) → rd (field Pc d) ≡ 0 → rd (field Owned d) ≡ 0 → Nearing n rd d 0 t 0 (locks d) (opAt n rd d 0)
       → Mirrored n D rd S 0 (given d) d (turnAt n rd d (on 0 t))
   fresh-turn t sec H p o N =
       let (a, x) = sec .valid .first in

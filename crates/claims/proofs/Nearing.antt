@@ -12,20 +12,22 @@ use lib.Dec.{eqb}
 use borrow.Author.Tests.{eqb-true, eqb-false}
 use Rattle.mask.specs.Mask.{has, with, without}
 use Rattle.image.specs.declared.Field.the-variants.{Count, Pc, Intent, Owned, Number, Finished}
-use Rattle.image.specs.Place.{lock, field, Memory, upd}
+use Rattle.image.specs.Place.{lock, field, Memory}
+use Rattle.image.specs.inner.Same.{upd}
 use Rattle.image.specs.Image.{indexOf}
 use Rattle.image.proofs.Places.{upd-same}
-use Rattle.section.specs.declared.Expr.{Expr}
-use Rattle.section.specs.declared.Op.{Op}
-use Rattle.section.specs.declared.Op.the-variants.{Acquire, Release, Assign, Jump, Finish, Unknown}
-use Rattle.section.specs.Op.{eval}
+use Rattle.code.specs.declared.Expr.{Expr}
+use Rattle.code.specs.declared.Op.{Op}
+use Rattle.code.specs.declared.Op.the-variants.{Acquire, Release, Assign, Jump, Finish, Unknown}
+use Rattle.code.specs.Op.{eval}
 use Rattle.section.specs.Valid.{Valid}
 use Rattle.section.proofs.Facts.{acquire-above}
 use Rattle.section.proofs.Held.{after-acquire, after-release, after-jump}
-use Rattle.section.proofs.Ranges.{acquire-range}
-use Rattle.engine.specs.Cursor.{on}
-use Rattle.engine.specs.Turn.{operand, codeIn, wordIn, spareAddr, spareVal, switched, opTurn, turnAt, stored, waiting}
-use Rattle.recovery.specs.Recovery.{targetOf, targetTurn}
+use Rattle.code.proofs.Ranges.{acquire-range}
+use Rattle.working.specs.Cursor.{on}
+use Rattle.plan.specs.Turn.{operand, codeIn, wordIn, spareAddr, spareVal, switched, opTurn, turnAt, stored, waiting}
+use Rattle.soundness.specs.Sound.{targetOf}
+use Rattle.repair.specs.Plan.{targetTurn}
 use Rattle.claims.specs.Reference.{Given}
 use Rattle.claims.proofs.Invariant.{opAt, heldAt, Sectioned, logsHeld, Named, Nearing, Due, leap, Phase, due, ended}
 use Rattle.claims.proofs.Turns.{inRecord, takes, Stepped}

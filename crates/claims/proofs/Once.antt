@@ -15,14 +15,14 @@ use native.Mathlib.Decide.{ℕ-discrete}
 use Rattle.image.specs.declared.Field.the-variants.{Count, Pc, Number, Finished as FinishedField}
 use Rattle.image.specs.Place.{field, Memory}
 use Rattle.image.specs.Image.{Image, at, workers, cellsOf}
-use Rattle.section.specs.declared.Op.{Op}
-use Rattle.section.specs.declared.Op.the-variants.{Acquire, Release, Assign, Jump, Finish, Unknown}
-use Rattle.section.specs.Op.{opOf}
+use Rattle.code.specs.declared.Op.{Op}
+use Rattle.code.specs.declared.Op.the-variants.{Acquire, Release, Assign, Jump, Finish, Unknown}
+use Rattle.code.specs.Op.{opOf}
 use Rattle.section.proofs.Steps.{ends}
-use Rattle.engine.specs.Turn.{codeIn}
-use Rattle.recovery.specs.Recovery.{namedStep, sectionOk, entryOk, pcOk}
-use Rattle.engine.specs.declared.Standing.the-variants.{NotBegun, Begun, Finished}
-use Rattle.engine.specs.Asking.{standingIn}
+use Rattle.plan.specs.Turn.{codeIn}
+use Rattle.soundness.specs.Sound.{namedStep, sectionOk, entryOk, pcOk}
+use Rattle.intake.specs.declared.Standing.the-variants.{NotBegun, Begun, Finished}
+use Rattle.intake.specs.Asking.{standingIn}
 use Rattle.claims.specs.Reference.{Job, State, follow, initial}
 use Rattle.claims.specs.Events.{takenIn, readFrom}
 use Rattle.claims.specs.Calls.{Traced, Move, from, legal, machine}
@@ -178,16 +178,16 @@ module _ (mark n : ℕ) (wide : 8 ≤ n) (narrow : n ≤ 64) where
     abbrev settled : List Move → Traced
     settled ys = after mark n m (mended mark n xs ++ ys)
 
-    abbrev Told : Traced → Type 0
-    Told = Telling mark n D (cellsOf m) (starts mark n m rest) Above (λ e f k q. q)
+    abbrev Ledger : Traced → Type 0
+    Ledger = Telling mark n D (cellsOf m) (starts mark n m rest) Above (λ e f k q. q)
 
     abbrev Tell : Traced → Type 0
     Tell = Tells mark n D (cellsOf m) (starts mark n m rest) Above (λ e f k q. q)
 
-    start-told : Told (from m)
+    start-told : Ledger (from m)
     start-told = rest-telling mark n m rest Above (λ e f k q. q)
 
-    keeps-telling : Keeps mark n D (cellsOf m) Told Tell Any
+    keeps-telling : Keeps mark n D (cellsOf m) Ledger Tell Any
     keeps-telling = telling-keeps mark n D (cellsOf m) (starts mark n m rest) Above (λ e f k q. q) Any (λ i d k args ws a q. q) wide narrow
 
     told-list : Worth mark n D (cellsOf m) w × Tell w

@@ -13,16 +13,17 @@ use native.Mathlib.Omega.{arith}
 use native.Mathlib.Numerals.{add-one}
 use native.Mathlib.Decide.{ℕ-discrete}
 use Rattle.image.specs.declared.Field.the-variants.{Count}
-use Rattle.image.specs.Place.{Place, cell, field, own, step, Memory, upd}
+use Rattle.image.specs.Place.{Place, cell, field, own, step, Memory}
+use Rattle.image.specs.inner.Same.{upd}
 use Rattle.image.specs.Image.{at}
-use Rattle.section.specs.declared.Expr.{Expr}
-use Rattle.section.specs.declared.Op.the-variants.{Assign}
-use Rattle.section.specs.Op.{opOf, eval}
+use Rattle.code.specs.declared.Expr.{Expr}
+use Rattle.code.specs.declared.Op.the-variants.{Assign}
+use Rattle.code.specs.Op.{opOf, eval}
 use Rattle.section.proofs.Held.{after-assign}
-use Rattle.section.proofs.Ranges.{assign-range, expr-range}
-use Rattle.engine.specs.Cursor.{Cursor, on, cursorAt}
-use Rattle.engine.specs.Turn.{operand, codeIn, wordIn, spareAddr}
-use Rattle.engine.proofs.Operands.{operand-valid}
+use Rattle.code.proofs.Ranges.{assign-range, expr-range}
+use Rattle.working.specs.Cursor.{Cursor, on, cursorAt}
+use Rattle.plan.specs.Turn.{operand, codeIn, wordIn, spareAddr}
+use Rattle.plan.proofs.Operands.{operand-valid}
 use Rattle.claims.specs.Reference.{job, State, state, Given, start, readIn, onto, assigned}
 use Rattle.claims.specs.Calls.{Traced, play}
 use Rattle.claims.proofs.Invariant.{heldAt}

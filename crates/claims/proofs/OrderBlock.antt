@@ -13,16 +13,17 @@ use native.Mathlib.Omega.{arith}
 use native.Mathlib.Numerals.{add-one}
 use Rattle.base.proofs.Bools.{and-both}
 use Rattle.image.specs.declared.Field.the-variants.{Count, Pc, Number, Finished}
-use Rattle.image.specs.Place.{cell, lock, field, own, step, Memory, upd}
+use Rattle.image.specs.Place.{cell, lock, field, own, step, Memory}
+use Rattle.image.specs.inner.Same.{upd}
 use Rattle.image.specs.Image.{at}
 use Rattle.image.proofs.Places.{upd-same}
-use Rattle.section.specs.declared.Op.{Op}
-use Rattle.section.specs.declared.Op.the-variants.{Jump, Finish}
-use Rattle.section.specs.Op.{opOf}
+use Rattle.code.specs.declared.Op.{Op}
+use Rattle.code.specs.declared.Op.the-variants.{Jump, Finish}
+use Rattle.code.specs.Op.{opOf}
 use Rattle.section.proofs.Held.{after-jump}
-use Rattle.section.proofs.Ranges.{jump-range}
-use Rattle.engine.specs.Cursor.{Cursor, idle, on, cursorAt}
-use Rattle.engine.specs.Turn.{operand, codeIn, wordIn, jumped}
+use Rattle.code.proofs.Ranges.{jump-range}
+use Rattle.working.specs.Cursor.{Cursor, idle, on, cursorAt}
+use Rattle.plan.specs.Turn.{operand, codeIn, wordIn, jumped}
 use Rattle.claims.specs.Reference.{job, State, state, Given, start, readIn, onto}
 use Rattle.claims.specs.Events.{but}
 use Rattle.claims.specs.Calls.{Traced, Move, play, machine}

@@ -14,14 +14,14 @@ use Rattle.base.proofs.Bools.{and-both}
 use Rattle.image.specs.declared.Field.the-variants.{Finished}
 use Rattle.image.specs.Place.{field}
 use Rattle.image.specs.Image.{at}
-use Rattle.engine.specs.Cursor.{idle, on, cursorAt}
+use Rattle.working.specs.Cursor.{idle, on, cursorAt}
 use Rattle.claims.specs.Reference.{State, Given, start, advance}
 use Rattle.claims.specs.Events.{but}
 use Rattle.claims.specs.Calls.{Traced, Move, move, play, machine, callable, submits}
 use Rattle.claims.specs.Claims.{callsOf, ofWorker}
 use Rattle.claims.proofs.LiveTurn.{but-same, but-other, changed}
 use Rattle.claims.proofs.OrderTurn.{view-few}
-use Rattle.claims.proofs.OrderLevel.{Idles, Stand, Even, Begun, even-view}
+use Rattle.claims.proofs.OrderLevel.{Idles, Stand, Even, AllBegun, even-view}
 use Rattle.claims.proofs.OrderBlock.{Block}
 use Rattle.claims.proofs.OrderStep.{none-some, step-block}
 use Rattle.claims.proofs.OrderSubmit.{Able, nextNumber, submitNext, next-room, next-view, next-even}
@@ -50,11 +50,11 @@ pub record EntryHad (mark n D : ℕ) (w : Traced) (d : ℕ) (t : State) (gs : �
   pub able : (e : ℕ) → e < D → Able n e (rests e)
   pub even : Even mark n D (play mark n moves w) t rests
   pub kept : (e : ℕ) → ofWorker e (play mark n moves w .trace .taken) ++ rests e ≡ ofWorker e (w .trace .taken) ++ gs e
-  pub begun : Begun w → Begun (play mark n moves w)
+  pub begun : AllBegun w → AllBegun (play mark n moves w)
 
 block-begun :
     (mark n D : ℕ) (w : Traced) (d : ℕ) (t : State) (gs : ℕ → List Given) → (b : Block mark n D w d t gs)
-    → ((e : ℕ) → e ≢ d → cursorAt (w .world .cursors) e ≢ on 0 0) → Begun (play mark n (b .moves) w)
+    → ((e : ℕ) → e ≢ d → cursorAt (w .world .cursors) e ≢ on 0 0) → AllBegun (play mark n (b .moves) w)
 block-begun mark n D w d t gs b h e = by (ℕ-discrete e d)
   where
     by : Dec (e ≡ d) → cursorAt (play mark n (b .moves) w .world .cursors) e ≢ on 0 0

@@ -2,7 +2,7 @@
 -- queue is of sections not yet submitted (`Idles`); or it stands before an instruction of the queue's first, which its record
 -- holds word by word (`Works`). The sections not yet submitted bear the numbers that come next. The owner words name who holds
 -- the locks, and the cells are the state's. A change of one worker's words, of its queue and of the cells keeps the others as
--- they are (`even-after`). Where no worker has just submitted (`Begun`), each stands where the claims say (`even-stands`).
+-- they are (`even-after`). Where no worker has just submitted (`AllBegun`), each stands where the claims say (`even-stands`).
 use Prim.Native.Nat.{ℕ, _+_, _^_, _<_}
 use mathlib.Core.Path.{_≡_, refl, ap, subst, _∙_, sym, fun-ext}
 use mathlib.Core.Logic.{_≢_, _⊎_, inl, inr}
@@ -18,9 +18,9 @@ use Rattle.image.specs.Place.{cell, field, own, step, Memory}
 use Rattle.image.specs.Image.{at, workers, headerOk}
 use Rattle.section.specs.Valid.{Valid}
 use Rattle.section.proofs.Held.{held-cong}
-use Rattle.engine.specs.Cursor.{Cursor, idle, on, cursorAt}
-use Rattle.engine.specs.Turn.{codeIn}
-use Rattle.engine.proofs.Placed.{Full}
+use Rattle.working.specs.Cursor.{Cursor, idle, on, cursorAt}
+use Rattle.plan.specs.Turn.{codeIn}
+use Rattle.working.proofs.Placed.{Full}
 use Rattle.claims.specs.Reference.{Job, job, State, state, Given, start}
 use Rattle.claims.specs.Events.{but}
 use Rattle.claims.specs.Calls.{Traced}
@@ -88,8 +88,8 @@ pub record Even (mark n D : ℕ) (w : Traced) (s : State) (gs : ℕ → List Giv
 -- ---- where the workers stand
 
 -- no worker is before a section's first instruction
-abbrev pub Begun : Traced → Type 0
-Begun w = (e : ℕ) → cursorAt (w .world .cursors) e ≢ on 0 0
+abbrev pub AllBegun : Traced → Type 0
+AllBegun w = (e : ℕ) → cursorAt (w .world .cursors) e ≢ on 0 0
 
 -- sections that are not submitted have no cursor
 waiting-cursor : (n : ℕ) (gs : List Given) → cursorOf (map (start n) gs) ≡ idle
@@ -97,7 +97,7 @@ waiting-cursor n [] = refl
 waiting-cursor n (g ∷ gs) = refl
 
 pub even-stands :
-    (mark n D : ℕ) (w : Traced) (s : State) (gs : ℕ → List Given) → Even mark n D w s gs → Begun w → (e : ℕ) → e < D
+    (mark n D : ℕ) (w : Traced) (s : State) (gs : ℕ → List Given) → Even mark n D w s gs → AllBegun w → (e : ℕ) → e < D
     → cursorAt (w .world .cursors) e ≡ cursorOf (getD (s .queues) e [])
 even-stands mark n D w s gs E begun e l = by (E .level .stands e l)
   where

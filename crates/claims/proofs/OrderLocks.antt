@@ -14,15 +14,16 @@ use Rattle.base.proofs.Bools.{or-left, or-right}
 use Rattle.mask.specs.Mask.{has, with, without}
 use Rattle.mask.proofs.Laws.{has-none}
 use Rattle.image.specs.declared.Field.the-variants.{Count, Intent, Owned}
-use Rattle.image.specs.Place.{lock, field, step, Memory, upd}
+use Rattle.image.specs.Place.{lock, field, step, Memory}
+use Rattle.image.specs.inner.Same.{upd}
 use Rattle.image.specs.Image.{at}
 use Rattle.image.proofs.Places.{upd-same}
-use Rattle.section.specs.declared.Op.the-variants.{Acquire, Release}
-use Rattle.section.specs.Op.{opOf}
+use Rattle.code.specs.declared.Op.the-variants.{Acquire, Release}
+use Rattle.code.specs.Op.{opOf}
 use Rattle.section.proofs.Held.{after-acquire, after-release}
-use Rattle.section.proofs.Ranges.{acquire-range, release-range}
-use Rattle.engine.specs.Cursor.{Cursor, on, cursorAt}
-use Rattle.engine.specs.Turn.{codeIn, turnAt, stored, waiting, unheld}
+use Rattle.code.proofs.Ranges.{acquire-range, release-range}
+use Rattle.working.specs.Cursor.{Cursor, on, cursorAt}
+use Rattle.plan.specs.Turn.{codeIn, turnAt, stored, waiting, unheld}
 use Rattle.claims.specs.Reference.{Job, job, State, Given, start, heldIn, taken, onto}
 use Rattle.claims.specs.Events.{but}
 use Rattle.claims.specs.Calls.{Traced, play}

@@ -1,5 +1,5 @@
 -- The four turns of a logged store, one after the other: the spare entry's address and value, the pc, and the target. The
--- first three change words of the log alone (`Noted`), so that after the fourth the memory is, but for the log, the one with
+-- first three change words of the log alone (`LogOnly`), so that after the fourth the memory is, but for the log, the one with
 -- the value at the target.
 use Prim.Native.Nat.{ℕ, _+_, _<_, _≤_}
 use mathlib.Core.Path.{_≡_, refl, ap, subst₂, _∙_, sym, fun-ext}
@@ -11,16 +11,17 @@ use borrow.Author.Tests.{lt-ltb, ne-eqb}
 use native.Mathlib.Omega.{arith}
 use Rattle.image.specs.declared.Field.{Field}
 use Rattle.image.specs.declared.Field.the-variants.{Count, Pc, Addr0, Val0, Addr1, Val1, Intent, Owned, Number, Finished}
-use Rattle.image.specs.Place.{Place, cell, lock, field, own, step, sameField, valid, Memory, upd}
+use Rattle.image.specs.Place.{Place, cell, lock, field, own, step, valid, Memory}
+use Rattle.image.specs.inner.Same.{sameField, upd}
 use Rattle.image.specs.Image.{indexOf}
-use Rattle.section.specs.declared.Op.{Op}
-use Rattle.section.specs.Op.{opOf}
+use Rattle.code.specs.declared.Op.{Op}
+use Rattle.code.specs.Op.{opOf}
 use Rattle.section.specs.Check.{Code}
 use Rattle.section.specs.Valid.{Valid}
-use Rattle.section.proofs.Ranges.{opTurns}
-use Rattle.engine.specs.Cursor.{Cursor, on}
-use Rattle.engine.specs.Turn.{codeIn, spareAddr, spareVal, activeVal, switched, logged, opTurn, stored}
-use Rattle.engine.proofs.Placed.{sayable}
+use Rattle.code.proofs.Ranges.{opTurns}
+use Rattle.working.specs.Cursor.{Cursor, on}
+use Rattle.plan.specs.Turn.{codeIn, spareAddr, spareVal, activeVal, switched, logged, opTurn, stored}
+use Rattle.working.proofs.Placed.{sayable}
 use Rattle.claims.specs.Reference.{Given}
 use Rattle.claims.specs.Calls.{Traced, turns, Move, whole, play}
 use Rattle.claims.proofs.Fields.{spare-addr-other, spare-val-other, spare-val-now, next-value}
@@ -47,7 +48,7 @@ pub codes-same :
 codes-same n rd rd′ d k x c s h = record { valid = valid-same n rd rd′ d c s (h .valid); below = rw c (h .below); op = ap opOf (s k) ∙ h .op }
 
 -- the memories differ at most in words of worker d's log
-pub record Noted (rd rd′ : Memory) (d : ℕ) : Type 0 where
+pub record LogOnly (rd rd′ : Memory) (d : ℕ) : Type 0 where
   pub count : rd′ (field Count d) ≡ rd (field Count d)
   pub intent : rd′ (field Intent d) ≡ rd (field Intent d)
   pub owned : rd′ (field Owned d) ≡ rd (field Owned d)
@@ -73,7 +74,7 @@ module _ (n : ℕ) (rd : Memory) (d x v y : ℕ) where
   private-noted : (f : Field) → sameField f Addr0 ≡ false → sameField f Addr1 ≡ false → sameField f Val0 ≡ false → sameField f Val1 ≡ false → valued (field f d) ≡ rd (field f d)
   private-noted f a b c e = spare-val-other n addressed d v f c e ∙ spare-addr-other n rd d x f a b
 
-  noted : Noted rd (upd valued (field Pc d) y) d
+  noted : LogOnly rd (upd valued (field Pc d) y) d
   noted =
       record {
         count = private-noted Count refl refl refl refl;
@@ -100,7 +101,7 @@ pub record Logs (n d k t : ℕ) (x : Op) (p : Place) (val : Memory → ℕ) (nex
 -- what they leave
 pub record Wrote (mark n D : ℕ) (w : Traced) (rd : Memory) (d : ℕ) (p : Place) (v : ℕ) (next : Cursor) (cur : ℕ → Cursor) (taken : List Given) : Type 0 where
   pub before : Memory
-  pub noted : Noted rd before d
+  pub noted : LogOnly rd before d
   pub view : View mark n D (play mark n (turnsOf 4 d) w) (upd before p v) d next cur taken
 
 pub log-turns :

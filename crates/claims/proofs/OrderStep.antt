@@ -9,10 +9,10 @@ use lib.ListN.{getD}
 use native.Mathlib.Omega.{arith}
 use Rattle.image.specs.Place.{step}
 use Rattle.image.specs.Image.{at}
-use Rattle.section.specs.declared.Op.{Op}
-use Rattle.section.specs.declared.Op.the-variants.{Acquire, Release, Assign, Jump, Finish, Unknown}
-use Rattle.section.specs.Op.{opOf}
-use Rattle.engine.specs.Cursor.{cursorAt}
+use Rattle.code.specs.declared.Op.{Op}
+use Rattle.code.specs.declared.Op.the-variants.{Acquire, Release, Assign, Jump, Finish, Unknown}
+use Rattle.code.specs.Op.{opOf}
+use Rattle.working.specs.Cursor.{cursorAt}
 use Rattle.claims.specs.Reference.{State, Given, start, taken, whole, advance}
 use Rattle.claims.specs.Calls.{Traced}
 use Rattle.claims.proofs.OrderLevel.{Works, Even}

@@ -10,19 +10,20 @@ use lib.Seq.{set-getD, take-all}
 use borrow.Author.Tests.{lt-ltb, eq-eqb}
 use native.Mathlib.Omega.{arith}
 use Rattle.image.specs.declared.Field.the-variants.{Count, Pc, Intent, Owned, Finished}
-use Rattle.image.specs.Place.{field, Memory, updAll}
+use Rattle.image.specs.Place.{field, Memory}
+use Rattle.image.specs.inner.Same.{updAll}
 use Rattle.image.specs.Image.{at, putAll}
 use Rattle.image.proofs.Lists.{header-all, workers-all}
 use Rattle.section.specs.declared.Verdict.the-variants.{Pass}
 use Rattle.section.specs.Check.{codeOf, check}
 use Rattle.section.proofs.Held.{held-zero}
 use Rattle.section.proofs.Facts.{passed-valid, check-cong, check-parts}
-use Rattle.engine.specs.declared.Submitted.the-variants.{Taken}
-use Rattle.engine.specs.Cursor.{Cursor, idle, on, cursorAt}
-use Rattle.engine.specs.Turn.{codeIn}
-use Rattle.engine.specs.Submit.{submission, free, submitAnswer}
-use Rattle.engine.proofs.Placed.{placed-same, placed-other}
-use Rattle.engine.proofs.Submission.{submission-length, submission-valid}
+use Rattle.intake.specs.declared.Submitted.the-variants.{Taken}
+use Rattle.working.specs.Cursor.{Cursor, idle, on, cursorAt}
+use Rattle.plan.specs.Turn.{codeIn}
+use Rattle.intake.specs.Submit.{submission, free, submitAnswer}
+use Rattle.working.proofs.Placed.{placed-same, placed-other}
+use Rattle.intake.proofs.Submission.{submission-length, submission-valid}
 use Rattle.claims.specs.Reference.{Job, State, state, Given, given, start}
 use Rattle.claims.specs.Events.{but}
 use Rattle.claims.specs.Calls.{Traced, submits, Move, whole, call, move, lent, areWords}

@@ -10,14 +10,15 @@ use lib.Dec.{eqb}
 use borrow.Author.Tests.{lt-ltb}
 use native.Mathlib.Omega.{arith}
 use Rattle.image.specs.declared.Field.the-variants.{Pc}
-use Rattle.image.specs.Place.{Place, field, valid, Memory, upd}
+use Rattle.image.specs.Place.{Place, field, valid, Memory}
+use Rattle.image.specs.inner.Same.{upd}
 use Rattle.image.specs.Image.{at, workers, headerOk}
 use Rattle.image.proofs.Header.{Sized, header-sized, header-workers}
 use Rattle.image.proofs.Stores.{header-store, workers-store}
-use Rattle.engine.specs.Cursor.{Cursor, cursorAt}
-use Rattle.engine.specs.Turn.{Outcome, stored, jumped, turnAt}
-use Rattle.engine.specs.World.{outcomeAt, outcome}
-use Rattle.engine.proofs.Placed.{Full, sayable, placed-same, placed-other}
+use Rattle.working.specs.Cursor.{Cursor, cursorAt}
+use Rattle.plan.specs.Turn.{Outcome, stored, jumped, turnAt}
+use Rattle.turn.specs.Call.{outcomeAt, outcome}
+use Rattle.working.proofs.Placed.{Full, sayable, placed-same, placed-other}
 use Rattle.claims.specs.Reference.{Given}
 use Rattle.claims.specs.Calls.{Trace, Traced, recording, isPc, call, turns, whole, move, lent}
 use Rattle.claims.proofs.AtStore.{memory-store}

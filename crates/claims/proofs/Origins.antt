@@ -8,18 +8,18 @@ use Rattle.image.specs.declared.Field.{Field}
 use Rattle.image.specs.declared.Field.the-variants.{Count, Pc, Intent, Owned, Number, Finished}
 use Rattle.image.specs.Place.{field, Memory, own}
 use Rattle.image.specs.Image.{indexOf}
-use Rattle.section.specs.declared.Op.{Op}
-use Rattle.section.specs.declared.Op.the-variants.{Acquire, Release, Assign, Jump, Finish, Unknown}
-use Rattle.section.specs.Op.{opOf}
+use Rattle.code.specs.declared.Op.{Op}
+use Rattle.code.specs.declared.Op.the-variants.{Acquire, Release, Assign, Jump, Finish, Unknown}
+use Rattle.code.specs.Op.{opOf}
 use Rattle.section.specs.Check.{Code, heldBefore}
 use Rattle.section.specs.Valid.{Valid}
 use Rattle.section.proofs.Held.{held-zero}
-use Rattle.section.proofs.Ranges.{known, opTurns}
-use Rattle.engine.specs.Cursor.{on}
-use Rattle.engine.specs.Turn.{operand, codeIn, wordIn, activeAddr, activeVal}
-use Rattle.recovery.specs.Recovery.{targetOf}
+use Rattle.code.proofs.Ranges.{known, opTurns}
+use Rattle.working.specs.Cursor.{on}
+use Rattle.plan.specs.Turn.{operand, codeIn, wordIn, activeAddr, activeVal}
+use Rattle.soundness.specs.Sound.{targetOf}
 use Rattle.claims.specs.Reference.{Given}
-use Rattle.claims.proofs.Invariant.{opAt, heldAt, Sectioned, logsHeld, Named, Nearing, Jumps, stay, leap, Entered, Phase, fresh, between}
+use Rattle.claims.proofs.Invariant.{opAt, heldAt, Sectioned, logsHeld, Named, Nearing, Jumps, stay, leap, Lodged, Phase, fresh, between}
 use Rattle.claims.proofs.Fields.{KeepsNamed, Quiet, active-addr-kept, active-val-kept, word-kept}
 
 -- ---- what is kept with the pc, the section and the active entry
@@ -65,7 +65,7 @@ module _ (n : ℕ) (rd rd′ : Memory) (d : ℕ) (k : KeepsNamed n rd rd′ d) w
         logs = subst (λ (x : Op). logsHeld n rd′ d s x) (sym (op-kept s)) (private-logs s (opAt n rd d s) (m .logs));
       }
 
-  pub entered-kept : ((i : ℕ) → rd′ (own d i) ≡ rd (own d i)) → rd′ (field Number d) ≡ rd (field Number d) → (g : Given) → Entered n rd d g → Entered n rd′ d g
+  pub entered-kept : ((i : ℕ) → rd′ (own d i) ≡ rd (own d i)) → rd′ (field Number d) ≡ rd (field Number d) → (g : Given) → Lodged n rd d g → Lodged n rd′ d g
   entered-kept owns number g h =
       record {
         by = h .by;
@@ -79,7 +79,7 @@ module _ (n : ℕ) (rd rd′ : Memory) (d : ℕ) (k : KeepsNamed n rd rd′ d) w
 
 pub data Origin (n : ℕ) (rd : Memory) (d : ℕ) (g : Given) : ℕ → ℕ → Type 0 where
   -- its section is not begun
-  began : Entered n rd d g → rd (field Pc d) ≡ 0 → Origin n rd d g 0 0
+  began : Lodged n rd d g → rd (field Pc d) ≡ 0 → Origin n rd d g 0 0
   -- its step s is over
   after :
       (s k j : ℕ) → Named n rd d s → rd (targetOf d (opAt n rd d s)) ≡ rd (field (activeVal n rd d) d) → Jumps n rd d (suc s) j k → heldAt n rd d k ≡ heldAt n rd d (suc s)

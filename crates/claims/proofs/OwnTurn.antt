@@ -7,9 +7,9 @@ use native.Mathlib.Omega.{arith}
 use Rattle.mask.specs.Mask.{has}
 use Rattle.image.specs.Place.{lock, Memory}
 use Rattle.section.proofs.Held.{held-zero}
-use Rattle.section.proofs.Ranges.{release-range}
-use Rattle.engine.specs.Cursor.{Cursor}
-use Rattle.engine.specs.Turn.{codeIn, turnAt}
+use Rattle.code.proofs.Ranges.{release-range}
+use Rattle.working.specs.Cursor.{Cursor}
+use Rattle.plan.specs.Turn.{codeIn, turnAt}
 use Rattle.claims.specs.Reference.{Given}
 use Rattle.claims.proofs.Invariant.{opAt, Nearing, Phase, resting, fresh, due, unlocking, unlocked, between, ended}
 use Rattle.claims.proofs.Turns.{Stepped}

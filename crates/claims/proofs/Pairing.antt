@@ -10,11 +10,12 @@ use native.Mathlib.Decide.{ℕ-discrete}
 use lib.Dec.{eqb}
 use borrow.Author.Tests.{ne-eqb, eq-eqb, eqb-true}
 use Rattle.image.specs.declared.Field.the-variants.{Pc}
-use Rattle.image.specs.Place.{field, Memory, upd}
+use Rattle.image.specs.Place.{field, Memory}
+use Rattle.image.specs.inner.Same.{upd}
 use Rattle.image.specs.Image.{indexOf, at, put}
-use Rattle.engine.specs.Cursor.{Cursor, cursorAt, placed}
-use Rattle.engine.specs.Turn.{Outcome, stored, jumped, unheld, waiting, resting, refused, turnAt}
-use Rattle.engine.proofs.Placed.{placed-same, placed-other}
+use Rattle.working.specs.Cursor.{Cursor, cursorAt, placed}
+use Rattle.plan.specs.Turn.{Outcome, stored, jumped, unheld, waiting, resting, refused, turnAt}
+use Rattle.working.proofs.Placed.{placed-same, placed-other}
 use Rattle.claims.specs.Reference.{Given}
 use Rattle.claims.specs.Calls.{Traced, isPc, turnBy}
 use Rattle.claims.specs.Claims.{ofWorker}

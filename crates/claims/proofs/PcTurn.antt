@@ -13,18 +13,19 @@ use borrow.Author.Tests.{ne-eqb}
 use Rattle.mask.specs.Mask.{has, with, without}
 use Rattle.mask.proofs.Laws.{has-none}
 use Rattle.image.specs.declared.Field.the-variants.{Count, Pc, Owned}
-use Rattle.image.specs.Place.{field, own, Memory, upd}
-use Rattle.section.specs.declared.Expr.{Expr}
-use Rattle.section.specs.declared.Op.the-variants.{Acquire, Release, Assign, Finish}
-use Rattle.section.specs.Op.{eval}
+use Rattle.image.specs.Place.{field, own, Memory}
+use Rattle.image.specs.inner.Same.{upd}
+use Rattle.code.specs.declared.Expr.{Expr}
+use Rattle.code.specs.declared.Op.the-variants.{Acquire, Release, Assign, Finish}
+use Rattle.code.specs.Op.{eval}
 use Rattle.section.specs.Check.{covered}
 use Rattle.section.proofs.Facts.{acquire-free}
-use Rattle.section.proofs.Ranges.{acquire-range, assign-range, expr-range}
-use Rattle.engine.specs.Cursor.{Cursor}
-use Rattle.engine.specs.Turn.{codeIn, wordIn, spareVal, activeVal, switched}
-use Rattle.recovery.specs.Recovery.{targetOf}
+use Rattle.code.proofs.Ranges.{acquire-range, assign-range, expr-range}
+use Rattle.working.specs.Cursor.{Cursor}
+use Rattle.plan.specs.Turn.{codeIn, wordIn, spareVal, activeVal, switched}
+use Rattle.soundness.specs.Sound.{targetOf}
 use Rattle.claims.specs.Reference.{Given, Job, job, State, state, readIn, onto, follow, start, enqueue}
-use Rattle.claims.proofs.Invariant.{opAt, heldAt, Sectioned, Jumps, Entered, Live, JobOf, Mirrors}
+use Rattle.claims.proofs.Invariant.{opAt, heldAt, Sectioned, Jumps, Lodged, Live, JobOf, Mirrors}
 use Rattle.claims.proofs.Machine.{follow-one, follow-last}
 use Rattle.claims.proofs.Entries.{named-pc, named-step}
 use Rattle.claims.proofs.Apart.{Busy, covered-guarded, virtual-resting, virtual-owned, reads-same}
@@ -45,10 +46,10 @@ module _ (n D : ℕ) (rd : Memory) (cursor : ℕ → Cursor) (locks jumps : ℕ 
     (S : State) (M : Mirrors n D rd S) (sec : Sectioned n rd d) where
   -- ---- the first instruction
 
-  began-fresh : Entered n rd d (given d) → rd (field Pc d) ≡ 0 → began n rd S (given d) d ≡ onto S d (start n (given d)) []
+  began-fresh : Lodged n rd d (given d) → rd (field Pc d) ≡ 0 → began n rd S (given d) d ≡ onto S d (start n (given d)) []
   began-fresh H p = rw p (rw (H .by, M .none d l p))
 
-  poised-fresh : Entered n rd d (given d) → rd (field Pc d) ≡ 0 → rd (field Owned d) ≡ 0 → Poised n D rd d 0 (start n (given d))
+  poised-fresh : Lodged n rd d (given d) → rd (field Pc d) ≡ 0 → rd (field Owned d) ≡ 0 → Poised n D rd d 0 (start n (given d))
   poised-fresh H p o =
       record {
         next = refl;
@@ -59,7 +60,7 @@ module _ (n D : ℕ) (rd : Memory) (cursor : ℕ → Cursor) (locks jumps : ℕ 
       }
 
   pub fresh-counted :
-      Entered n rd d (given d) → rd (field Pc d) ≡ 0 → rd (field Owned d) ≡ 0 → (a : ℕ) → opAt n rd d 0 ≡ Acquire a → has (locks d) a ≡ true
+      Lodged n rd d (given d) → rd (field Pc d) ≡ 0 → rd (field Owned d) ≡ 0 → (a : ℕ) → opAt n rd d 0 ≡ Acquire a → has (locks d) a ≡ true
       → rd (field (spareVal n rd d) d) ≡ with 0 a → Counted n D rd S 0 (given d) d (switched n rd d 0)
   fresh-counted H p o a x h v =
       let c : 3 ≤ rd (field Count d) = sec .valid .least in

@@ -10,13 +10,13 @@ use borrow.Author.Tests.{ne-eqb, eq-eqb}
 use Rattle.mask.specs.Mask.{without}
 use Rattle.image.specs.declared.Field.the-variants.{Count, Pc, Intent, Owned}
 use Rattle.image.specs.Place.{Place, lock, field, Memory}
-use Rattle.section.specs.declared.Op.{Op}
-use Rattle.section.specs.declared.Op.the-variants.{Acquire, Release, Assign, Jump, Finish, Unknown}
-use Rattle.section.specs.Op.{opOf}
-use Rattle.engine.specs.Cursor.{Cursor, idle, on}
-use Rattle.engine.specs.declared.Refusal.the-variants.{Cursor as CursorRefused}
-use Rattle.engine.specs.Turn.{Outcome, stored, jumped, unheld, waiting, resting, refused, operand, codeIn, logged, lockTurn, unlockTurn, acquireTurn, releaseTurn, finishTurn, opTurn, ready, turnAt}
-use Rattle.recovery.specs.Recovery.{targetTurn}
+use Rattle.code.specs.declared.Op.{Op}
+use Rattle.code.specs.declared.Op.the-variants.{Acquire, Release, Assign, Jump, Finish, Unknown}
+use Rattle.code.specs.Op.{opOf}
+use Rattle.working.specs.Cursor.{Cursor, idle, on}
+use Rattle.working.specs.declared.Refusal.the-variants.{Cursor as CursorRefused}
+use Rattle.plan.specs.Turn.{Outcome, stored, jumped, unheld, waiting, resting, refused, operand, codeIn, logged, lockTurn, unlockTurn, acquireTurn, releaseTurn, finishTurn, opTurn, ready, turnAt}
+use Rattle.repair.specs.Plan.{targetTurn}
 use Rattle.claims.specs.Reference.{Given}
 use Rattle.claims.specs.Calls.{isPc}
 use Rattle.claims.proofs.Invariant.{opAt, Sectioned, Nearing, Phase, resting as rests, fresh, due, unlocking, unlocked, between, ended}

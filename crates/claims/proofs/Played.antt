@@ -11,13 +11,13 @@ use borrow.Author.Tests.{ltb-true, lt-ltb}
 use native.Mathlib.Omega.{arith}
 use Rattle.base.proofs.Bools.{and-left, and-right}
 use Rattle.image.specs.Image.{at, workers}
-use Rattle.engine.specs.declared.Refusal.the-variants.{Worker}
-use Rattle.engine.specs.declared.Submitted.{Submitted}
-use Rattle.engine.specs.declared.Submitted.the-variants.{Taken, Refused}
-use Rattle.engine.specs.Cursor.{cursorAt}
-use Rattle.engine.specs.Turn.{refused, turnAt}
-use Rattle.engine.specs.World.{outcomeAt, outcome}
-use Rattle.engine.specs.Submit.{submitAnswer, submitLeaves}
+use Rattle.working.specs.declared.Refusal.the-variants.{Worker}
+use Rattle.intake.specs.declared.Submitted.{Submitted}
+use Rattle.intake.specs.declared.Submitted.the-variants.{Taken, Refused}
+use Rattle.working.specs.Cursor.{cursorAt}
+use Rattle.plan.specs.Turn.{refused, turnAt}
+use Rattle.turn.specs.Call.{outcomeAt, outcome}
+use Rattle.intake.specs.Submit.{submitAnswer, submitLeaves}
 use Rattle.recovery.specs.Recovery.{recovery}
 use Rattle.claims.specs.Reference.{given}
 use Rattle.claims.specs.Calls.{Traced, traced, turnBy, ranBy, rounds, submitTrace, recoveredBy, Call, submits, turns, runs, recovers, Move, whole, cut, call, lent, move, play, recovering, legal, endsCut, callable, machine}

@@ -13,12 +13,13 @@ use native.Mathlib.Decide.{ℕ-discrete}
 use Rattle.mask.specs.Mask.{has}
 use Rattle.mask.proofs.Laws.{has-none}
 use Rattle.image.specs.declared.Field.the-variants.{Count}
-use Rattle.image.specs.Place.{Place, lock, sameField, Memory, upd}
-use Rattle.section.specs.declared.Op.{Op}
-use Rattle.section.specs.declared.Op.the-variants.{Acquire, Release, Assign, Jump, Finish, Unknown}
-use Rattle.section.specs.Op.{opOf}
-use Rattle.engine.specs.Cursor.{Cursor, idle, on, isIdle}
-use Rattle.engine.specs.Turn.{Outcome, stored, jumped, unheld, waiting, resting, refused, codeIn, logged, acquireTurn, finishTurn, opTurn, ready, turnAt}
+use Rattle.image.specs.Place.{Place, lock, Memory}
+use Rattle.image.specs.inner.Same.{sameField, upd}
+use Rattle.code.specs.declared.Op.{Op}
+use Rattle.code.specs.declared.Op.the-variants.{Acquire, Release, Assign, Jump, Finish, Unknown}
+use Rattle.code.specs.Op.{opOf}
+use Rattle.working.specs.Cursor.{Cursor, idle, on, isIdle}
+use Rattle.plan.specs.Turn.{Outcome, stored, jumped, unheld, waiting, resting, refused, codeIn, logged, acquireTurn, finishTurn, opTurn, ready, turnAt}
 use Rattle.claims.specs.Reference.{Given}
 use Rattle.claims.specs.Events.{but}
 use Rattle.claims.proofs.Invariant.{Phase, resting as atRest, fresh, due, unlocking, unlocked, between, ended, Live}

@@ -10,17 +10,19 @@ use native.Mathlib.Omega.{arith}
 use Rattle.base.proofs.Bools.{and-left, and-right}
 use Rattle.mask.specs.Mask.{without}
 use Rattle.image.specs.declared.Field.the-variants.{Count, Pc, Addr0, Val0, Addr1, Val1, Intent, Owned, Finished}
-use Rattle.image.specs.Place.{Place, cell, lock, field, own, step, same, Memory, upd}
-use Rattle.section.specs.declared.Op.{Op}
-use Rattle.section.specs.declared.Op.the-variants.{Acquire, Release, Assign, Jump, Finish, Unknown}
-use Rattle.section.specs.Table.{turnsOf}
-use Rattle.section.specs.Op.{opOf, eval}
-use Rattle.section.specs.Check.{Code, inRange, inPlace, wellFormed}
-use Rattle.section.proofs.Ranges.{turns-most}
+use Rattle.image.specs.Place.{Place, cell, lock, field, own, step, Memory}
+use Rattle.image.specs.inner.Same.{same, upd}
+use Rattle.code.specs.declared.Op.{Op}
+use Rattle.code.specs.declared.Op.the-variants.{Acquire, Release, Assign, Jump, Finish, Unknown}
+use Rattle.code.specs.Table.{turnsOf}
+use Rattle.code.specs.Op.{opOf, eval}
+use Rattle.section.specs.Check.{Code}
+use Rattle.code.specs.Form.{inRange, inPlace, wellFormed}
+use Rattle.code.proofs.Ranges.{turns-most}
 use Rattle.section.proofs.Steps.{place-jump}
-use Rattle.engine.specs.declared.Refusal.the-variants.{Cursor as CursorRefused}
-use Rattle.engine.specs.Cursor.{Cursor, idle, on}
-use Rattle.engine.specs.Turn.{Outcome, stored, jumped, unheld, waiting, resting, refused, operand, codeIn, wordIn, second, spareAddr, spareVal, logged, acquireTurn, releaseTurn, finishTurn, opTurn, ready, turnAt}
+use Rattle.working.specs.declared.Refusal.the-variants.{Cursor as CursorRefused}
+use Rattle.working.specs.Cursor.{Cursor, idle, on}
+use Rattle.plan.specs.Turn.{Outcome, stored, jumped, unheld, waiting, resting, refused, operand, codeIn, wordIn, second, spareAddr, spareVal, logged, acquireTurn, releaseTurn, finishTurn, opTurn, ready, turnAt}
 
 -- ---- the turns of steps
 
@@ -91,11 +93,11 @@ pub data Later (s t count : ℕ) : Cursor → Type 0 where
   beyond : (b u : ℕ) → s < b → b ≤ count → Later s t count (on b u)
 
 -- turn t of step s is one of the section's
-pub record Inside (n : ℕ) (rd : Memory) (d s t : ℕ) : Type 0 where
+pub record AtTurn (n : ℕ) (rd : Memory) (d s t : ℕ) : Type 0 where
   pub below : s < rd (field Count d)
   pub turn : t < turnsOf (codeIn n rd d s)
 
-pub later-falls : (n : ℕ) (rd : Memory) (d s t : ℕ) (c : Cursor) → Inside n rd d s t → Later s t (rd (field Count d)) c → rank n rd d c < rank n rd d (on s t)
+pub later-falls : (n : ℕ) (rd : Memory) (d s t : ℕ) (c : Cursor) → AtTurn n rd d s t → Later s t (rd (field Count d)) c → rank n rd d c < rank n rd d (on s t)
 unfolding rank rankIn
 later-falls n rd d s t c I over = omega (arith, turnsFrom-first (codeIn n rd d) s (rd (field Count d) - s) (omega arith), I)
 later-falls n rd d s t c I (within u l) = omega (arith, turnsFrom-first (codeIn n rd d) s (rd (field Count d) - s) (omega arith), I)
@@ -170,7 +172,7 @@ Falls n rd d k (waiting b) = Unit {0}
 Falls n rd d k resting = Unit {0}
 Falls n rd d k (refused r) = Unit {0}
 
-module _ (n : ℕ) (rd : Memory) (d s t : ℕ) (I : Inside n rd d s t) where
+module _ (n : ℕ) (rd : Memory) (d s t : ℕ) (I : AtTurn n rd d s t) where
   abbrev Sinks : Outcome → Type 0
   Sinks o = Falls n rd d (rank n rd d (on s t)) o
 
@@ -212,7 +214,7 @@ module _ (n : ℕ) (rd : Memory) (d s t : ℕ) (I : Inside n rd d s t) where
       by false = later-falls n rd d s t (on (s + 1) 0) I next-step
 
 -- where the turn itself tells the instruction's part
-acquire-falls : (n : ℕ) (rd : Memory) (d s t a : ℕ) → Inside n rd d s t → Falls n rd d (rank n rd d (on s t)) (acquireTurn n rd d a s t)
+acquire-falls : (n : ℕ) (rd : Memory) (d s t a : ℕ) → AtTurn n rd d s t → Falls n rd d (rank n rd d (on s t)) (acquireTurn n rd d a s t)
 acquire-falls n rd d s zero a I = stored-falls n rd d s 0 I _ _ _ (unranked-intent d d) (within 1 (omega arith))
 acquire-falls n rd d s (suc zero) a I = by (eqb (rd (lock a)) 0)
   where
@@ -222,13 +224,13 @@ acquire-falls n rd d s (suc zero) a I = by (eqb (rd (lock a)) 0)
 acquire-falls n rd d s (suc (suc j)) a I =
     logged-falls n rd d s (suc (suc j)) I (field Owned d) _ (on (s + 1) 0) (unranked-owned d d) (next-step n rd d s (suc (suc j)) I) j
 
-finish-falls : (n : ℕ) (rd : Memory) (d s t : ℕ) → Inside n rd d s t → Falls n rd d (rank n rd d (on s t)) (finishTurn n rd d s t)
+finish-falls : (n : ℕ) (rd : Memory) (d s t : ℕ) → AtTurn n rd d s t → Falls n rd d (rank n rd d (on s t)) (finishTurn n rd d s t)
 finish-falls n rd d s zero I = stored-falls n rd d s 0 I _ _ _ (unranked-finished d d) (within 1 (omega arith))
 finish-falls n rd d s (suc zero) I = stored-falls n rd d s 1 I _ _ _ (unranked-pc d d) (within 2 (omega arith))
 finish-falls n rd d s (suc (suc t)) I =
     let l = later-falls n rd d s (suc (suc t)) idle I over in rw (rank-idle n (upd rd (field Count d) 0) d) (rw (rank-idle n rd d) at l)
 
-op-falls : (n : ℕ) (rd : Memory) (d s t : ℕ) (x : Op) → Inside n rd d s t → inPlace (rd (field Count d)) s x ≡ true → Falls n rd d (rank n rd d (on s t)) (opTurn n rd d s t x)
+op-falls : (n : ℕ) (rd : Memory) (d s t : ℕ) (x : Op) → AtTurn n rd d s t → inPlace (rd (field Count d)) s x ≡ true → Falls n rd d (rank n rd d (on s t)) (opTurn n rd d s t x)
 op-falls n rd d s t (Acquire a) I i = acquire-falls n rd d s t a I
 op-falls n rd d s t (Release a) I i = release-falls n rd d s t I a
 op-falls n rd d s t (Assign a e) I i = assign-falls n rd d s t I a (eval (wordIn n rd d) e)
@@ -238,7 +240,7 @@ op-falls n rd d s t Unknown I i = tt
 
 -- ---- a turn at any cursor
 
-pub ready-inside : (n : ℕ) (rd : Memory) (d s t : ℕ) → ready n rd d s t ≡ true → Inside n rd d s t
+pub ready-inside : (n : ℕ) (rd : Memory) (d s t : ℕ) → ready n rd d s t ≡ true → AtTurn n rd d s t
 unfolding ready
 ready-inside n rd d s t r =
     let k = rd (field Count d) in

@@ -11,12 +11,13 @@ use borrow.Author.Tests.{ne-eqb, eq-eqb}
 use native.Mathlib.Omega.{arith}
 use native.Mathlib.Decide.{ℕ-discrete}
 use Rattle.image.specs.declared.Field.the-variants.{Pc}
-use Rattle.image.specs.Place.{Place, field, Memory, upd}
+use Rattle.image.specs.Place.{Place, field, Memory}
+use Rattle.image.specs.inner.Same.{upd}
 use Rattle.image.specs.Image.{Image, at}
 use Rattle.section.specs.Check.{passes}
-use Rattle.engine.specs.declared.Submitted.the-variants.{Taken}
-use Rattle.engine.specs.Cursor.{Cursor, on, cursorAt}
-use Rattle.engine.specs.Turn.{Outcome, stored, jumped, unheld, waiting, resting, refused}
+use Rattle.intake.specs.declared.Submitted.the-variants.{Taken}
+use Rattle.working.specs.Cursor.{Cursor, on, cursorAt}
+use Rattle.plan.specs.Turn.{Outcome, stored, jumped, unheld, waiting, resting, refused}
 use Rattle.claims.specs.Reference.{Given, given}
 use Rattle.claims.specs.Events.{Event, taken, moved, waited, recorded, ended, lost, but, takenIn, Reading, learn, readFrom, readOff, begunIn}
 use Rattle.claims.specs.Calls.{Trace, Traced, recording, isPc, stepOf, storeEvents, turnBy, submits, Move, callable}

@@ -9,17 +9,18 @@ use lib.Dec.{ltb}
 use borrow.Author.Tests.{le-leb, lt-ltb}
 use Rattle.image.specs.declared.Field.the-variants.{Count}
 use Rattle.image.specs.Place.{field, Memory}
-use Rattle.section.specs.declared.Op.{Op}
-use Rattle.section.specs.declared.Op.the-variants.{Finish}
-use Rattle.section.specs.Table.{turnsOf}
-use Rattle.section.specs.Op.{opOf}
-use Rattle.section.specs.Check.{Code, wellFormed, heldBefore}
+use Rattle.code.specs.declared.Op.{Op}
+use Rattle.code.specs.declared.Op.the-variants.{Finish}
+use Rattle.code.specs.Table.{turnsOf}
+use Rattle.code.specs.Op.{opOf}
+use Rattle.section.specs.Check.{Code, heldBefore}
+use Rattle.code.specs.Form.{wellFormed}
 use Rattle.section.specs.Valid.{Valid}
 use Rattle.section.proofs.Facts.{valid-passed, check-parts}
-use Rattle.section.proofs.Ranges.{opTurns, turns-op}
+use Rattle.code.proofs.Ranges.{opTurns, turns-op}
 use Rattle.section.proofs.Steps.{ends}
-use Rattle.engine.specs.Cursor.{on}
-use Rattle.engine.specs.Turn.{codeIn, opTurn, ready, turnAt}
+use Rattle.working.specs.Cursor.{on}
+use Rattle.plan.specs.Turn.{codeIn, opTurn, ready, turnAt}
 
 -- ---- the tests before a turn
 

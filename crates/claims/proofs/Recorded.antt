@@ -12,10 +12,11 @@ use borrow.Author.Tests.{ne-eqb, eq-eqb, eqb-true}
 use native.Mathlib.Omega.{arith}
 use native.Mathlib.Decide.{ℕ-discrete}
 use Rattle.image.specs.declared.Field.the-variants.{Count, Pc, Addr0, Val0, Addr1, Val1, Intent, Owned, Number, Finished}
-use Rattle.image.specs.Place.{Place, cell, lock, field, own, step, Memory, upd}
+use Rattle.image.specs.Place.{Place, cell, lock, field, own, step, Memory}
+use Rattle.image.specs.inner.Same.{upd}
 use Rattle.image.proofs.Places.{upd-same}
-use Rattle.section.specs.Op.{opOf}
-use Rattle.recovery.specs.Recovery.{namedStep}
+use Rattle.code.specs.Op.{opOf}
+use Rattle.soundness.specs.Sound.{namedStep}
 use Rattle.claims.specs.Reference.{Given}
 use Rattle.claims.specs.Calls.{isPc}
 use Rattle.claims.proofs.Entries.{apart-of, named-cong}

@@ -16,9 +16,11 @@ use borrow.Author.Tests.{eqb-true, lt-ltb}
 use Rattle.mask.specs.Mask.{has}
 use Rattle.image.specs.declared.Field.{Field}
 use Rattle.image.specs.declared.Field.the-variants.{Count, Pc, Intent}
-use Rattle.image.specs.Place.{Place, lock, field, same, Memory, updAll}
+use Rattle.image.specs.Place.{Place, lock, field, Memory}
+use Rattle.image.specs.inner.Same.{same, updAll}
 use Rattle.image.proofs.Lists.{allValid}
-use Rattle.recovery.specs.Recovery.{_≔_, rows, unbegun, owed, intended, intend, withdraw, relock, relocks, unlock, plan, resumed}
+use Rattle.repair.specs.Plan.{_≔_, rows, unbegun, intended, intend, withdraw, relock, relocks, unlock, plan, resumed}
+use Rattle.soundness.specs.Sound.{owed}
 use Rattle.claims.specs.Reference.{Given}
 use Rattle.claims.proofs.Invariant.{Phase, Live, Crashed}
 use Rattle.claims.proofs.Covers.{Parts, crashed-parts}

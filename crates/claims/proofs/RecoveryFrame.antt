@@ -5,13 +5,14 @@ use mathlib.Core.Path.{_≡_, refl}
 use mathlib.Core.Logic.{_⊎_, inl, inr}
 use Rattle.image.specs.declared.Field.the-variants.{Count, Pc, Owned, Number, Finished}
 use Rattle.image.specs.Place.{field, step, Memory}
-use Rattle.section.specs.declared.Op.{Op}
-use Rattle.section.specs.declared.Op.the-variants.{Acquire, Release, Assign, Jump, Finish, Unknown}
+use Rattle.code.specs.declared.Op.{Op}
+use Rattle.code.specs.declared.Op.the-variants.{Acquire, Release, Assign, Jump, Finish, Unknown}
 use Rattle.section.specs.Check.{heldBefore}
 use Rattle.section.proofs.Facts.{check-cong}
 use Rattle.section.proofs.Held.{held-cong}
-use Rattle.engine.specs.Turn.{codeIn, activeAddr, activeVal}
-use Rattle.recovery.specs.Recovery.{owed, namedStep, namedOp, sectionOk, entryOk, pcOk, resumed}
+use Rattle.plan.specs.Turn.{codeIn, activeAddr, activeVal}
+use Rattle.soundness.specs.Sound.{owed, namedStep, namedOp, sectionOk, entryOk, pcOk}
+use Rattle.repair.specs.Plan.{resumed}
 use Rattle.claims.proofs.Fields.{active-addr-kept, active-val-kept}
 use Rattle.claims.proofs.Entries.{named-cong}
 

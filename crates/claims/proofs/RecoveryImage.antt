@@ -13,17 +13,20 @@ use lib.Dec.{eqb}
 use borrow.Author.Tests.{lt-ltb, ne-eqb}
 use Rattle.mask.specs.Mask.{has}
 use Rattle.image.specs.declared.Field.the-variants.{Pc}
-use Rattle.image.specs.Place.{field, Memory, Store, updAll}
+use Rattle.image.specs.Place.{field, Memory, Store}
+use Rattle.image.specs.inner.Same.{updAll}
 use Rattle.image.specs.Image.{Image, at, workers, headerOk, putAll}
 use Rattle.image.proofs.Header.{header-sized, header-workers}
 use Rattle.image.proofs.Lists.{at-all}
-use Rattle.section.specs.declared.Op.{Op}
-use Rattle.section.specs.declared.Op.the-variants.{Acquire, Release, Assign, Jump, Finish, Unknown}
-use Rattle.engine.specs.Cursor.{Cursor, idle, on, stepNo, turnNo, cursorAt}
-use Rattle.engine.proofs.Placed.{Full, sayable}
-use Rattle.recovery.specs.Recovery.{rows, unbegun, owed, intended, intend, withdraw, relock, relocks, unlock, plan}
-use Rattle.recovery.specs.Recovery.{namedStep, namedOp, targetTurn, resumed, resumedAt, resumedAll}
-use Rattle.recovery.proofs.Sets.{eight-at}
+use Rattle.code.specs.declared.Op.{Op}
+use Rattle.code.specs.declared.Op.the-variants.{Acquire, Release, Assign, Jump, Finish, Unknown}
+use Rattle.working.specs.Cursor.{Cursor, idle, on, stepNo, turnNo, cursorAt}
+use Rattle.working.proofs.Placed.{Full, sayable}
+use Rattle.repair.specs.Plan.{rows, unbegun, intended, intend, withdraw, relock, relocks, unlock, plan}
+use Rattle.soundness.specs.Sound.{owed}
+use Rattle.soundness.specs.Sound.{namedStep, namedOp}
+use Rattle.repair.specs.Plan.{targetTurn, resumed, resumedAt, resumedAll}
+use Rattle.soundness.proofs.Sets.{eight-at}
 use Rattle.claims.specs.Reference.{Given}
 use Rattle.claims.proofs.Invariant.{Live, Crashed}
 use Rattle.claims.proofs.Stages.{plan-prefix}

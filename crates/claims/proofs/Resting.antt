@@ -15,7 +15,7 @@ use Rattle.image.specs.Place.{Place, cell, lock, field, Memory}
 use Rattle.image.specs.Image.{Image, at, workers, cellsOf}
 use Rattle.image.proofs.Header.{header-sized}
 use Rattle.image.proofs.Cells.{cells-length, cells-at}
-use Rattle.engine.specs.Cursor.{Cursor, cursorAt, allIdle}
+use Rattle.working.specs.Cursor.{Cursor, cursorAt, allIdle}
 use Rattle.claims.specs.Reference.{Given, state, initial, feed}
 use Rattle.claims.specs.Calls.{Traced, from}
 use Rattle.claims.specs.Claims.{Gives, Rested, Idle}

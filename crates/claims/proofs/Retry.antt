@@ -18,19 +18,19 @@ use Rattle.image.specs.Image.{Image, at, workers, cellsOf, headerOk}
 use Rattle.section.specs.declared.Verdict.{Verdict}
 use Rattle.section.specs.declared.Verdict.the-variants.{Pass, Length, Malformed, Unbracketed, Unordered, Unguarded, Unlevel}
 use Rattle.section.specs.Check.{codeOf, check}
-use Rattle.engine.specs.declared.Refusal.the-variants.{Number as NumberRefused}
-use Rattle.engine.specs.declared.Submitted.the-variants.{Refused}
-use Rattle.engine.specs.declared.Standing.the-variants.{Finished}
-use Rattle.engine.specs.Asking.{standingIn}
-use Rattle.engine.specs.Cursor.{Cursor, cursorAt}
-use Rattle.engine.specs.Turn.{Outcome, stored, jumped, unheld, waiting, resting, refused}
-use Rattle.engine.specs.World.{World}
-use Rattle.engine.specs.Submit.{submitAnswer, verdictAnswer, free}
+use Rattle.working.specs.declared.Refusal.the-variants.{Number as NumberRefused}
+use Rattle.intake.specs.declared.Submitted.the-variants.{Refused}
+use Rattle.intake.specs.declared.Standing.the-variants.{Finished}
+use Rattle.intake.specs.Asking.{standingIn}
+use Rattle.working.specs.Cursor.{Cursor, cursorAt}
+use Rattle.plan.specs.Turn.{Outcome, stored, jumped, unheld, waiting, resting, refused}
+use Rattle.working.specs.World.{World}
+use Rattle.intake.specs.Submit.{submitAnswer, verdictAnswer, free}
 use Rattle.claims.specs.Reference.{Given, given}
 use Rattle.claims.specs.Calls.{Traced, isPc, turnBy, Call, submits, turns, runs, recovers, Move, move, play, from, ofMove}
 use Rattle.claims.specs.Claims.{ofWorker, after}
 use Rattle.claims.specs.Once.{numbersOf, rising, lastOr, upFrom, among, Within, OnlyCall, Only, begunBy, startedAt, nextNumber, inTurn}
-use Rattle.claims.specs.Once.{Told as ToldAt, OnceAlways, ToldAlways, RetriedAlways, ExactlyOnce}
+use Rattle.claims.specs.Once.{Told, OnceAlways, ToldAlways, RetriedAlways, ExactlyOnce}
 use Rattle.claims.proofs.Pending.{Passes, Pends, pends-turn}
 use Rattle.claims.proofs.Writes.{Writes, Says, turn-writes}
 use Rattle.claims.proofs.Worlds.{Running}
@@ -96,8 +96,8 @@ module _ (n d : ℕ) where
       (next-call mark (ofMove x) w (and-left a b h), next-sorted mark xs (move mark n x w) (and-right a b h))
 
 module _ (mark n D : ℕ) (cells : List ℕ) (start : ℕ → ℕ) (d : ℕ) (dl : d < D) where
-  abbrev Told : Traced → Type 0
-  Told w = Telling mark n D cells start (Next n d) (λ e f k q. q .0) w
+  abbrev Ledger : Traced → Type 0
+  Ledger w = Telling mark n D cells start (Next n d) (λ e f k q. q .0) w
 
   abbrev Tell : Traced → Type 0
   Tell w = Tells mark n D cells start (Next n d) (λ e f k q. q .0) w
@@ -110,7 +110,7 @@ module _ (mark n D : ℕ) (cells : List ℕ) (start : ℕ → ℕ) (d : ℕ) (dl
   abbrev InRow : Traced → Type 0
   InRow w = Row (begunBy mark n w d)
 
-  module _ (w : Traced) (e : ℕ) (r : Running mark n D cells w) (el : e < D) (x : Told w) (c : InRow w) where
+  module _ (w : Traced) (e : ℕ) (r : Running mark n D cells w) (el : e < D) (x : Ledger w) (c : InRow w) where
     abbrev rd : Memory
     rd = at n (w .world .image)
 
@@ -176,7 +176,7 @@ module _ (mark n D : ℕ) (cells : List ℕ) (start : ℕ → ℕ) (d : ℕ) (dl
   recovered-row : (w : Traced) → Worth mark n D cells w → InRow w → InRow (recovered mark n w)
   recovered-row w k x = rw (accepts mark n D cells (w .world .image) _ _ k) x
 
-  row-keeps : 8 ≤ n → n ≤ 64 → Keeps mark n D cells (λ (w : Traced). Told w × InRow w) (λ (w : Traced). Tell w × InRow w) (NextMove n d)
+  row-keeps : 8 ≤ n → n ≤ 64 → Keeps mark n D cells (λ (w : Traced). Ledger w × InRow w) (λ (w : Traced). Tell w × InRow w) (NextMove n d)
   row-keeps wide narrow =
       let K = telling-keeps mark n D cells start (Next n d) (λ e f k q. q .0) (NextMove n d) (λ m e k args ws a l. (l, a)) wide narrow in
       record {
@@ -357,6 +357,6 @@ exactly-once mark n wide narrow m rest xs h l d dl g new only refusal =
   where
     by :
         Dec (at n (after mark n m xs .world .image) (field Pc d) ≡ 0) → begunBy mark n (after mark n m xs) d ≡ []
-        → g .number ≤ at n (after mark n m xs .world .image) (field FinishedField d) → ToldAt mark n m (after mark n m xs) d → ⊥
+        → g .number ≤ at n (after mark n m xs .world .image) (field FinishedField d) → Told mark n m (after mark n m xs) d → ⊥
     by (yes p) none low told = let e = told .at-rest p ∙ ap (lastOr (startedAt mark n m d)) none in omega arith
     by (no p) none low told = told .under-way p .0 none

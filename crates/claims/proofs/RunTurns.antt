@@ -9,9 +9,9 @@ use borrow.Author.Tests.{lt-ltb}
 use native.Mathlib.Omega.{arith}
 use Rattle.image.specs.Image.{headerOk, workers}
 use Rattle.image.proofs.Stores.{header-store, workers-store}
-use Rattle.engine.specs.Turn.{Outcome, stored, jumped, unheld, waiting, resting, refused}
-use Rattle.engine.specs.World.{outcomeAt, outcome}
-use Rattle.engine.specs.Run.{anyOpen}
+use Rattle.plan.specs.Turn.{Outcome, stored, jumped, unheld, waiting, resting, refused}
+use Rattle.turn.specs.Call.{outcomeAt, outcome}
+use Rattle.run.specs.Run.{anyOpen}
 use Rattle.claims.specs.Calls.{Traced, turnBy, turnedAt, refuses, round, rounds, ranBy, call, turns, runs}
 use Rattle.claims.specs.Claims.{turnsBy, RunsAreTurns}
 

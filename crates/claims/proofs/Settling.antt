@@ -7,13 +7,14 @@ use mathlib.Core.Bool.{Bool, true, false, cond, true≢false, false≢true}
 use mathlib.Core.List.{List, [], _∷_}
 use native.Mathlib.Omega.{arith}
 use native.Mathlib.Decide.{decLt, ℕ-discrete}
-use Rattle.image.specs.Place.{Memory, upd}
+use Rattle.image.specs.Place.{Memory}
+use Rattle.image.specs.inner.Same.{upd}
 use Rattle.image.specs.Image.{at}
-use Rattle.engine.specs.Cursor.{Cursor, isIdle, cursorAt, placed}
-use Rattle.engine.specs.Turn.{Outcome, stored, jumped, unheld, waiting, resting, refused, turnAt}
-use Rattle.engine.specs.World.{outcomeAt}
-use Rattle.engine.specs.Run.{anyOpen}
-use Rattle.engine.proofs.Placed.{sayable}
+use Rattle.working.specs.Cursor.{Cursor, isIdle, cursorAt, placed}
+use Rattle.plan.specs.Turn.{Outcome, stored, jumped, unheld, waiting, resting, refused, turnAt}
+use Rattle.turn.specs.Call.{outcomeAt}
+use Rattle.run.specs.Run.{anyOpen}
+use Rattle.working.proofs.Placed.{sayable}
 use Rattle.claims.specs.Reference.{Given}
 use Rattle.claims.specs.Events.{waited, but}
 use Rattle.claims.specs.Calls.{Traced, turnBy, turnedAt, refuses, round, rounds}
@@ -244,19 +245,19 @@ module _ (mark n D : ℕ) (cells : List ℕ) where
       (p .0, p .1, open-moves n (at n (w .world .image)) (p .0) (w .trace .last (p .0)) (cursorAt (w .world .cursors) (p .0)) (r .locks (p .0)) (w .trace .jumps (p .0)) (p .2) (p .3) (steps w (p .0) r (p .1)))
 
   -- what a run of r rounds comes to: the sum is less by r, or nobody is open
-  pub record Ran (r : ℕ) (w v : Traced) : Type 0 where
+  pub record Rounded (r : ℕ) (w v : Traced) : Type 0 where
     pub spare : Spare v
     pub gone : (sum n D v + r ≤ sum n D w) ⊎ (anyOpen D 0 (v .world .cursors) ≡ false)
 
-  pub settles : (r : ℕ) (w : Traced) → Spare w → Ran r w (rounds mark n r D w)
+  pub settles : (r : ℕ) (w : Traced) → Spare w → Rounded r w (rounds mark n r D w)
   unfolding rounds
   settles zero w s = record { spare = s; gone = inl (omega arith) }
   settles (suc r) w s = by (settles r (swept D 0 w) (spare-swept D 0 w (omega arith) s)) (anyOpen D 0 (w .world .cursors)) refl
     where
-      further : sum n D (swept D 0 w) < sum n D w → Ran r (swept D 0 w) (rounds mark n r D (swept D 0 w)) → Ran (suc r) w (rounds mark n r D (swept D 0 w))
+      further : sum n D (swept D 0 w) < sum n D w → Rounded r (swept D 0 w) (rounds mark n r D (swept D 0 w)) → Rounded (suc r) w (rounds mark n r D (swept D 0 w))
       further f x = record { spare = x .spare; gone = ⊎-elim (λ g. inl (omega arith)) (λ g. inr g) (x .gone) }
 
-      by : Ran r (swept D 0 w) (rounds mark n r D (swept D 0 w)) → (b : Bool) → anyOpen D 0 (w .world .cursors) ≡ b → Ran (suc r) w (cond (anyOpen D 0 (w .world .cursors)) (round mark n (rounds mark n r D) w 0 D) w)
+      by : Rounded r (swept D 0 w) (rounds mark n r D (swept D 0 w)) → (b : Bool) → anyOpen D 0 (w .world .cursors) ≡ b → Rounded (suc r) w (cond (anyOpen D 0 (w .world .cursors)) (round mark n (rounds mark n r D) w 0 D) w)
       by x true q =
           let m = some-moves w (s .running) q in
           rw (q, round-swept (rounds mark n r D) D 0 w (omega arith) s) (further (sum-falls-swept D 0 w (omega arith) s (m .0) (omega arith) (omega (arith, m .1)) (m .2)) x)

@@ -15,13 +15,15 @@ use borrow.Author.Tests.{eqb-true}
 use Rattle.base.proofs.Bools.{and-left}
 use Rattle.mask.specs.Mask.{has}
 use Rattle.image.specs.declared.Field.the-variants.{Count, Pc, Addr0, Val0, Addr1, Val1, Intent, Owned, Number, Finished}
-use Rattle.image.specs.Place.{Place, cell, lock, field, own, step, sameField, Memory, upd, updAll}
-use Rattle.engine.specs.Turn.{second, activeAddr, activeVal}
-use Rattle.recovery.specs.Recovery.{_≔_, rows, unbegun, owed, sectionOk, pcOk, intended, intend, withdraw, relock, relocks, unlock, plan}
+use Rattle.image.specs.Place.{Place, cell, lock, field, own, step, Memory}
+use Rattle.image.specs.inner.Same.{sameField, upd, updAll}
+use Rattle.plan.specs.Turn.{second, activeAddr, activeVal}
+use Rattle.repair.specs.Plan.{_≔_, rows, unbegun, intended, intend, withdraw, relock, relocks, unlock, plan}
+use Rattle.soundness.specs.Sound.{owed, sectionOk, pcOk}
 use Rattle.claims.proofs.Invariant.{Crashed}
 use Rattle.claims.proofs.Covers.{Names, Covered, Parts, crashed-parts, parts-crashed}
 use Rattle.claims.proofs.LiveCrashed.{section-none, covered-same}
-use Rattle.claims.proofs.StoreRows.{Keeps, keeps-one, keeps-cond, keeps-rows, keeps-append, keeps-whole, prefix-append}
+use Rattle.claims.proofs.StoreRows.{KeptBy, keeps-one, keeps-cond, keeps-rows, keeps-append, keeps-whole, prefix-append}
 use Rattle.claims.proofs.StoreRows.{Sets, sets-rows, sets-cond, writes-rows, writes-cond}
 use Rattle.claims.proofs.RecoveryFrame.{Framed, owed-frame, pc-frame, section-frame}
 use Rattle.claims.proofs.Entries.{apart-of}
@@ -188,7 +190,7 @@ module _ (n D : ℕ) (rd : Memory) where
 
   -- ---- the stages
 
-  unlocks-keep : Keeps Kept (rows (unlock n rd D) 0 64)
+  unlocks-keep : KeptBy Kept (rows (unlock n rd D) 0 64)
   unlocks-keep =
       keeps-rows Kept (unlock n rd D) 0 64
       (λ b l m. keeps-cond Kept (intended n rd D b) (lock b ≔ 0) (λ t rd′ k. kept-lock b 0 rd′ (λ d e. absurd (omega arith)) k))
@@ -196,23 +198,23 @@ module _ (n D : ℕ) (rd : Memory) where
   abbrev KeptFree : Memory → Type 0
   KeptFree rd′ = Kept rd′ × Free rd′
 
-  intents-keep : Keeps KeptFree (rows (intend n rd) 0 D)
+  intents-keep : KeptBy KeptFree (rows (intend n rd) 0 D)
   intents-keep =
       keeps-rows KeptFree (intend n rd) 0 D (λ d l m. keeps-one KeptFree (field Intent d ≔ owed n rd d) (λ rd′ k. (kept-intent d rd′ (k .0) (k .1), k .1)))
 
-  withdraws-keep : Keeps Kept (rows (withdraw n rd) 0 D)
+  withdraws-keep : KeptBy Kept (rows (withdraw n rd) 0 D)
   withdraws-keep =
       keeps-rows Kept (withdraw n rd) 0 D
       (λ d l m.
       keeps-cond Kept (unbegun rd d) (field Count d ≔ 0)
       (λ t rd′ k. kept-count d rd′ (eqb-true _ _ (and-left (eqb (rd (field Pc d)) 0) (not (eqb (rd (field Count d)) 0)) t)) k))
 
-  private-relock : Parts n D rd → (d : ℕ) → d < D → (b : ℕ) → b < 64 → Keeps Kept (relock n rd d b)
+  private-relock : Parts n D rd → (d : ℕ) → d < D → (b : ℕ) → b < 64 → KeptBy Kept (relock n rd d b)
   private-relock p d l b u =
       keeps-cond Kept (has (owed n rd d) b) (lock b ≔ d + 1)
       (λ t rd′ k. kept-lock b (d + 1) rd′ (λ e i. let j : d ≡ e = omega arith in rw (← j) (l, kept-meant p rd′ k d l b u t)) k)
 
-  relocks-keep : Parts n D rd → Keeps Kept (rows (relocks n rd) 0 D)
+  relocks-keep : Parts n D rd → KeptBy Kept (rows (relocks n rd) 0 D)
   relocks-keep p =
       keeps-rows Kept (relocks n rd) 0 D
       (λ d l m. keeps-rows Kept (relock n rd d) 0 64 (λ b g h. private-relock p d (omega arith) b (omega arith)))

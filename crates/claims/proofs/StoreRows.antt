@@ -1,5 +1,5 @@
 -- Lists of stores that are rows: the stores for each number of a range, one number after the other. What every prefix of a row
--- keeps, where every prefix of each number's stores does (`Keeps`); what the whole of a row leaves at a place (`Leaves`), leaves
+-- keeps, where every prefix of each number's stores does (`KeptBy`); what the whole of a row leaves at a place (`Leaves`), leaves
 -- there if it stands there already (`Sets`), or writes there (`Writes`). A prefix of two lists is one of the first, or the
 -- first and a prefix of the second (`cut-append`).
 use Prim.Native.Nat.{ℕ, suc, zero, _+_, _<_, _≤_}
@@ -11,10 +11,11 @@ use native.Mathlib.Decide.{ℕ-discrete}
 use lib.ListN.{length, take}
 use lib.Seq.{take-length}
 use Rattle.base.proofs.Bools.{and-left, and-right, and-both}
-use Rattle.image.specs.Place.{Place, same, valid, Memory, upd, Store, updAll}
+use Rattle.image.specs.Place.{Place, valid, Memory, Store}
+use Rattle.image.specs.inner.Same.{same, upd, updAll}
 use Rattle.image.proofs.Places.{upd-same, upd-other}
 use Rattle.image.proofs.Lists.{allValid, updAll-nil}
-use Rattle.recovery.specs.Recovery.{rows}
+use Rattle.repair.specs.Plan.{rows}
 
 pub updAll-append : (rd : Memory) (ss ts : List Store) → updAll rd (ss ++ ts) ≡ updAll (updAll rd ss) ts
 unfolding updAll
@@ -33,18 +34,18 @@ cut-append Q (suc k) (x ∷ xs) ys a b = cut-append (λ l. Q (x ∷ l)) k xs ys 
 
 -- ---- what every prefix keeps
 
-abbrev pub Keeps : (Memory → Type 0) → List Store → Type 0
-Keeps P ss = (rd : Memory) → P rd → (k : ℕ) → P (updAll rd (take k ss))
+abbrev pub KeptBy : (Memory → Type 0) → List Store → Type 0
+KeptBy P ss = (rd : Memory) → P rd → (k : ℕ) → P (updAll rd (take k ss))
 
 module _ (P : Memory → Type 0) where
-  pub keeps-whole : (ss : List Store) → Keeps P ss → (rd : Memory) → P rd → P (updAll rd ss)
+  pub keeps-whole : (ss : List Store) → KeptBy P ss → (rd : Memory) → P rd → P (updAll rd ss)
   keeps-whole ss h rd p = rw (take-length ss) at (h rd p (length ss))
 
-  pub keeps-nil : Keeps P []
+  pub keeps-nil : KeptBy P []
   keeps-nil rd p zero = rw (updAll-nil rd) p
   keeps-nil rd p (suc k) = rw (updAll-nil rd) p
 
-  pub keeps-one : (s : Store) → ((rd : Memory) → P rd → P (upd rd (s .place) (s .value))) → Keeps P (s ∷ [])
+  pub keeps-one : (s : Store) → ((rd : Memory) → P rd → P (upd rd (s .place) (s .value))) → KeptBy P (s ∷ [])
   keeps-one s h rd p zero = rw (updAll-nil rd) p
   keeps-one s h rd p (suc zero) = rw (updAll-one rd s) (h rd p)
   keeps-one s h rd p (suc (suc k)) = rw (updAll-one rd s) (h rd p)
@@ -59,14 +60,14 @@ module _ (P : Memory → Type 0) where
   pub prefix-append : (xs ys : List Store) (rd : Memory) → ((j : ℕ) → P (updAll rd (take j xs))) → ((j : ℕ) → P (updAll (updAll rd xs) (take j ys))) → (k : ℕ) → P (updAll rd (take k (xs ++ ys)))
   prefix-append xs ys rd a b k = cut-append (λ l. P (updAll rd l)) k xs ys a (λ j. rw (updAll-append rd xs (take j ys)) (b j))
 
-  pub keeps-append : (xs ys : List Store) → Keeps P xs → Keeps P ys → Keeps P (xs ++ ys)
+  pub keeps-append : (xs ys : List Store) → KeptBy P xs → KeptBy P ys → KeptBy P (xs ++ ys)
   keeps-append xs ys a b rd p = prefix-append xs ys rd (a rd p) (b (updAll rd xs) (keeps-whole xs a rd p))
 
-  pub keeps-cond : (t : Bool) (s : Store) → (t ≡ true → (rd : Memory) → P rd → P (upd rd (s .place) (s .value))) → Keeps P (cond t (s ∷ []) [])
+  pub keeps-cond : (t : Bool) (s : Store) → (t ≡ true → (rd : Memory) → P rd → P (upd rd (s .place) (s .value))) → KeptBy P (cond t (s ∷ []) [])
   keeps-cond true s h = keeps-one s (h refl)
   keeps-cond false s h = keeps-nil
 
-  pub keeps-rows : (f : ℕ → List Store) (i k : ℕ) → ((j : ℕ) → i ≤ j → j < i + k → Keeps P (f j)) → Keeps P (rows f i k)
+  pub keeps-rows : (f : ℕ → List Store) (i k : ℕ) → ((j : ℕ) → i ≤ j → j < i + k → KeptBy P (f j)) → KeptBy P (rows f i k)
   unfolding rows
   keeps-rows f i zero h = keeps-nil
   keeps-rows f i (suc k) h =

@@ -10,10 +10,11 @@ use lib.Dec.{eqb}
 use borrow.Author.Tests.{eq-eqb, ne-eqb}
 use Rattle.image.specs.declared.Field.{Field}
 use Rattle.image.specs.declared.Field.the-variants.{Count, Pc, Intent, Owned, Finished}
-use Rattle.image.specs.Place.{sameField, Place, cell, lock, field, own, step, same, Memory, upd}
+use Rattle.image.specs.inner.Same.{sameField, same, upd}
+use Rattle.image.specs.Place.{Place, cell, lock, field, own, step, Memory}
 use Rattle.image.proofs.Places.{same-refl, same-place, upd-other}
-use Rattle.engine.specs.Turn.{spareAddr, spareVal, activeVal}
-use Rattle.recovery.specs.Recovery.{targetOf}
+use Rattle.plan.specs.Turn.{spareAddr, spareVal, activeVal}
+use Rattle.soundness.specs.Sound.{targetOf}
 use Rattle.claims.specs.Reference.{Job, State}
 use Rattle.claims.proofs.Virtual.{Entry, none, due, over, misses, entryOf, virtual, virtual-due, virtual-cong}
 use Rattle.claims.proofs.Invariant.{opAt, Named, JobOf, Mirrors}

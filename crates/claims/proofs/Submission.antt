@@ -12,25 +12,27 @@ use lib.ListN.{length, take}
 use lib.Dec.{eqb}
 use borrow.Author.Tests.{eq-eqb, ne-eqb, le-leb}
 use Rattle.image.specs.declared.Field.the-variants.{Count, Pc, Addr0, Val0, Addr1, Val1, Intent, Owned, Number, Finished}
-use Rattle.image.specs.Place.{Place, cell, lock, field, own, step, sameField, same, Memory, upd, Store, updAll}
+use Rattle.image.specs.Place.{Place, cell, lock, field, own, step, Memory, Store}
+use Rattle.image.specs.inner.Same.{sameField, same, upd, updAll}
 use Rattle.section.specs.declared.Verdict.the-variants.{Pass}
 use Rattle.section.specs.Check.{codeOf, check}
 use Rattle.section.proofs.Facts.{check-parts, check-cong}
-use Rattle.engine.specs.Turn.{codeIn, second, activeAddr, activeVal}
-use Rattle.engine.specs.Submit.{assigns, submission}
-use Rattle.recovery.specs.Recovery.{_≔_, owed, sectionOk, pcOk}
+use Rattle.plan.specs.Turn.{codeIn, second, activeAddr, activeVal}
+use Rattle.intake.specs.Submit.{assigns, submission}
+use Rattle.repair.specs.Plan.{_≔_}
+use Rattle.soundness.specs.Sound.{owed, sectionOk, pcOk}
 use Rattle.claims.proofs.Invariant.{Crashed}
 use Rattle.claims.proofs.Covers.{Parts, crashed-parts, parts-crashed}
 use Rattle.claims.proofs.LiveCrashed.{section-none, pc-none, owed-none}
 use Rattle.claims.proofs.Accepted.{ok-owned}
-use Rattle.claims.proofs.StoreRows.{updAll-append, updAll-one, Keeps, keeps-nil, keeps-one, keeps-append, keeps-whole, prefix-append, prefix-one}
+use Rattle.claims.proofs.StoreRows.{updAll-append, updAll-one, KeptBy, keeps-nil, keeps-one, keeps-append, keeps-whole, prefix-append, prefix-one}
 use Rattle.claims.proofs.RecoveryFrame.{Framed, owed-frame, pc-frame, section-frame}
 use Rattle.claims.proofs.Laid.{filled, submittedTo, Laid, submission-laid}
 use Rattle.claims.proofs.Entries.{apart-of}
 
 -- ---- a row of assignments
 
-pub assigns-keep : (P : Memory → Type 0) (f : ℕ → Place) → ((i v : ℕ) (rd : Memory) → P rd → P (upd rd (f i) v)) → (i : ℕ) (vs : List ℕ) → Keeps P (assigns f i vs)
+pub assigns-keep : (P : Memory → Type 0) (f : ℕ → Place) → ((i v : ℕ) (rd : Memory) → P rd → P (upd rd (f i) v)) → (i : ℕ) (vs : List ℕ) → KeptBy P (assigns f i vs)
 unfolding assigns
 assigns-keep P f h i [] = keeps-nil P
 assigns-keep P f h i (v ∷ vs) = keeps-append P ((f i ≔ v) ∷ []) (assigns f (i + 1) vs) (keeps-one P (f i ≔ v) (λ rd p. h i v rd p)) (assigns-keep P f h (i + 1) vs)
@@ -144,7 +146,7 @@ module _ (n d k : ℕ) (args ws : List ℕ) (rd : Memory) where
   abbrev before : List Store
   before = (field Number d ≔ k) ∷ (owns ++ steps)
 
-  private-before : Keeps Unbegun before
+  private-before : KeptBy Unbegun before
   private-before =
       keeps-append Unbegun ((field Number d ≔ k) ∷ []) (owns ++ steps)
       (keeps-one Unbegun (field Number d ≔ k) (λ rd′ u. private-off (field Number d) k rd′ private-refl refl u))

@@ -6,15 +6,16 @@ use mathlib.Core.Bool.{true}
 use mathlib.Core.List.{List}
 use lib.ListN.{length, take}
 use Rattle.image.specs.declared.Field.the-variants.{Count, Pc, Finished}
-use Rattle.image.specs.Place.{field, updAll}
+use Rattle.image.specs.Place.{field}
+use Rattle.image.specs.inner.Same.{updAll}
 use Rattle.image.specs.Image.{Image, at, workers, headerOk, putAll}
 use Rattle.image.proofs.Header.{header-sized}
 use Rattle.image.proofs.Lists.{at-all}
 use Rattle.section.specs.declared.Verdict.the-variants.{Pass}
 use Rattle.section.specs.Check.{codeOf, check}
 use Rattle.section.proofs.Facts.{check-parts}
-use Rattle.engine.specs.Submit.{submission}
-use Rattle.engine.proofs.Submission.{submission-valid}
+use Rattle.intake.specs.Submit.{submission}
+use Rattle.intake.proofs.Submission.{submission-valid}
 use Rattle.claims.proofs.Invariant.{Crashed}
 use Rattle.claims.proofs.Submission.{submission-prefix}
 

@@ -8,13 +8,14 @@ use mathlib.Core.List.{List}
 use lib.ListN.{length}
 use native.Mathlib.Omega.{arith}
 use Rattle.image.specs.declared.Field.the-variants.{Count, Pc, Intent, Owned, Finished}
-use Rattle.image.specs.Place.{field, same, Memory}
+use Rattle.image.specs.Place.{field, Memory}
+use Rattle.image.specs.inner.Same.{same}
 use Rattle.section.specs.declared.Verdict.the-variants.{Pass}
 use Rattle.section.specs.Check.{codeOf, check}
 use Rattle.section.specs.Valid.{Valid}
 use Rattle.section.proofs.Facts.{check-cong, passed-valid}
-use Rattle.engine.specs.Cursor.{Cursor, idle, on}
-use Rattle.engine.specs.Turn.{codeIn}
+use Rattle.working.specs.Cursor.{Cursor, idle, on}
+use Rattle.plan.specs.Turn.{codeIn}
 use Rattle.claims.specs.Reference.{Given, given}
 use Rattle.claims.specs.Events.{but}
 use Rattle.claims.proofs.Invariant.{Sectioned, Nearing, Phase, resting, fresh, due, unlocking, unlocked, between, ended, Live}

@@ -15,11 +15,12 @@ use lib.Dec.{eqb}
 use borrow.Author.Tests.{ne-eqb}
 use Rattle.image.specs.declared.Field.{Field}
 use Rattle.image.specs.declared.Field.the-variants.{Pc, Val0, Val1, Owned}
-use Rattle.image.specs.Place.{sameField, Place, cell, field, own, same, Memory, upd}
+use Rattle.image.specs.inner.Same.{sameField, same, upd}
+use Rattle.image.specs.Place.{Place, cell, field, own, Memory}
 use Rattle.image.proofs.Places.{same-refl, same-place, upd-same, upd-other}
-use Rattle.engine.specs.Cursor.{Cursor}
-use Rattle.engine.specs.Turn.{second, spareVal, activeVal, switched}
-use Rattle.recovery.specs.Recovery.{targetOf, namedStep}
+use Rattle.working.specs.Cursor.{Cursor}
+use Rattle.plan.specs.Turn.{second, spareVal, activeVal, switched}
+use Rattle.soundness.specs.Sound.{targetOf, namedStep}
 use Rattle.claims.specs.Reference.{Given, Job, State, state}
 use Rattle.claims.proofs.Virtual.{Entry, due, over, misses, entryOf, virtual, virtual-none, virtual-due, virtual-cong}
 use Rattle.claims.proofs.Invariant.{opAt, Live, JobOf, Mirrors}

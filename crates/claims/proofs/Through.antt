@@ -13,12 +13,12 @@ use Rattle.base.proofs.Bools.{and-left, and-right}
 use Rattle.image.specs.declared.Field.the-variants.{Pc}
 use Rattle.image.specs.Place.{field, Memory}
 use Rattle.image.specs.Image.{Image, at, workers, cellsOf}
-use Rattle.engine.specs.declared.Submitted.the-variants.{Taken}
-use Rattle.engine.specs.Cursor.{Cursor, on, cursorAt}
-use Rattle.engine.specs.Turn.{Outcome, stored, jumped, unheld, waiting, resting, refused}
-use Rattle.engine.specs.Submit.{submitAnswer, free}
-use Rattle.engine.specs.declared.Standing.the-variants.{Finished}
-use Rattle.engine.proofs.Planned.{idle-is}
+use Rattle.intake.specs.declared.Submitted.the-variants.{Taken}
+use Rattle.working.specs.Cursor.{Cursor, on, cursorAt}
+use Rattle.plan.specs.Turn.{Outcome, stored, jumped, unheld, waiting, resting, refused}
+use Rattle.intake.specs.Submit.{submitAnswer, free}
+use Rattle.intake.specs.declared.Standing.the-variants.{Finished}
+use Rattle.working.proofs.Placed.{idle-is}
 use Rattle.claims.specs.Reference.{Given, given}
 use Rattle.claims.specs.Events.{but}
 use Rattle.claims.specs.Calls.{Traced, isPc, turnBy, Call, submits, callable, call, lent}

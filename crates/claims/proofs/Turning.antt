@@ -11,10 +11,10 @@ use native.Mathlib.Decide.{decLt}
 use Rattle.image.specs.Place.{Place}
 use Rattle.image.specs.Image.{indexOf, at}
 use Rattle.image.proofs.Stores.{put-none}
-use Rattle.engine.specs.Cursor.{Cursor, cursorAt}
-use Rattle.engine.specs.Turn.{Outcome, stored, jumped, unheld, waiting, resting, refused, turnAt}
-use Rattle.engine.specs.World.{leaves, outcomeAt}
-use Rattle.engine.specs.Run.{anyOpen}
+use Rattle.working.specs.Cursor.{Cursor, cursorAt}
+use Rattle.plan.specs.Turn.{Outcome, stored, jumped, unheld, waiting, resting, refused, turnAt}
+use Rattle.turn.specs.Call.{leaves, outcomeAt}
+use Rattle.run.specs.Run.{anyOpen}
 use Rattle.claims.specs.Calls.{Traced, isPc, turnTrace, turnBy, turnedAt, refuses, round, rounds}
 use Rattle.claims.proofs.LiveCrashed.{live-crashed}
 use Rattle.claims.proofs.Worlds.{Running, Frozen, running-turn}

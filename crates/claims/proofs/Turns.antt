@@ -6,9 +6,10 @@ use mathlib.Core.Logic.{_≢_}
 use mathlib.Core.Bool.{true, cond}
 use Rattle.mask.specs.Mask.{has, with, without}
 use Rattle.image.specs.declared.Field.{Field}
-use Rattle.image.specs.Place.{Place, cell, lock, field, own, Memory, upd}
-use Rattle.engine.specs.Cursor.{Cursor}
-use Rattle.engine.specs.Turn.{Outcome, stored, jumped, unheld, waiting, resting, refused}
+use Rattle.image.specs.Place.{Place, cell, lock, field, own, Memory}
+use Rattle.image.specs.inner.Same.{upd}
+use Rattle.working.specs.Cursor.{Cursor}
+use Rattle.plan.specs.Turn.{Outcome, stored, jumped, unheld, waiting, resting, refused}
 use Rattle.claims.specs.Reference.{Given}
 use Rattle.claims.specs.Events.{but}
 use Rattle.claims.specs.Calls.{isPc}

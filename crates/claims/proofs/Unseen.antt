@@ -11,9 +11,10 @@ use mathlib.Core.List.{List}
 use lib.ListN.{take}
 use borrow.Author.Tests.{ne-eqb}
 use Rattle.image.specs.declared.Field.the-variants.{Count, Pc, Owned}
-use Rattle.image.specs.Place.{Place, cell, field, own, step, Memory, updAll}
-use Rattle.engine.specs.Submit.{submission}
-use Rattle.recovery.specs.Recovery.{plan}
+use Rattle.image.specs.Place.{Place, cell, field, own, step, Memory}
+use Rattle.image.specs.inner.Same.{updAll}
+use Rattle.intake.specs.Submit.{submission}
+use Rattle.repair.specs.Plan.{plan}
 use Rattle.claims.specs.Reference.{State}
 use Rattle.claims.proofs.Virtual.{Entry, over, entryOf, virtual, virtual-cong}
 use Rattle.claims.proofs.Invariant.{Mirrors, Crashed}

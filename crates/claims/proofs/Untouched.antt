@@ -18,16 +18,19 @@ use Rattle.image.specs.Place.{Place, cell, lock, field, own, step, Memory, Stor
 use Rattle.image.specs.Image.{Image, indexOf, at, workers, cellsOf, headerOk, put, putAll}
 use Rattle.image.proofs.Cells.{isCell, cells-other}
 use Rattle.image.proofs.Lists.{putAll-append}
-use Rattle.engine.specs.declared.Cursors.{Cursors}
-use Rattle.engine.specs.declared.Submitted.{Submitted}
-use Rattle.engine.specs.declared.Submitted.the-variants.{Taken, Refused}
-use Rattle.engine.specs.Cursor.{cursorAt}
-use Rattle.engine.specs.Turn.{stored, turnAt}
-use Rattle.engine.specs.World.{outcomeAt}
-use Rattle.engine.specs.Run.{anyOpen}
-use Rattle.engine.specs.Submit.{assigns, submission, submitAnswer, submitLeaves}
-use Rattle.recovery.specs.Recovery.{_≔_, when, rows, unbegun, owed, intended, intend, withdraw, relock, relocks, unlock, plan}
-use Rattle.recovery.specs.Recovery.{Recovered, accepted, misshapen, unsoundRecord, wrongLock, byLocks, byRecords, resumedAll, badLock, unsound, recovery}
+use Rattle.working.specs.declared.Cursors.{Cursors}
+use Rattle.intake.specs.declared.Submitted.{Submitted}
+use Rattle.intake.specs.declared.Submitted.the-variants.{Taken, Refused}
+use Rattle.working.specs.Cursor.{cursorAt}
+use Rattle.plan.specs.Turn.{stored, turnAt}
+use Rattle.turn.specs.Call.{outcomeAt}
+use Rattle.run.specs.Run.{anyOpen}
+use Rattle.intake.specs.Submit.{assigns, submission, submitAnswer, submitLeaves}
+use Rattle.repair.specs.Plan.{_≔_, when, rows, unbegun, intended, intend, withdraw, relock, relocks, unlock, plan}
+use Rattle.soundness.specs.Sound.{owed}
+use Rattle.recovery.specs.Recovery.{Recovered, accepted, misshapen, unsoundRecord, wrongLock, byLocks, byRecords, recovery}
+use Rattle.repair.specs.Plan.{resumedAll}
+use Rattle.soundness.specs.Sound.{badLock, unsound}
 use Rattle.claims.specs.Calls.{Traced, turnedAt, refuses, recoveredBy, Call, submits, turns, runs, recovers}
 use Rattle.claims.specs.Calls.{Move, whole, cut, call, lent, move, recovering, from, legal, callable, machine}
 use Rattle.claims.specs.Moments.{Moment, moment, Each, turnless, inRound, inRounds, inCall, inMove, inList, Guarded, UntouchedAlways}

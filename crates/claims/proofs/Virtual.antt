@@ -9,9 +9,10 @@ use lib.Dec.{eqb}
 use native.Mathlib.Omega.{arith}
 use native.Mathlib.Decide.{ℕ-discrete}
 use Rattle.image.specs.declared.Field.the-variants.{Pc}
-use Rattle.image.specs.Place.{Place, field, same, Memory}
-use Rattle.engine.specs.Turn.{activeVal}
-use Rattle.recovery.specs.Recovery.{targetOf, namedOp}
+use Rattle.image.specs.Place.{Place, field, Memory}
+use Rattle.image.specs.inner.Same.{same}
+use Rattle.plan.specs.Turn.{activeVal}
+use Rattle.soundness.specs.Sound.{targetOf, namedOp}
 
 -- what a worker's log has: nothing under way, or a value for a place
 pub data Entry : Type 0 where

@@ -8,19 +8,23 @@ use lib.ListN.{length, replicate}
 use Rattle.mask.specs.Mask.{has, with, without}
 use Rattle.image.specs.Place.{Memory, Store}
 use Rattle.image.specs.Image.{recordAt, lengthOf, indexOf, workers, at, headerOk, put, putAll}
-use Rattle.section.specs.Table.{entry, highest}
-use Rattle.section.specs.Op.{opOf, eval}
-use Rattle.section.specs.Check.{inRange, wellFormed, heldAfter, heldBefore, firstOf, formOf, useOf, check}
-use Rattle.engine.specs.Cursor.{cursorAt, setAt, allIdle}
-use Rattle.engine.specs.Turn.{operand, second, spareAddr, spareVal, activeAddr, activeVal, switched, ready, turnAt}
-use Rattle.engine.specs.World.{world, outcomeAt, outcome}
-use Rattle.engine.specs.Format.{formatted}
-use Rattle.engine.specs.Submit.{assigns, submission, free, submitAnswer}
-use Rattle.recovery.specs.Recovery.{covers, namedStep, namedOp, owed, sectionOk, pcOk, sound, resumed, unsound, claimants, lockOk, badLock, intended}
-use Rattle.recovery.specs.Recovery.{rows, intend, withdraw, relocks, unlock, plan, resumedAll, recovery}
+use Rattle.code.specs.Table.{entry, highest}
+use Rattle.code.specs.Op.{opOf, eval}
+use Rattle.code.specs.Form.{inRange, wellFormed, heldAfter}
+use Rattle.section.specs.Check.{heldBefore, firstOf, formOf, useOf, check}
+use Rattle.working.specs.Cursor.{cursorAt, setAt, allIdle}
+use Rattle.plan.specs.Turn.{operand, second, spareAddr, spareVal, activeAddr, activeVal, switched, ready, turnAt}
+use Rattle.working.specs.World.{world}
+use Rattle.turn.specs.Call.{outcomeAt, outcome}
+use Rattle.intake.specs.Format.{formatted}
+use Rattle.intake.specs.Submit.{assigns, submission, free, submitAnswer}
+use Rattle.soundness.specs.Sound.{covers, namedStep, namedOp, owed, sectionOk, pcOk, sound, unsound, claimants, lockOk, badLock}
+use Rattle.repair.specs.Plan.{resumed, intended}
+use Rattle.repair.specs.Plan.{rows, intend, withdraw, relocks, unlock, plan, resumedAll}
+use Rattle.recovery.specs.Recovery.{recovery}
 use Rattle.claims.specs.Calls.{Traced, traced, forgetful, submits, turns, recovers, whole, cut, call, move}
-use Rattle.engine.specs.declared.Submitted.{Submitted}
-use Rattle.engine.specs.declared.Submitted.the-variants.{Taken}
+use Rattle.intake.specs.declared.Submitted.{Submitted}
+use Rattle.intake.specs.declared.Submitted.the-variants.{Taken}
 use Rattle.claims.specs.Examples.{rows as table, expected, seenIn, causeIn, watched, ticket, board, many, row, seen, after}
 
 -- What the rows compute through, in groups: to unfold one of these is to unfold all that its line names.

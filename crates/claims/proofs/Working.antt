@@ -10,10 +10,10 @@ use lib.Dec.{ltb}
 use borrow.Author.Tests.{ltb-true}
 use native.Mathlib.Omega.{arith}
 use Rattle.image.specs.Image.{at}
-use Rattle.engine.specs.Cursor.{cursorAt}
-use Rattle.engine.specs.Turn.{turnAt}
-use Rattle.engine.specs.World.{outcomeAt, outcome}
-use Rattle.engine.specs.Run.{anyOpen}
+use Rattle.working.specs.Cursor.{cursorAt}
+use Rattle.plan.specs.Turn.{turnAt}
+use Rattle.turn.specs.Call.{outcomeAt, outcome}
+use Rattle.run.specs.Run.{anyOpen}
 use Rattle.claims.specs.Calls.{Traced, turnBy, turnedAt, rounds, submits, turns, runs, recovers, Move, whole, cut, call, lent, move, play}
 use Rattle.claims.specs.Claims.{working, roundsIn}
 use Rattle.claims.proofs.Progress.{rankSum-most}

@@ -10,17 +10,18 @@ use borrow.Author.Tests.{lt-ltb, ne-eqb}
 use native.Mathlib.Omega.{arith}
 use Rattle.base.proofs.Bools.{and-both}
 use Rattle.image.specs.declared.Field.the-variants.{Pc}
-use Rattle.image.specs.Place.{Place, field, valid, Memory, upd}
+use Rattle.image.specs.Place.{Place, field, valid, Memory}
+use Rattle.image.specs.inner.Same.{upd}
 use Rattle.image.specs.Image.{Image, indexOf, at, workers, headerOk, put}
 use Rattle.image.proofs.Header.{Sized, header-sized, header-workers}
 use Rattle.image.proofs.Stores.{header-store, workers-store}
-use Rattle.section.specs.declared.Op.{Op}
-use Rattle.section.specs.declared.Op.the-variants.{Acquire, Release, Assign, Jump, Finish, Unknown}
-use Rattle.engine.specs.Cursor.{Cursor, cursorAt, placed}
-use Rattle.engine.specs.Turn.{Outcome, stored, jumped, unheld, waiting, resting as rests, refused, turnAt}
-use Rattle.engine.specs.World.{leaves}
-use Rattle.engine.proofs.Placed.{Full, sayable}
-use Rattle.recovery.specs.Recovery.{targetTurn}
+use Rattle.code.specs.declared.Op.{Op}
+use Rattle.code.specs.declared.Op.the-variants.{Acquire, Release, Assign, Jump, Finish, Unknown}
+use Rattle.working.specs.Cursor.{Cursor, cursorAt, placed}
+use Rattle.plan.specs.Turn.{Outcome, stored, jumped, unheld, waiting, resting as rests, refused, turnAt}
+use Rattle.turn.specs.Call.{leaves}
+use Rattle.working.proofs.Placed.{Full, sayable}
+use Rattle.repair.specs.Plan.{targetTurn}
 use Rattle.claims.specs.Reference.{Given, State, follow, initial}
 use Rattle.claims.specs.Events.{but}
 use Rattle.claims.specs.Calls.{Traced, recording, isPc, turnTrace, turnBy}

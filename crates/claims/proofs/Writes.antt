@@ -10,15 +10,16 @@ use lib.Dec.{eqb, ltb}
 use Rattle.image.specs.declared.Field.{Field}
 use Rattle.image.specs.declared.Field.the-variants.{Count, Pc, Addr0, Val0, Addr1, Val1, Intent, Owned, Number, Finished}
 use Rattle.image.specs.Place.{Place, cell, lock, field, own, step, Memory}
-use Rattle.section.specs.declared.Op.{Op}
-use Rattle.section.specs.declared.Op.the-variants.{Acquire, Release, Assign, Jump, Finish, Unknown}
+use Rattle.code.specs.declared.Op.{Op}
+use Rattle.code.specs.declared.Op.the-variants.{Acquire, Release, Assign, Jump, Finish, Unknown}
 use Rattle.section.proofs.Steps.{ends}
-use Rattle.engine.specs.Cursor.{Cursor, on}
-use Rattle.engine.specs.Turn.{Outcome, stored, jumped, unheld, waiting, resting as rests, refused, operand, codeIn, second, spareAddr, spareVal}
-use Rattle.engine.specs.Turn.{switched, logged, lockTurn, unlockTurn, opTurn, turnAt}
-use Rattle.recovery.specs.Recovery.{namedStep, targetTurn}
+use Rattle.working.specs.Cursor.{Cursor, on}
+use Rattle.plan.specs.Turn.{Outcome, stored, jumped, unheld, waiting, resting as rests, refused, operand, codeIn, second, spareAddr, spareVal}
+use Rattle.plan.specs.Turn.{switched, logged, lockTurn, unlockTurn, opTurn, turnAt}
+use Rattle.soundness.specs.Sound.{namedStep}
+use Rattle.repair.specs.Plan.{targetTurn}
 use Rattle.claims.specs.Reference.{Given}
-use Rattle.claims.proofs.Invariant.{opAt, heldAt, Sectioned, Named, Nearing, Due, Jumps, stay, leap, Entered}
+use Rattle.claims.proofs.Invariant.{opAt, heldAt, Sectioned, Named, Nearing, Due, Jumps, stay, leap, Lodged}
 use Rattle.claims.proofs.Invariant.{Phase, resting, fresh, due, unlocking, unlocked, between, ended}
 use Rattle.claims.proofs.Entries.{named-pc, named-step}
 use Rattle.claims.proofs.Origins.{near-ready}
@@ -161,7 +162,7 @@ module _ (n : ℕ) (rd : Memory) (d : ℕ) (g : Given) where
   -- ---- the phases
 
   fresh-says :
-      (t locks : ℕ) → Sectioned n rd d → Entered n rd d g → rd (field Pc d) ≡ 0 → Nearing n rd d 0 t 0 locks (opAt n rd d 0)
+      (t locks : ℕ) → Sectioned n rd d → Lodged n rd d g → rd (field Pc d) ≡ 0 → Nearing n rd d 0 t 0 locks (opAt n rd d 0)
       → Says (turnAt n rd d (on 0 t))
   fresh-says t locks sec entered p near =
       let (a, x) = sec .valid .first in

@@ -9,13 +9,14 @@ use Rattle.image.specs.declared.Field.the-variants.{Count, Pc, Addr0, Val0, Add
 use Rattle.image.specs.declared.Field.{Field}
 use Rattle.image.specs.Place.{Place, cell, lock, field, own, step}
 use Rattle.image.specs.Image.{Image, at, workers, headerOk, putAll}
-use Rattle.engine.specs.declared.Submitted.{Submitted}
-use Rattle.engine.specs.declared.Submitted.the-variants.{Taken, Refused}
-use Rattle.engine.specs.Cursor.{stepNo, cursorAt, allIdle}
-use Rattle.engine.specs.Turn.{Outcome, stored, jumped, unheld, waiting, resting, refused}
-use Rattle.engine.specs.World.{World, world, leaves, outcomeAt, outcome}
-use Rattle.engine.specs.Submit.{submitAnswer, submitLeaves}
-use Rattle.engine.specs.Run.{anyOpen}
+use Rattle.intake.specs.declared.Submitted.{Submitted}
+use Rattle.intake.specs.declared.Submitted.the-variants.{Taken, Refused}
+use Rattle.working.specs.Cursor.{stepNo, cursorAt, allIdle}
+use Rattle.plan.specs.Turn.{Outcome, stored, jumped, unheld, waiting, resting, refused}
+use Rattle.working.specs.World.{World, world}
+use Rattle.turn.specs.Call.{leaves, outcomeAt, outcome}
+use Rattle.intake.specs.Submit.{submitAnswer, submitLeaves}
+use Rattle.run.specs.Run.{anyOpen}
 use Rattle.recovery.specs.Recovery.{Recovered, accepted, misshapen, unsoundRecord, wrongLock, recovery}
 use Rattle.claims.specs.Reference.{Given, given}
 use Rattle.claims.specs.Events.{Event, taken, moved, waited, recorded, ended, lost, but}

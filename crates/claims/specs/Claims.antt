@@ -10,13 +10,13 @@ use Rattle.image.specs.declared.Field.the-variants.{Count, Pc, Intent, Owned, F
 use Rattle.image.specs.Place.{lock, field, Store}
 use Rattle.image.specs.Image.{Image, at, cellsOf, headerOk, workers}
 use Rattle.section.specs.Check.{codeOf, check, passes}
-use Rattle.engine.specs.declared.Cursors.{Cursors}
-use Rattle.engine.specs.declared.End.{End}
-use Rattle.engine.specs.declared.End.the-variants.{AllIdle, Spent, Halted}
-use Rattle.engine.specs.Cursor.{Cursor, idle, on, cursorAt}
-use Rattle.engine.specs.World.{outcome}
-use Rattle.engine.specs.Format.{formatted}
-use Rattle.engine.specs.Run.{runOf}
+use Rattle.working.specs.declared.Cursors.{Cursors}
+use Rattle.run.specs.declared.End.{End}
+use Rattle.run.specs.declared.End.the-variants.{AllIdle, Spent, Halted}
+use Rattle.working.specs.Cursor.{Cursor, idle, on, cursorAt}
+use Rattle.turn.specs.Call.{outcome}
+use Rattle.intake.specs.Format.{formatted}
+use Rattle.run.specs.Run.{runOf}
 use Rattle.recovery.specs.Recovery.{accepted, recovery}
 use Rattle.claims.specs.Reference.{Given, given, Job, State, initial, follow, noneLeft}
 use Rattle.claims.specs.Calls.{Traced, refuses, call, lent, play, from}

@@ -6,14 +6,14 @@ use lib.ListN.{replicate}
 use Rattle.image.specs.declared.Field.the-variants.{Count}
 use Rattle.image.specs.Place.{cell, field}
 use Rattle.image.specs.Image.{at}
-use Rattle.engine.specs.declared.Submitted.{Submitted}
-use Rattle.engine.specs.declared.Submitted.the-variants.{Taken, Refused}
-use Rattle.engine.specs.Edition.{mark, ownWords}
-use Rattle.engine.specs.Refusal.{causeOf}
-use Rattle.engine.specs.Turn.{Outcome, stored, jumped, unheld, waiting, resting, refused}
-use Rattle.engine.specs.World.{outcome}
-use Rattle.engine.specs.Format.{formatted}
-use Rattle.engine.specs.Submit.{submitAnswer}
+use Rattle.intake.specs.declared.Submitted.{Submitted}
+use Rattle.intake.specs.declared.Submitted.the-variants.{Taken, Refused}
+use Rattle.edition.specs.Edition.{mark, ownWords}
+use Rattle.working.specs.Refusal.{causeOf}
+use Rattle.plan.specs.Turn.{Outcome, stored, jumped, unheld, waiting, resting, refused}
+use Rattle.turn.specs.Call.{outcome}
+use Rattle.intake.specs.Format.{formatted}
+use Rattle.intake.specs.Submit.{submitAnswer}
 use Rattle.claims.specs.Calls.{Traced, submits, turns, recovers, whole, cut, move, from}
 
 -- kind, a, b, c

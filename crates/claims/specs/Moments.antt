@@ -7,10 +7,10 @@ use mathlib.Core.Bool.{Bool, true, false, cond}
 use Rattle.image.specs.declared.Field.the-variants.{Pc}
 use Rattle.image.specs.Place.{cell, lock, field}
 use Rattle.image.specs.Image.{Image, at, workers, cellsOf, headerOk}
-use Rattle.engine.specs.Cursor.{Cursor}
-use Rattle.engine.specs.Turn.{stored}
-use Rattle.engine.specs.World.{outcomeAt, outcome}
-use Rattle.engine.specs.Run.{anyOpen}
+use Rattle.working.specs.Cursor.{Cursor}
+use Rattle.plan.specs.Turn.{stored}
+use Rattle.turn.specs.Call.{outcomeAt, outcome}
+use Rattle.run.specs.Run.{anyOpen}
 use Rattle.claims.specs.Calls.{Traced, Call, submits, turns, runs, recovers, Move, whole, cut, call, move, lent, turnedAt, refuses, from}
 use Rattle.claims.specs.Claims.{Always}
 

@@ -12,14 +12,14 @@ use lib.Dec.{ltb, eqb}
 use Rattle.image.specs.declared.Field.the-variants.{Pc, Number, Finished as FinishedField}
 use Rattle.image.specs.Place.{field}
 use Rattle.image.specs.Image.{Image, at, workers, cellsOf}
-use Rattle.section.specs.declared.Op.the-variants.{Finish}
-use Rattle.section.specs.Op.{opOf}
-use Rattle.engine.specs.declared.Refusal.the-variants.{Number as NumberRefused}
-use Rattle.engine.specs.declared.Submitted.the-variants.{Taken, Refused}
-use Rattle.engine.specs.Submit.{submitAnswer}
-use Rattle.engine.specs.declared.Standing.{Standing}
-use Rattle.engine.specs.declared.Standing.the-variants.{NotBegun, Begun, Finished}
-use Rattle.engine.specs.Asking.{standingIn}
+use Rattle.code.specs.declared.Op.the-variants.{Finish}
+use Rattle.code.specs.Op.{opOf}
+use Rattle.working.specs.declared.Refusal.the-variants.{Number as NumberRefused}
+use Rattle.intake.specs.declared.Submitted.the-variants.{Taken, Refused}
+use Rattle.intake.specs.Submit.{submitAnswer}
+use Rattle.intake.specs.declared.Standing.{Standing}
+use Rattle.intake.specs.declared.Standing.the-variants.{NotBegun, Begun, Finished}
+use Rattle.intake.specs.Asking.{standingIn}
 use Rattle.claims.specs.Reference.{Given, given, Job, State, initial, follow}
 use Rattle.claims.specs.Events.{takenIn, begunIn}
 use Rattle.claims.specs.Calls.{Traced, Call, submits, turns, runs, recovers, Move, whole, move, ofMove, from, legal, plain, machine}

@@ -6,9 +6,9 @@ use mathlib.Core.Option.{Option, some, none}
 use lib.ListN.{getD, set, replicate}
 use lib.Dec.{ltb, eqb}
 use Rattle.mask.specs.Mask.{has, with, without}
-use Rattle.section.specs.declared.Op.{Op}
-use Rattle.section.specs.declared.Op.the-variants.{Acquire, Release, Assign, Jump, Finish, Unknown}
-use Rattle.section.specs.Op.{opOf, eval}
+use Rattle.code.specs.declared.Op.{Op}
+use Rattle.code.specs.declared.Op.the-variants.{Acquire, Release, Assign, Jump, Finish, Unknown}
+use Rattle.code.specs.Op.{opOf, eval}
 
 -- a section under way: its instruction words, the next step's number, its own words and the locks it holds
 pub record Job : Type 0 where

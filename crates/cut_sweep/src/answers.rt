@@ -1,8 +1,8 @@
 // What a call answers, in numbers.
-use engine::Answer;
-use engine::End;
-use engine::Refusal;
-use engine::Submitted;
+use turn::Answer;
+use run::End;
+use working::Refusal;
+use intake::Submitted;
 
 // Tag 0 done or taken, 1 stored, 2 passed, 3 waiting, 4 idle, 5 all idle, 6 spent, 7 refused; document 01's cause, 0 where
 // it is not refused; and the step, worker, lock or index that goes with it, 0 where there is none.
@@ -29,7 +29,7 @@ pub fn no(cause: u64, value: u64) -> Told {
 }
 
 fn refused(r: Refusal) -> Told {
-    no(engine::cause(r), engine::value(r) as u64)
+    no(working::cause(r), working::value(r) as u64)
 }
 
 pub fn submitted(a: Submitted) -> Told {
@@ -57,9 +57,9 @@ pub fn ran(e: End) -> Told {
     }
 }
 
-pub fn recovered(a: recovery::Answer) -> Told {
+pub fn recovered(a: soundness::Answer) -> Told {
     match a {
-        recovery::Answer::Done => plain(0, 0),
-        recovery::Answer::Refused(r) => no(recovery::cause(r), recovery::value(r)),
+        soundness::Answer::Done => plain(0, 0),
+        soundness::Answer::Refused(r) => no(soundness::cause(r), soundness::value(r)),
     }
 }

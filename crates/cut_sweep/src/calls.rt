@@ -2,7 +2,7 @@
 use crate::answers;
 use crate::answers::Told;
 use crate::sections;
-use engine::Cursors;
+use working::Cursors;
 use image::Field;
 use tally::Tally;
 ghost use Prim.Native.Nat.{_≤_};
@@ -72,7 +72,7 @@ fn submit(
     let mut words = [0u64; 16];
     let n = sections::put(section, &mut words);
     let args = [(seed >> 50) % 2, seed >> 8, seed, 3, 4, 5, 6, 7];
-    let h = engine::submit(image, c, worker, number, &args, &words[..n], left);
+    let h = edition::submit(image, c, worker, number, &args, &words[..n], left);
     let answer = h.answer;
     let after = h.cursors;
     Made {
@@ -83,7 +83,7 @@ fn submit(
 }
 
 fn turn(image: &mut [u64], c: Cursors, worker: usize, left: &mut u64) -> Made {
-    let t = engine::turn(image, c, worker, left);
+    let t = edition::turn(image, c, worker, left);
     let answer = t.answer;
     let after = t.cursors;
     Made {
@@ -94,7 +94,7 @@ fn turn(image: &mut [u64], c: Cursors, worker: usize, left: &mut u64) -> Made {
 }
 
 pub fn run(image: &mut [u64], c: Cursors, rounds: u16, left: &mut u64) -> Made {
-    let r = engine::run(image, c, rounds, left);
+    let r = edition::run(image, c, rounds, left);
     let end = r.end;
     let after = r.cursors;
     let counted = r.tally;
@@ -107,7 +107,7 @@ pub fn run(image: &mut [u64], c: Cursors, rounds: u16, left: &mut u64) -> Made {
 
 // The one place that calls a recovery.
 pub fn recover(image: &mut [u64], left: &mut u64) -> Made {
-    let r = recovery::recover(image, left);
+    let r = edition::recover(image, left);
     let answer = r.answer;
     let after = r.cursors;
     Made {

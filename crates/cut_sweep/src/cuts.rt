@@ -2,7 +2,7 @@
 use crate::calls;
 use crate::calls::Call;
 use crate::fold;
-use engine::Cursors;
+use working::Cursors;
 ghost use Prim.Native.Nat.{_≤_};
 
 // The digest so far, and the number of plays that are in it.

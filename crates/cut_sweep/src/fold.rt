@@ -1,6 +1,6 @@
 // The digest: one number that every word told goes into.
 use crate::calls::Made;
-use engine::Cursors;
+use working::Cursors;
 use tally::Tally;
 
 // The digest with one more word: nine times their sum without carries, turned left by 27 bits.

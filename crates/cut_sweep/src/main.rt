@@ -6,7 +6,7 @@
 // rust/twin, and never from a run of this program. The command, in the repository's root:
 //     cargo run --release --manifest-path rust/twin/Cargo.toml --bin sweep > crates/cut_sweep/stdout
 use cuts::Digest;
-use engine::Cursors;
+use working::Cursors;
 
 mod answers;
 mod calls;
@@ -85,7 +85,7 @@ fn list(image: &mut [u64], cut: &mut [u64], play: &mut [u64], workers: usize, se
     requires { ⌜ (workers ≤ 8) × (calls ≤ 1000) ⌝ }
 {
     let mut left = u64::MAX;
-    let cleared = engine::format(image, workers as u64, &mut left);
+    let cleared = edition::format(image, workers as u64, &mut left);
     let c = cleared.cursors;
     let mut l = Standing {
         cursors: c,

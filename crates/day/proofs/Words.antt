@@ -7,12 +7,13 @@ use borrow.Author.Tests.{leb-true}
 use lib.Dec.{leb}
 use Rattle.base.proofs.Bools.{and-right}
 use Rattle.image.specs.Image.{lengthOf, recordAt}
-use Rattle.engine.specs.Format.{imageWords}
+use Rattle.intake.specs.Format.{imageWords}
+use Rattle.edition.specs.Edition.{ownWords, largest}
 
-private-most : (D : ℕ) (t : Bool) → (leb 1 D && leb D 8) ≡ t → imageWords 8 D ≤ 1240
+private-most : (D : ℕ) (t : Bool) → (leb 1 D && leb D 8) ≡ t → imageWords ownWords D ≤ largest
 unfolding imageWords lengthOf recordAt
 private-most D true e = let h : D ≤ 8 = leb-true D 8 (and-right (leb 1 D) (leb D 8) e) in rw e (omega arith)
 private-most D false e = rw e (omega arith)
 
-pub words-most : (D : ℕ) → imageWords 8 D ≤ 1240
+pub words-most : (D : ℕ) → imageWords ownWords D ≤ largest
 words-most D = private-most D _ refl

@@ -4,6 +4,7 @@ use mathlib.Core.List.{List}
 use mathlib.Core.Bool.{Bool, false, cond}
 use lib.ListN.{length, getD}
 use lib.Dec.{eqb, ltb, leb}
+use Rattle.edition.specs.Edition.{largest}
 use Rattle.day.specs.declared.Day.{Day}
 
 -- where the line that starts at an index ends: at the first byte 10 of the n bytes from there, or behind them
@@ -22,4 +23,4 @@ pub record Within (image : List ℕ) (buf : List ℕ) (out : List ℕ) (s : Day)
   pub unwritten : s .used ≤ length out
   pub room : 22 ≤ length out
   pub words : s .words ≤ length image
-  pub largest : 1240 ≤ length image
+  pub largest : largest ≤ length image

@@ -1,6 +1,6 @@
 // A day: frame lines from a descriptor, played one after the other on one image, and what they print written to another.
 // Input and output go in large pieces; what is to be printed is written before the next piece of input is waited for.
-use engine::Cursors;
+use working::Cursors;
 
 mod input;
 mod playing;
@@ -45,7 +45,7 @@ fn step(input: i32, output: i32, image: &mut [u64], buf: &mut [u8], out: &mut [u
 
 // Plays the day that comes from one descriptor, and prints to another.
 pub fn play(input: i32, output: i32) {
-    let mut image = [0u64; image::LARGEST];
+    let mut image = [0u64; edition::LARGEST];
     let mut buf = io::large_buffer();
     let mut out = io::large_buffer();
     let mut s = playing::dawn();

@@ -1,12 +1,13 @@
 // Lines played on the image: the first, which formats it, and the others.
 use crate::Day;
 use crate::printing;
-use engine::Formatted;
+use intake::Formatted;
 use frames::Job;
 use frames::Opening;
 ghost use mathlib.Core.Path.{_≡_};
 ghost use Prim.Native.Nat.{_≤_};
 ghost use lib.ListN.{length};
+ghost use Rattle.edition.specs.Edition.{largest};
 ghost use Rattle.day.specs.Jobs.{isGoing, isStop};
 
 // The start of a day: nothing is read yet.
@@ -19,7 +20,7 @@ pub fn dawn() -> Day
         more: true,
         used: 0,
         words: 0,
-        cursors: engine::working::all_idle(),
+        cursors: working::all_idle(),
         over: false,
     }
 }
@@ -61,12 +62,12 @@ fn refuse(fd: i32, out: &mut [u8], s: Day, cause: u64) -> Day
 
 // The image is formatted for so many workers.
 fn format(fd: i32, image: &mut [u64], out: &mut [u8], s: Day, workers: u64) -> Day
-    requires { ⌜ (s .used ≤ length (now out)) × (22 ≤ length (now out)) × (1240 ≤ length (now image)) × (s .words ≡ 0) ⌝ }
+    requires { ⌜ (s .used ≤ length (now out)) × (22 ≤ length (now out)) × (largest ≤ length (now image)) × (s .words ≡ 0) ⌝ }
     ensures { λ r. ⌜ (r .to ≡ s .to) × (r .used ≤ length (now (out .exit))) × (r .words ≤ length (now (image .exit))) ⌝ }
 {
-    let n = engine::image_words(workers);
+    let n = edition::image_words(workers);
     let mut left = u64::MAX;
-    let c = engine::format(&mut image[..n], workers, &mut left);
+    let c = edition::format(&mut image[..n], workers, &mut left);
     let answer = c.answer;
     match answer {
         Formatted::Done => {
@@ -74,12 +75,12 @@ fn format(fd: i32, image: &mut [u64], out: &mut [u8], s: Day, workers: u64) -> D
             r.words = n;
             r
         }
-        Formatted::Refused(r) => refuse(fd, out, s, engine::cause(r)),
+        Formatted::Refused(r) => refuse(fd, out, s, working::cause(r)),
     }
 }
 
 fn first(fd: i32, image: &mut [u64], out: &mut [u8], s: Day, text: &[u8]) -> Day
-    requires { ⌜ (s .used ≤ length (now out)) × (22 ≤ length (now out)) × (1240 ≤ length (now image)) × (s .words ≡ 0) ⌝ }
+    requires { ⌜ (s .used ≤ length (now out)) × (22 ≤ length (now out)) × (largest ≤ length (now image)) × (s .words ≡ 0) ⌝ }
     ensures { λ r. ⌜ (r .to ≡ s .to) × (r .used ≤ length (now (out .exit))) × (r .words ≤ length (now (image .exit))) ⌝ }
 {
     let o = frames::first(text);
@@ -146,7 +147,7 @@ fn later(fd: i32, image: &mut [u64], out: &mut [u8], s: Day, text: &[u8]) -> Day
 
 // One line.
 pub fn line(fd: i32, image: &mut [u64], out: &mut [u8], s: Day, text: &[u8]) -> Day
-    requires { ⌜ (s .used ≤ length (now out)) × (22 ≤ length (now out)) × (1240 ≤ length (now image)) × (s .words ≤ length (now image)) ⌝ }
+    requires { ⌜ (s .used ≤ length (now out)) × (22 ≤ length (now out)) × (largest ≤ length (now image)) × (s .words ≤ length (now image)) ⌝ }
     ensures { λ r. ⌜ (r .to ≡ s .to) × (r .used ≤ length (now (out .exit))) × (r .words ≤ length (now (image .exit))) ⌝ }
 {
     let n = s.words;

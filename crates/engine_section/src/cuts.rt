@@ -23,7 +23,7 @@ fn submitted(k: u64) {
     let c = blank(&mut image);
     let before = image;
     let mut left = k;
-    engine::submit(
+    edition::submit(
         &mut image,
         c,
         0,
@@ -97,7 +97,7 @@ fn ran(k: u64) {
     let c = ready(&mut image);
     let before = image;
     let mut left = k;
-    engine::run(&mut image, c, 19, &mut left);
+    edition::run(&mut image, c, 19, &mut left);
     say::words(&before, &image);
     say::left(left);
 }

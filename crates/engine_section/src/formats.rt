@@ -3,7 +3,7 @@ use super::blank;
 use super::idle;
 use super::say;
 use super::turn;
-use engine::Formatted;
+use intake::Formatted;
 
 fn told(a: Formatted) {
     match a {
@@ -24,7 +24,7 @@ fn resting(yes: bool) {
 fn answer(name: &[u8], image: &mut [u64], workers: u64) {
     say::text(name);
     let mut left: u64 = 2000;
-    let f = engine::format(image, workers, &mut left);
+    let f = edition::format(image, workers, &mut left);
     let a = f.answer;
     let c = f.cursors;
     told(a);
@@ -76,7 +76,7 @@ fn started(k: u64) {
     say::text(b"\n");
     let mut image = [7u64; 666];
     let mut left = k;
-    engine::format(&mut image, 1, &mut left);
+    edition::format(&mut image, 1, &mut left);
     say::words(&[7; 666], &image);
     say::left(left);
 }
@@ -91,7 +91,7 @@ fn nearly(k: u64) {
     let c = blank(&mut whole);
     let mut image = [7u64; 666];
     let mut left = k;
-    engine::format(&mut image, 1, &mut left);
+    edition::format(&mut image, 1, &mut left);
     say::words(&whole, &image);
     say::left(left);
     turn(&mut image, c, 0, &mut left);

@@ -6,7 +6,7 @@ use super::spoil;
 use super::turn;
 use super::two;
 use super::word;
-use engine::Cursors;
+use working::Cursors;
 
 // A run of two workers, with one word of the image overwritten and worker 1 put at a step and a turn: how it ends, the words
 // that it changed, and where the two stand.

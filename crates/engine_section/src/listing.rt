@@ -10,7 +10,7 @@ use super::run;
 use super::say;
 use super::spoil;
 use super::turns;
-use engine::Cursors;
+use working::Cursors;
 
 // What the section leaves: cell 24; the last finished number, count and pc; lock 3.
 fn after(image: &[u64], c: Cursors) {
@@ -75,7 +75,7 @@ fn jumps(name: &[u8], first: u64) {
     let mut image = [0u64; 666];
     let c = blank(&mut image);
     let mut left: u64 = 1000;
-    let h = engine::submit(
+    let h = edition::submit(
         &mut image,
         c,
         0,

@@ -13,7 +13,7 @@ mod two;
 
 ghost use mathlib.Core.Path.{_≡_};
 ghost use Prim.Native.Nat.{_+_, _*_, _^_};
-use engine::Cursors;
+use working::Cursors;
 
 // An instruction word: "kind, a, b, c, sixteen bits each, kind highest".
 fn word(kind: u16, a: u16, b: u16, c: u16) -> u64
@@ -55,7 +55,7 @@ fn idle() -> Cursors {
 // An image of one worker, formatted.
 fn blank(image: &mut [u64]) -> Cursors {
     let mut left: u64 = 1000;
-    let f = engine::format(image, 1, &mut left);
+    let f = edition::format(image, 1, &mut left);
     f.cursors
 }
 
@@ -64,7 +64,7 @@ fn blank(image: &mut [u64]) -> Cursors {
 fn ready(image: &mut [u64]) -> Cursors {
     let mut left: u64 = 1000;
     let c = blank(image);
-    let h = engine::submit(
+    let h = edition::submit(
         image,
         c,
         0,
@@ -84,7 +84,7 @@ fn spoil(image: &mut [u64], at: usize, value: u64) {
 
 // One turn of a worker, told.
 fn turn(image: &mut [u64], c: Cursors, d: usize, left: &mut u64) -> Cursors {
-    let t = engine::turn(image, c, d, left);
+    let t = edition::turn(image, c, d, left);
     let a = t.answer;
     say::answer(image, a);
     t.cursors
@@ -107,7 +107,7 @@ fn turns(image: &mut [u64], start: Cursors, d: usize, k: u64) -> Cursors {
 // A run, told: how it ended, and its turns, waits and stores.
 fn run(image: &mut [u64], c: Cursors, rounds: u16) -> Cursors {
     let mut left: u64 = 1000;
-    let r = engine::run(image, c, rounds, &mut left);
+    let r = edition::run(image, c, rounds, &mut left);
     let e = r.end;
     let t = r.tally;
     say::run(e, t);

@@ -1,11 +1,11 @@
 // Telling answers, refusals, runs and the words of an image.
-use engine::Answer;
-use engine::Cursors;
-use engine::End;
-use engine::Refusal;
+use turn::Answer;
+use working::Cursors;
+use run::End;
+use working::Refusal;
 use tally::Tally;
 ghost use mathlib.Core.Path.{_≡_};
-ghost use Rattle.engine.specs.Refusal.{causeOf, valueOf};
+ghost use Rattle.working.specs.Refusal.{causeOf, valueOf};
 
 pub fn text(t: &[u8]) {
     io::write_all(1, t);

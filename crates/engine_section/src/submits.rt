@@ -11,8 +11,8 @@ use super::run;
 use super::say;
 use super::spoil;
 use super::word;
-use engine::Cursors;
-use engine::Submitted;
+use working::Cursors;
+use intake::Submitted;
 
 fn told(a: Submitted) {
     match a {
@@ -30,7 +30,7 @@ fn row(name: &[u8], at: usize, value: u64, c: Cursors, d: usize, number: u64, wo
     spoil(&mut image, at, value);
     let before = image;
     let mut left: u64 = 100;
-    let h = engine::submit(&mut image, c, d, number, &[0; 8], words, &mut left);
+    let h = edition::submit(&mut image, c, d, number, &[0; 8], words, &mut left);
     let a = h.answer;
     let e = h.cursors;
     told(a);
@@ -158,7 +158,7 @@ fn again(name: &[u8], rounds: u16, number: u64) {
     let c = ready(&mut image);
     let m = run(&mut image, c, rounds);
     let mut left: u64 = 100;
-    let h = engine::submit(
+    let h = edition::submit(
         &mut image,
         m,
         0,

@@ -6,12 +6,12 @@ use super::run;
 use super::say;
 use super::turns;
 use super::word;
-use engine::Cursors;
+use working::Cursors;
 
 // Submits, for worker d: acquire 3; cell 24 := cell 24 + own word 0; release 3; finish.
 fn adding(image: &mut [u64], c: Cursors, d: usize, amount: u64) -> Cursors {
     let mut left: u64 = 1000;
-    let h = engine::submit(
+    let h = edition::submit(
         image,
         c,
         d,
@@ -26,7 +26,7 @@ fn adding(image: &mut [u64], c: Cursors, d: usize, amount: u64) -> Cursors {
 // An image of two workers; worker 0 is to add 5, and worker 1 to add 7.
 pub fn both(image: &mut [u64]) -> Cursors {
     let mut left: u64 = 1000;
-    let f = engine::format(image, 2, &mut left);
+    let f = edition::format(image, 2, &mut left);
     let idle = f.cursors;
     let c = adding(image, idle, 0, 5);
     adding(image, c, 1, 7)

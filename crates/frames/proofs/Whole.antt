@@ -11,15 +11,16 @@ use lib.Dec.{ltb}
 use Rattle.base.proofs.Counting.{left-step, left-none}
 use Rattle.image.specs.Place.{Store}
 use Rattle.image.specs.Image.{Image, indexOf}
-use Rattle.engine.specs.declared.Cursors.{Cursors}
-use Rattle.engine.specs.Edition.{mark, ownWords}
-use Rattle.engine.specs.Turn.{Outcome, stored, jumped, unheld, waiting, resting, refused}
-use Rattle.engine.specs.World.{outcome}
-use Rattle.recovery.specs.declared.Repair.{Repair}
-use Rattle.recovery.specs.Repair.{slotAt, slotOf}
-use Rattle.recovery.specs.Recovery.{rows, recovery}
+use Rattle.working.specs.declared.Cursors.{Cursors}
+use Rattle.edition.specs.Edition.{mark, ownWords}
+use Rattle.plan.specs.Turn.{Outcome, stored, jumped, unheld, waiting, resting, refused}
+use Rattle.turn.specs.Call.{outcome}
+use Rattle.repair.specs.declared.Repair.{Repair}
+use Rattle.repair.specs.Repair.{slotAt, slotOf}
+use Rattle.repair.specs.Plan.{rows}
+use Rattle.recovery.specs.Recovery.{recovery}
 use Rattle.recovery.specs.Recover.{repairBy, storesOf}
-use Rattle.recovery.proofs.Slots.{single, slot-single}
+use Rattle.repair.proofs.Slots.{single, slot-single}
 use Rattle.recovery.proofs.Answers.{stores-are}
 use Rattle.frames.specs.declared.Printed.{Printed}
 use Rattle.frames.specs.declared.Printed.the-variants.{Nothing, Line}

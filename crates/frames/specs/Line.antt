@@ -4,7 +4,7 @@ use mathlib.Core.List.{List, [], _∷_}
 use mathlib.Core.Bool.{cond}
 use lib.ListN.{length, drop}
 use lib.Dec.{ltb, eqb}
-use Rattle.recovery.specs.Recovery.{eight}
+use Rattle.soundness.specs.Sound.{eight}
 use Rattle.frames.specs.declared.Opening.{Opening}
 use Rattle.frames.specs.declared.Opening.the-variants.{Workers, Malformed as OpeningMalformed}
 use Rattle.frames.specs.declared.Frame.{Frame}

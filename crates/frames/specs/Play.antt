@@ -5,18 +5,19 @@ use mathlib.Core.List.{List}
 use mathlib.Core.Bool.{Bool, true, false, cond}
 use lib.Dec.{ltb}
 use Rattle.image.specs.Image.{Image}
-use Rattle.engine.specs.declared.Cursors.{Cursors}
-use Rattle.engine.specs.declared.Submitted.{Submitted}
-use Rattle.engine.specs.declared.Answer.{Answer}
-use Rattle.engine.specs.declared.Answer.the-variants.{Stored, Passed, Waiting, Idle, Refused as TurnRefused}
-use Rattle.engine.specs.Edition.{mark, ownWords}
-use Rattle.engine.specs.Turn.{Outcome}
-use Rattle.engine.specs.World.{World, world, outcome, answerOf, leaves}
-use Rattle.engine.specs.Submit.{submitAnswer, submitLeaves}
-use Rattle.recovery.specs.declared.Repair.{Repair}
-use Rattle.recovery.specs.declared.Answer.{Answer as Recovery}
-use Rattle.recovery.specs.declared.Answer.the-variants.{Done, Refused as RecoveryRefused}
-use Rattle.recovery.specs.Repair.{noRepair, slotAt, slotOf}
+use Rattle.working.specs.declared.Cursors.{Cursors}
+use Rattle.intake.specs.declared.Submitted.{Submitted}
+use Rattle.turn.specs.declared.Answer.{Answer}
+use Rattle.turn.specs.declared.Answer.the-variants.{Stored, Passed, Waiting, Idle, Refused as TurnRefused}
+use Rattle.edition.specs.Edition.{mark, ownWords}
+use Rattle.plan.specs.Turn.{Outcome}
+use Rattle.working.specs.World.{World, world}
+use Rattle.turn.specs.Call.{outcome, answerOf, leaves}
+use Rattle.intake.specs.Submit.{submitAnswer, submitLeaves}
+use Rattle.repair.specs.declared.Repair.{Repair}
+use Rattle.soundness.specs.declared.Answer.{Answer as Recovery}
+use Rattle.soundness.specs.declared.Answer.the-variants.{Done, Refused as RecoveryRefused}
+use Rattle.repair.specs.Repair.{noRepair, slotAt, slotOf}
 use Rattle.recovery.specs.Recovery.{Recovered, recovery}
 use Rattle.recovery.specs.Recover.{answerOf as recoveryAnswer, cursorsOf, repairBy, recoveryLeaves}
 use Rattle.frames.specs.declared.Frame.{Frame}

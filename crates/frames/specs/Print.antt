@@ -4,16 +4,16 @@ use Prim.Native.Nat.{ℕ}
 use mathlib.Core.List.{List, [], _∷_}
 use lib.ListN.{getD}
 use Rattle.image.specs.Image.{Image}
-use Rattle.engine.specs.declared.Submitted.{Submitted}
-use Rattle.engine.specs.declared.Submitted.the-variants.{Taken, Refused as SubmitRefused}
-use Rattle.engine.specs.declared.Answer.{Answer}
-use Rattle.engine.specs.declared.Answer.the-variants.{Stored, Passed, Waiting, Idle, Refused as TurnRefused}
-use Rattle.engine.specs.Refusal.{causeOf}
-use Rattle.recovery.specs.declared.Answer.{Answer as Recovery}
-use Rattle.recovery.specs.declared.Answer.the-variants.{Done, Refused as RecoveryRefused}
-use Rattle.recovery.specs.declared.Slot.{Slot}
-use Rattle.recovery.specs.declared.Slot.the-variants.{Empty, Store}
-use Rattle.recovery.specs.Codes.{causeOf as recoveryCause}
+use Rattle.intake.specs.declared.Submitted.{Submitted}
+use Rattle.intake.specs.declared.Submitted.the-variants.{Taken, Refused as SubmitRefused}
+use Rattle.turn.specs.declared.Answer.{Answer}
+use Rattle.turn.specs.declared.Answer.the-variants.{Stored, Passed, Waiting, Idle, Refused as TurnRefused}
+use Rattle.working.specs.Refusal.{causeOf}
+use Rattle.soundness.specs.declared.Answer.{Answer as Recovery}
+use Rattle.soundness.specs.declared.Answer.the-variants.{Done, Refused as RecoveryRefused}
+use Rattle.repair.specs.declared.Slot.{Slot}
+use Rattle.repair.specs.declared.Slot.the-variants.{Empty, Store}
+use Rattle.soundness.specs.Codes.{causeOf as recoveryCause}
 use Rattle.frames.specs.declared.Printed.{Printed}
 use Rattle.frames.specs.declared.Printed.the-variants.{Nothing, Line}
 use Rattle.frames.specs.Hex.{digitAt}

@@ -5,11 +5,11 @@ use mathlib.Core.List.{List, [], _∷_, _++_}
 use mathlib.Core.Bool.{cond}
 use Rattle.image.specs.Place.{Store}
 use Rattle.image.specs.Image.{Image, indexOf}
-use Rattle.engine.specs.declared.Cursors.{Cursors}
-use Rattle.engine.specs.Edition.{mark, ownWords}
-use Rattle.engine.specs.Refusal.{isRefused}
-use Rattle.engine.specs.Turn.{Outcome}
-use Rattle.engine.specs.World.{outcome, answerOf, leaves}
+use Rattle.working.specs.declared.Cursors.{Cursors}
+use Rattle.edition.specs.Edition.{mark, ownWords}
+use Rattle.turn.specs.Call.{isRefused}
+use Rattle.plan.specs.Turn.{Outcome}
+use Rattle.turn.specs.Call.{outcome, answerOf, leaves}
 use Rattle.frames.specs.declared.Printed.{Printed}
 use Rattle.frames.specs.declared.Printed.the-variants.{Nothing, Line}
 use Rattle.frames.specs.Print.{turnPrints}

@@ -1,7 +1,7 @@
 // Frame lines: what a line of bytes says, and one line played on an image and cursors, with what is to be printed. A line is
 // begun, and then gone on with, a turn or a printed store at a time, so that nothing here needs a large buffer.
-use engine::Cursors;
-use recovery::Repair;
+use working::Cursors;
+use repair::Repair;
 
 mod digits;
 mod playing;

@@ -4,15 +4,15 @@ use crate::Played;
 use crate::Printed;
 use crate::reading;
 use crate::saying;
-use engine::Answer;
-use engine::Cursors;
+use turn::Answer;
+use working::Cursors;
 ghost use mathlib.Core.Path.{_≡_};
 ghost use mathlib.Core.Bool.{cond};
 ghost use Prim.Native.Nat.{_≤_};
 ghost use lib.ListN.{length};
 ghost use Rattle.image.specs.Image.{Image};
-ghost use Rattle.engine.specs.Edition.{mark, ownWords};
-ghost use Rattle.recovery.specs.Repair.{noRepair};
+ghost use Rattle.edition.specs.Edition.{mark, ownWords};
+ghost use Rattle.repair.specs.Repair.{noRepair};
 ghost use Rattle.recovery.specs.Recovery.{recovery};
 ghost use Rattle.frames.specs.declared.Printed.the-variants.{Nothing};
 ghost use Rattle.frames.specs.declared.Job.the-variants.{Turns as TurnsLeft, Next, Stop};
@@ -28,14 +28,14 @@ pub fn submit(image: &mut [u64], c: Cursors, line: &[u8], worker: usize, number:
     let n = reading::words(reading::steps_part(line), &mut space);
     let args = reading::arguments(line);
     let mut left = u64::MAX;
-    let e = engine::submit(image, c, worker, number, &args, &space[..n], &mut left);
+    let e = edition::submit(image, c, worker, number, &args, &space[..n], &mut left);
     let answer = e.answer;
     let after = e.cursors;
     Played {
         cursors: after,
         printed: saying::submitted(answer),
         job: Job::Next,
-        repair: recovery::no_repair(),
+        repair: repair::no_repair(),
     }
 }
 
@@ -50,7 +50,7 @@ pub fn turns(c: Cursors, worker: usize, turns: u64) -> Played
             worker: worker,
             turns: turns,
         },
-        repair: recovery::no_repair(),
+        repair: repair::no_repair(),
     }
 }
 
@@ -59,7 +59,7 @@ pub fn recover(image: &mut [u64]) -> Played
     ensures { λ r. ⌜ day (now (image .exit)) r ≡ recovered (now (image .entry)) (recovery mark ownWords (now (image .entry))) ⌝ }
 {
     let mut left = u64::MAX;
-    let r = recovery::recover(image, &mut left);
+    let r = edition::recover(image, &mut left);
     let answer = r.answer;
     let after = r.cursors;
     let repair = r.repair;
@@ -71,12 +71,12 @@ pub fn recover(image: &mut [u64]) -> Played
     }
 }
 
-fn print_job(a: recovery::Answer) -> Job
+fn print_job(a: soundness::Answer) -> Job
     ensures { λ r. ⌜ r ≡ printJob a ⌝ }
 {
     match a {
-        recovery::Answer::Done => Job::Stores(0),
-        recovery::Answer::Refused(_) => Job::Next,
+        soundness::Answer::Done => Job::Stores(0),
+        soundness::Answer::Refused(_) => Job::Next,
     }
 }
 
@@ -87,7 +87,7 @@ pub fn malformed(c: Cursors) -> Played
         cursors: c,
         printed: saying::refusal(crate::MALFORMED),
         job: Job::Stop,
-        repair: recovery::no_repair(),
+        repair: repair::no_repair(),
     }
 }
 
@@ -140,7 +140,7 @@ pub fn turn(image: &mut [u64], p: Played, worker: usize, turns: u64) -> Played
     let c = p.cursors;
     let repair = p.repair;
     let mut left = u64::MAX;
-    let t = engine::turn(image, c, worker, &mut left);
+    let t = edition::turn(image, c, worker, &mut left);
     let answer = t.answer;
     let after = t.cursors;
     Played {
@@ -155,14 +155,14 @@ pub fn turn(image: &mut [u64], p: Played, worker: usize, turns: u64) -> Played
 pub fn store(p: Played, slot: usize) -> Played
     ensures { λ r. ⌜ ((m : Image) → day m r ≡ slotDay m p slot) ⌝ }
 {
-    if recovery::SLOTS <= slot {
+    if repair::SLOTS <= slot {
         return over(p, Job::Next);
     }
     let c = p.cursors;
     let repair = p.repair;
     Played {
         cursors: c,
-        printed: saying::slot(recovery::slot_at(repair, slot)),
+        printed: saying::slot(edition::slot_at(repair, slot)),
         job: Job::Stores(slot + 1),
         repair: repair,
     }

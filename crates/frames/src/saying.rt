@@ -1,9 +1,9 @@
 // What is printed of an answer, and its printed form.
 use crate::Printed;
 use crate::digits;
-use engine::Answer;
-use engine::Submitted;
-use recovery::Slot;
+use turn::Answer;
+use intake::Submitted;
+use repair::Slot;
 ghost use mathlib.Core.Path.{_≡_};
 ghost use Rattle.frames.specs.Print.{textOf, refusal, submitPrints, turnPrints, recoverPrints, slotPrints};
 
@@ -22,7 +22,7 @@ pub fn submitted(a: Submitted) -> Printed
 {
     match a {
         Submitted::Taken => Printed::Nothing,
-        Submitted::Refused(r) => refusal(engine::cause(r)),
+        Submitted::Refused(r) => refusal(working::cause(r)),
     }
 }
 
@@ -38,16 +38,16 @@ pub fn turned(image: &[u64], a: Answer) -> Printed
         Answer::Passed => Printed::Nothing,
         Answer::Waiting(_) => Printed::Nothing,
         Answer::Idle => Printed::Nothing,
-        Answer::Refused(r) => refusal(engine::cause(r)),
+        Answer::Refused(r) => refusal(working::cause(r)),
     }
 }
 
-pub fn recovered(a: recovery::Answer) -> Printed
+pub fn recovered(a: soundness::Answer) -> Printed
     ensures { λ r. ⌜ r ≡ recoverPrints a ⌝ }
 {
     match a {
-        recovery::Answer::Done => Printed::Nothing,
-        recovery::Answer::Refused(r) => refusal(recovery::cause(r)),
+        soundness::Answer::Done => Printed::Nothing,
+        soundness::Answer::Refused(r) => refusal(soundness::cause(r)),
     }
 }
 

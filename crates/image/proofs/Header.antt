@@ -11,7 +11,8 @@ use lib.Seq.{getD-drop}
 use lib.Dec.{leb, eqb}
 use lib.Bits.{bitOr, or-zero-l, or-add-and, and-le-r}
 use borrow.Author.Tests.{leb-true, le-leb, eqb-true, eq-eqb, ne-eqb}
-use Rattle.image.specs.Image.{Image, workers, lengthOf, zeros, headerOk, Inside}
+use Rattle.image.specs.Image.{Image, workers, lengthOf, zeros, headerOk}
+use Rattle.image.specs.inner.Inside.{Inside}
 
 -- an image of D workers, each with n own words
 pub record Sized (n D : ℕ) (m : Image) : Type 0 where

@@ -7,7 +7,8 @@ use mathlib.Core.Bool.{Bool, true, _&&_, and-eq-true-iff}
 use mathlib.Core.List.{List, [], _∷_, _++_}
 use native.Mathlib.Omega.{arith}
 use lib.ListN.{length, take, set}
-use Rattle.image.specs.Place.{Place, valid, Memory, upd, Store, updAll}
+use Rattle.image.specs.Place.{Place, valid, Memory, Store}
+use Rattle.image.specs.inner.Same.{upd, updAll}
 use Rattle.image.specs.Image.{Image, indexOf, workers, at, headerOk, put, putAll}
 use Rattle.image.proofs.Header.{Sized}
 use Rattle.image.proofs.Stores.{put-none, put-some, length-store, workers-store, header-store, sized-set, at-set}

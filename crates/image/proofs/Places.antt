@@ -8,7 +8,8 @@ use borrow.Author.Tests.{eqb-true, eq-eqb}
 use native.Mathlib.Omega.{arith}
 use Rattle.image.specs.declared.Field.{Field}
 use Rattle.image.specs.declared.Field.the-variants.{Count, Pc, Addr0, Val0, Addr1, Val1, Intent, Owned, Number, Finished}
-use Rattle.image.specs.Place.{offset, sameField, Place, cell, lock, field, own, step, same, Memory, upd}
+use Rattle.image.specs.Place.{offset, Place, cell, lock, field, own, step, Memory}
+use Rattle.image.specs.inner.Same.{sameField, same, upd}
 
 -- ---- single words by their offset
 

@@ -8,8 +8,10 @@ use native.Mathlib.Omega.{arith}
 use borrow.Author.Tests.{lt-ltb}
 use lib.ListN.{length, getD, take, drop, set, length-set}
 use lib.Seq.{getD-set-same, getD-set-other, drop-set-add, take-set-le}
-use Rattle.image.specs.Place.{Place, lock, own, step, same, valid, upd}
-use Rattle.image.specs.Image.{Image, front, indexOf, workers, at, headerOk, put, Inside}
+use Rattle.image.specs.Place.{Place, lock, own, step, valid}
+use Rattle.image.specs.inner.Same.{same, upd}
+use Rattle.image.specs.Image.{Image, front, indexOf, workers, at, headerOk, put}
+use Rattle.image.specs.inner.Inside.{Inside}
 use Rattle.image.proofs.Places.{same-refl, same-place}
 use Rattle.image.proofs.Apart.{record-lt, length-ge, index-ge, index-lt, index-apart}
 use Rattle.image.proofs.Header.{Sized}

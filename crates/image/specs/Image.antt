@@ -1,7 +1,6 @@
 -- An image: a list of words, the memory of places that it is, its header, and what a store leaves of it. The layout's
 -- numbers stand here and nowhere else. n is the number of own words in a record (8 in document 01).
-use Prim.Native.Nat.{ℕ, suc, zero, _+_, _*_, _-_, _<_, _≤_}
-use mathlib.Core.Path.{_≡_}
+use Prim.Native.Nat.{ℕ, suc, zero, _+_, _*_, _-_}
 use mathlib.Core.Bool.{Bool, true, cond, _&&_}
 use mathlib.Core.List.{List, [], _∷_}
 use lib.ListN.{length, getD, take, drop, set}
@@ -17,9 +16,13 @@ Image = List ℕ
 abbrev pub front : ℕ
 front = 584
 
--- the start of worker d's record: ten single words, n own words, 64 instructions for each worker before it
+-- the words of a record but for the own words: ten single words and 64 instructions
+abbrev pub rest : ℕ
+rest = 74
+
+-- the start of worker d's record, behind those of the workers before it
 unfoldable pub recordAt : ℕ → ℕ → ℕ
-recordAt n d = front + (74 + n) * d
+recordAt n d = front + (rest + n) * d
 
 -- the length of an image of D workers
 unfoldable pub lengthOf : ℕ → ℕ → ℕ
@@ -67,11 +70,3 @@ put (suc k) m i v = set m i v
 unfoldable pub putAll : ℕ → ℕ → Image → List Store → Image
 putAll n left m [] = m
 putAll n left m (s ∷ ss) = putAll n (left - 1) (put left m (indexOf n (s .place)) (s .value)) ss
-
--- ---- what the functions that read a record ask: it is one of an image of the right length
-
-pub record Inside (n : ℕ) (m : Image) (d : ℕ) : Type 0 where
-  pub few : n ≤ 64
-  pub below : d < workers m
-  pub most : workers m ≤ 8
-  pub whole : length m ≡ lengthOf n (workers m)

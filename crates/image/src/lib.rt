@@ -4,10 +4,14 @@ ghost use mathlib.Core.Path.{_≡_};
 ghost use Prim.Native.Nat.{ℕ, _-_, _<_, _≤_};
 ghost use lib.ListN.{length, getD};
 ghost use Rattle.image.specs.Place.{cell, lock, field, own, step, offset};
-ghost use Rattle.image.specs.Image.{front, put, headerOk, recordAt, indexOf, workers, at, Inside};
+ghost use Rattle.image.specs.Image.{front, put, headerOk, recordAt, indexOf, workers, at};
+ghost use Rattle.image.specs.inner.Inside.{Inside};
 
-// The words of the largest image, of eight workers with eight own words each.
-pub const LARGEST: usize = 1240;
+// The words of an image before its records.
+pub const FRONT: usize = 584;
+
+// The words of a record but for the own words.
+pub const REST: usize = 74;
 
 // The single words of a worker's record, in their order.
 pub enum Field {
@@ -101,7 +105,7 @@ pub fn record_at(d: usize, own: usize) -> usize
     requires { ⌜ (d ≤ 8) × (own ≤ 64) ⌝ }
     ensures { λ r. ⌜ r ≡ recordAt own d ⌝ }
 {
-    584 + (74 + own) * d
+    FRONT + (REST + own) * d
 }
 
 // The index of a cell.

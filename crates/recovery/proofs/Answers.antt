@@ -11,16 +11,20 @@ use Rattle.image.specs.Place.{Store}
 use Rattle.image.specs.Image.{Image, at, workers, headerOk, putAll}
 use Rattle.image.proofs.Header.{header-true}
 use Rattle.image.proofs.Lists.{putAll-nil}
-use Rattle.engine.specs.declared.Cursors.{Cursors}
-use Rattle.engine.specs.Cursor.{allIdle}
-use Rattle.recovery.specs.declared.Refusal.the-variants.{Image as ImageRefused}
-use Rattle.recovery.specs.declared.Answer.the-variants.{Refused}
-use Rattle.recovery.specs.Recovery.{rows, unsound, badLock, plan, resumedAll, byLocks, byRecords, recovery}
+use Rattle.working.specs.declared.Cursors.{Cursors}
+use Rattle.working.specs.Cursor.{allIdle}
+use Rattle.soundness.specs.declared.Refusal.the-variants.{Image as ImageRefused}
+use Rattle.soundness.specs.declared.Answer.the-variants.{Refused}
+use Rattle.repair.specs.Plan.{rows, plan, resumedAll}
+use Rattle.soundness.specs.Sound.{unsound, badLock}
+use Rattle.recovery.specs.Recovery.{byLocks, byRecords, recovery}
 use Rattle.recovery.specs.Recovery.{Recovered, accepted, misshapen, unsoundRecord, wrongLock}
-use Rattle.recovery.specs.Repair.{Restorable, noRepair, slotAt}
-use Rattle.recovery.specs.Recover.{isDone, byRecord, byLock, answerOf, cursorsOf, repairBy, storesOf, recoveryLeaves, recoveryLeft}
-use Rattle.recovery.proofs.Records.{restorable}
-use Rattle.recovery.proofs.Slots.{repair-slots, empty-slots}
+use Rattle.soundness.specs.inner.Reading.{Restorable}
+use Rattle.repair.specs.Repair.{noRepair, slotAt}
+use Rattle.soundness.specs.inner.Tests.{isDone, byRecord, byLock}
+use Rattle.recovery.specs.Recover.{answerOf, cursorsOf, repairBy, storesOf, recoveryLeaves, recoveryLeft}
+use Rattle.soundness.proofs.Legible.{restorable}
+use Rattle.repair.proofs.Slots.{repair-slots, empty-slots}
 
 -- ---- the tests in their order
 

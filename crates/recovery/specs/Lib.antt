@@ -1,4 +1,2 @@
 pub mod Recovery
-pub mod Repair
 pub mod Recover
-pub mod Codes

@@ -5,30 +5,16 @@ use mathlib.Core.List.{List, [], _∷_}
 use lib.ListN.{length}
 use Rattle.image.specs.Place.{Store}
 use Rattle.image.specs.Image.{Image, putAll}
-use Rattle.engine.specs.declared.Cursors.{Cursors}
-use Rattle.engine.specs.Cursor.{allIdle}
-use Rattle.recovery.specs.declared.Repair.{Repair}
-use Rattle.recovery.specs.declared.Refusal.the-variants.{Image as ImageRefused, Record, Lock}
-use Rattle.recovery.specs.declared.Answer.{Answer}
-use Rattle.recovery.specs.declared.Answer.the-variants.{Done, Refused}
+use Rattle.working.specs.declared.Cursors.{Cursors}
+use Rattle.working.specs.Cursor.{allIdle}
+use Rattle.repair.specs.declared.Repair.{Repair}
+use Rattle.soundness.specs.declared.Refusal.the-variants.{Image as ImageRefused, Record, Lock}
+use Rattle.soundness.specs.declared.Answer.{Answer}
+use Rattle.soundness.specs.declared.Answer.the-variants.{Done, Refused}
 use Rattle.recovery.specs.Recovery.{Recovered, accepted, misshapen, unsoundRecord, wrongLock}
-use Rattle.recovery.specs.Repair.{repairOf, noRepair}
+use Rattle.repair.specs.Repair.{repairOf, noRepair}
 
 -- ---- answers
-
-abbrev pub isDone : Answer → Bool
-isDone Done = true
-isDone (Refused r) = false
-
--- by the first record that is not sound
-abbrev pub byRecord : List ℕ → Answer
-byRecord [] = Done
-byRecord (d ∷ ds) = Refused (Record d)
-
--- by the first lock that is wrong
-abbrev pub byLock : List ℕ → Answer
-byLock [] = Done
-byLock (b ∷ bs) = Refused (Lock b)
 
 abbrev pub answerOf : Recovered → Answer
 answerOf (accepted ss cs) = Done

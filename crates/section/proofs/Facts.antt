@@ -9,15 +9,16 @@ use lib.Dec.{leb, ltb, eqb}
 use borrow.Author.Tests.{leb-true, eqb-true, eqb-false, le-leb, lt-ltb, eq-eqb, ne-eqb}
 use Rattle.mask.specs.Mask.{has}
 use Rattle.mask.proofs.Sets.{above-none}
-use Rattle.section.specs.declared.Expr.{Expr}
-use Rattle.section.specs.declared.Op.{Op}
-use Rattle.section.specs.declared.Op.the-variants.{Acquire, Release, Assign, Jump, Finish, Unknown}
+use Rattle.code.specs.declared.Expr.{Expr}
+use Rattle.code.specs.declared.Op.{Op}
+use Rattle.code.specs.declared.Op.the-variants.{Acquire, Release, Assign, Jump, Finish, Unknown}
 use Rattle.section.specs.declared.Verdict.{Verdict}
 use Rattle.section.specs.declared.Verdict.the-variants.{Pass, Length, Malformed, Unbracketed, Unordered, Unguarded, Unlevel}
-use Rattle.section.specs.Op.{opOf}
-use Rattle.section.specs.Check.{Code, inRange, inPlace, wellFormed, heldBefore, covered, coveredIn, begins, goesOn, bracketed, ordered, guarded, level, orElse, firstOf, formOf, useOf, check}
+use Rattle.code.specs.Op.{opOf}
+use Rattle.section.specs.Check.{Code, heldBefore, covered, coveredIn, begins, goesOn, bracketed, ordered, guarded, level, orElse, firstOf, formOf, useOf, check}
+use Rattle.code.specs.Form.{inRange, inPlace, wellFormed}
 use Rattle.section.specs.Valid.{Valid}
-use Rattle.section.proofs.Ranges.{known}
+use Rattle.code.proofs.Ranges.{known}
 use Rattle.section.proofs.Steps.{ends, place-jump, place-last, begins-acquire, holds-nothing, bracketed-later, form-cong, use-cong}
 use Rattle.section.proofs.First.{or-pass, or-cong, first-all, all-first, first-cong}
 

@@ -1,15 +1,15 @@
--- Held sets: the set before a step from the set before the last one, by the instruction between them; that it depends only
--- on the words before the step; and that kinds above 2 leave it.
+-- Held sets: the set before a step from the set before the last one, by the instruction between them, and that it depends only
+-- on the words before the step.
 use Prim.Native.Nat.{ℕ, zero, suc, _<_}
 use mathlib.Core.Path.{_≡_, refl, ap, _∙_}
 use native.Mathlib.Omega.{arith}
 use Rattle.mask.specs.Mask.{with, without}
-use Rattle.section.specs.declared.Expr.{Expr}
-use Rattle.section.specs.declared.Op.{Op}
-use Rattle.section.specs.declared.Op.the-variants.{Acquire, Release, Assign, Jump}
-use Rattle.section.specs.Table.{kindOf, fieldA, fieldB, fieldC}
-use Rattle.section.specs.Op.{byKind, opOf}
-use Rattle.section.specs.Check.{Code, heldAfter, heldBefore}
+use Rattle.code.specs.declared.Expr.{Expr}
+use Rattle.code.specs.declared.Op.{Op}
+use Rattle.code.specs.declared.Op.the-variants.{Acquire, Release, Assign, Jump}
+use Rattle.code.specs.Op.{opOf}
+use Rattle.section.specs.Check.{Code, heldBefore}
+use Rattle.code.specs.Form.{heldAfter}
 
 -- ---- step by step
 
@@ -46,23 +46,3 @@ pub held-cong : (code code′ : Code) (i : ℕ) → ((j : ℕ) → j < i → cod
 unfolding heldBefore
 held-cong code code′ zero h = refl
 held-cong code code′ (suc i) h = rw (held-cong code code′ i (λ j l. h j (omega arith)), h i (omega arith))
-
--- ---- by the kind
-
-private-kind : (h k a b c : ℕ) → 2 < k → heldAfter h (byKind k a b c) ≡ h
-unfolding heldAfter
-private-kind h zero a b c l = absurd (omega arith)
-private-kind h (suc zero) a b c l = absurd (omega arith)
-private-kind h (suc (suc zero)) a b c l = absurd (omega arith)
-private-kind h (suc (suc (suc zero))) a b c l = refl
-private-kind h (suc (suc (suc (suc zero)))) a b c l = refl
-private-kind h (suc (suc (suc (suc (suc zero))))) a b c l = refl
-private-kind h (suc (suc (suc (suc (suc (suc zero)))))) a b c l = refl
-private-kind h (suc (suc (suc (suc (suc (suc (suc zero))))))) a b c l = refl
-private-kind h (suc (suc (suc (suc (suc (suc (suc (suc zero)))))))) a b c l = refl
-private-kind h (suc (suc (suc (suc (suc (suc (suc (suc (suc k))))))))) a b c l = refl
-
--- kinds above 2 leave it
-pub held-stays : (h w : ℕ) → 2 < kindOf w → heldAfter h (opOf w) ≡ h
-unfolding opOf
-held-stays h w l = private-kind h (kindOf w) (fieldA w) (fieldB w) (fieldC w) l

@@ -10,9 +10,9 @@ use lib.Seq.{getD-set-same, getD-set-other}
 use borrow.Author.Tests.{lt-ltb, le-ltb}
 use Rattle.section.specs.declared.Verdict.{Verdict}
 use Rattle.section.specs.declared.Verdict.the-variants.{Pass, Length, Malformed, Unbracketed, Unordered, Unguarded, Unlevel}
-use Rattle.section.specs.Op.{opOf}
+use Rattle.code.specs.Op.{opOf}
 use Rattle.section.specs.Check.{Code, codeOf, heldBefore, bracketed, ordered, guarded, level, orElse, firstOf, useOf, check, passes}
-use Rattle.section.specs.Pass.{reached, heldTo, heldLeft, Passed}
+use Rattle.section.specs.inner.Pass.{reached, heldTo, heldLeft, Passed}
 use Rattle.section.proofs.Passing.{passed-is}
 
 -- ---- step by step

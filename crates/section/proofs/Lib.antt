@@ -1,5 +1,3 @@
-pub mod Decoding
-pub mod Ranges
 pub mod Held
 pub mod First
 pub mod Steps

@@ -10,14 +10,15 @@ use borrow.Author.Tests.{lt-ltb, ltb-true}
 use native.Mathlib.Omega.{arith}
 use native.Mathlib.Numerals.{add-one}
 use Rattle.base.proofs.Bools.{and-left, and-right}
-use Rattle.section.specs.declared.Op.{Op}
-use Rattle.section.specs.declared.Op.the-variants.{Acquire, Release, Assign, Jump, Finish, Unknown}
+use Rattle.code.specs.declared.Op.{Op}
+use Rattle.code.specs.declared.Op.the-variants.{Acquire, Release, Assign, Jump, Finish, Unknown}
 use Rattle.section.specs.declared.Verdict.{Verdict}
 use Rattle.section.specs.declared.Verdict.the-variants.{Pass, Length, Malformed, Unbracketed, Unordered, Unguarded, Unlevel}
-use Rattle.section.specs.Op.{opOf}
-use Rattle.section.specs.Check.{Code, inRange, inPlace, wellFormed, lockOk, heldAfter, heldBefore, level, firstOf, formOf, judged, useOf, passes}
-use Rattle.section.specs.Pass.{lands, levelIn}
-use Rattle.section.proofs.Ranges.{lock-ok}
+use Rattle.code.specs.Op.{opOf}
+use Rattle.section.specs.Check.{Code, heldBefore, level, firstOf, formOf, judged, useOf, passes}
+use Rattle.code.specs.Form.{inRange, inPlace, wellFormed, lockOk, heldAfter}
+use Rattle.section.specs.inner.Pass.{lands, levelIn}
+use Rattle.code.proofs.Ranges.{lock-ok}
 use Rattle.section.proofs.First.{first-step, or-refused}
 
 -- ---- what cause 5 leaves

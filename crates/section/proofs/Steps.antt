@@ -6,11 +6,12 @@ use mathlib.Core.Bool.{Bool, true, false, cond, not, false≢true, and-eq-true-i
 use native.Mathlib.Omega.{arith}
 use lib.Dec.{ltb, eqb}
 use borrow.Author.Tests.{ltb-true, eqb-false, not-true, ne-eqb}
-use Rattle.section.specs.declared.Op.{Op}
-use Rattle.section.specs.declared.Op.the-variants.{Acquire, Release, Assign, Jump, Finish, Unknown}
+use Rattle.code.specs.declared.Op.{Op}
+use Rattle.code.specs.declared.Op.the-variants.{Acquire, Release, Assign, Jump, Finish, Unknown}
 use Rattle.section.specs.declared.Verdict.the-variants.{Pass, Unbracketed, Unordered, Unguarded, Unlevel}
-use Rattle.section.specs.Op.{opOf}
-use Rattle.section.specs.Check.{Code, inRange, inPlace, wellFormed, heldBefore, begins, goesOn, bracketed, ordered, guarded, level, formOf, judged, useOf}
+use Rattle.code.specs.Op.{opOf}
+use Rattle.section.specs.Check.{Code, heldBefore, begins, goesOn, bracketed, ordered, guarded, level, formOf, judged, useOf}
+use Rattle.code.specs.Form.{inRange, inPlace, wellFormed}
 use Rattle.section.proofs.Held.{held-cong}
 
 -- ---- the instruction

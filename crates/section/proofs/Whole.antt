@@ -8,7 +8,7 @@ use borrow.Author.Tests.{le-leb, lt-leb}
 use native.Mathlib.Omega.{arith}
 use Rattle.section.specs.declared.Verdict.the-variants.{Pass, Length}
 use Rattle.section.specs.Check.{Code, codeOf, heldBefore, firstOf, formOf, useOf, check, passes}
-use Rattle.section.specs.Pass.{Judgeable}
+use Rattle.section.specs.inner.Pass.{Judgeable}
 use Rattle.section.proofs.First.{or-refused, first-all}
 use Rattle.section.proofs.Facts.{form-pass}
 use Rattle.section.proofs.Passing.{refused-not, formed-lock, formed-lands}

@@ -4,15 +4,15 @@ use mathlib.Core.Bool.{Bool, true, false, cond, _&&_, _||_, not}
 use mathlib.Core.List.{List}
 use lib.ListN.{getD}
 use lib.Dec.{leb, ltb, eqb}
-use Rattle.mask.specs.Mask.{has, with, without}
-use Rattle.section.specs.declared.Expr.{Expr}
-use Rattle.section.specs.declared.Expr.the-variants.{Literal, Sum, Difference, Less}
-use Rattle.section.specs.declared.Op.{Op}
-use Rattle.section.specs.declared.Op.the-variants.{Acquire, Release, Assign, Jump, Finish, Unknown}
+use Rattle.mask.specs.Mask.{has}
+use Rattle.code.specs.declared.Expr.{Expr}
+use Rattle.code.specs.declared.Expr.the-variants.{Literal, Sum, Difference, Less}
+use Rattle.code.specs.declared.Op.{Op}
+use Rattle.code.specs.declared.Op.the-variants.{Acquire, Release, Assign, Jump, Finish, Unknown}
 use Rattle.section.specs.declared.Verdict.{Verdict}
 use Rattle.section.specs.declared.Verdict.the-variants.{Pass, Length, Malformed, Unbracketed, Unordered, Unguarded, Unlevel}
-use Rattle.section.specs.Table.{highest, kindOf, fieldA, fieldB, fieldC}
-use Rattle.section.specs.Op.{opOf}
+use Rattle.code.specs.Op.{opOf}
+use Rattle.code.specs.Form.{wellFormed, heldAfter}
 
 -- the instruction words of a section by their step
 abbrev pub Code : Type 0
@@ -21,45 +21,7 @@ Code = ℕ → ℕ
 abbrev pub codeOf : List ℕ → Code
 codeOf ws i = getD ws i 0
 
--- ---- cause 5
-
--- the kind is one of the eight and each field in its range
-unfoldable pub inRange : ℕ → ℕ → Bool
-inRange own w =
-    leb 1 (kindOf w) && leb (kindOf w) 8 && leb (fieldA w) (highest own (kindOf w) 0) && leb (fieldB w) (highest own (kindOf w) 1) && leb (fieldC w) (highest own (kindOf w) 2)
-
--- step i of n is a position that the instruction may have; a jump goes forward and inside
-abbrev pub inPlace : ℕ → ℕ → Op → Bool
-inPlace n i (Acquire a) = ltb (i + 1) n
-inPlace n i (Release a) = ltb (i + 1) n
-inPlace n i (Assign a e) = ltb (i + 1) n
-inPlace n i (Jump a b) = ltb i b && ltb b n
-inPlace n i Finish = eqb (i + 1) n
-inPlace n i Unknown = false
-
--- step i of n does not fail cause 5
-unfoldable pub wellFormed : ℕ → ℕ → ℕ → ℕ → Bool
-wellFormed own n i w = inRange own w && inPlace n i (opOf w)
-
--- the instruction's lock, if it has one, is one of the 64
-abbrev pub lockOk : Op → Bool
-lockOk (Acquire a) = ltb a 64
-lockOk (Release a) = ltb a 64
-lockOk (Assign a e) = true
-lockOk (Jump a b) = true
-lockOk Finish = true
-lockOk Unknown = true
-
 -- ---- held sets
-
--- the held set after an instruction
-unfoldable pub heldAfter : ℕ → Op → ℕ
-heldAfter h (Acquire a) = with h a
-heldAfter h (Release a) = without h a
-heldAfter h (Assign a e) = h
-heldAfter h (Jump a b) = h
-heldAfter h Finish = h
-heldAfter h Unknown = h
 
 -- the held set before step i, by position: jumps are ignored
 unfoldable pub heldBefore : Code → ℕ → ℕ

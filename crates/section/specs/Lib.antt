@@ -1,6 +1,3 @@
-pub mod Table
-pub mod Op
-pub mod Fits
 pub mod Check
 pub mod Valid
-pub mod Pass
+pub mod inner

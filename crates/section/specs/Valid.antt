@@ -3,10 +3,11 @@ use Prim.Native.Nat.{ℕ, _+_, _-_, _/_, _^_, _<_, _≤_}
 use mathlib.Core.Path.{_≡_}
 use mathlib.Core.Bool.{true}
 use Rattle.mask.specs.Mask.{has}
-use Rattle.section.specs.declared.Expr.{Expr}
-use Rattle.section.specs.declared.Op.the-variants.{Acquire, Release, Assign, Jump, Finish}
-use Rattle.section.specs.Op.{opOf}
-use Rattle.section.specs.Check.{Code, inRange, heldBefore, covered, coveredIn}
+use Rattle.code.specs.declared.Expr.{Expr}
+use Rattle.code.specs.declared.Op.the-variants.{Acquire, Release, Assign, Jump, Finish}
+use Rattle.code.specs.Op.{opOf}
+use Rattle.section.specs.Check.{Code, heldBefore, covered, coveredIn}
+use Rattle.code.specs.Form.{inRange}
 
 -- own: the number of own words; n: the number of steps
 pub record Valid (own n : ℕ) (code : Code) : Type 0 where

@@ -2,12 +2,13 @@
 ghost use mathlib.Core.Path.{_≡_};
 ghost use mathlib.Core.Bool.{true, _&&_};
 ghost use lib.ListN.{length};
-ghost use Rattle.section.specs.Check.{codeOf, lockOk, covered, coveredIn, begins, goesOn, bracketed, ordered, guarded, judged, useOf};
-ghost use Rattle.section.specs.Pass.{lands, levelIn, Judgeable};
-use super::Expr;
-use super::Op;
+ghost use Rattle.section.specs.Check.{codeOf, covered, coveredIn, begins, goesOn, bracketed, ordered, guarded, judged, useOf};
+ghost use Rattle.code.specs.Form.{lockOk};
+ghost use Rattle.section.specs.inner.Pass.{lands, levelIn, Judgeable};
+use code::Expr;
+use code::Op;
 use super::Verdict;
-use super::decode::op_of;
+use code::op_of;
 
 // Whether word number x is an own word or has its lock held. Most words are cells of held locks, so that is asked first, by a
 // shift that is right for them and within its range for all.

@@ -1,33 +1,14 @@
-// Sections of instructions: the check of causes 4 to 9. The table of the kinds and the decoding stand in decode.rt, one step
-// against causes 6 to 9 in judge.rt.
-pub mod decode;
+// Sections of instructions: the check of causes 4 to 9. One step against causes 6 to 9 stands in judge.rt.
 mod judge;
 
 ghost use mathlib.Core.Path.{_≡_};
 ghost use Prim.Native.Nat.{ℕ, _<_, _≤_};
 ghost use lib.ListN.{length, getD};
 ghost use Rattle.section.specs.Check.{codeOf, firstOf, useOf, check, passes, causeOf, stepOf};
-ghost use Rattle.section.specs.Pass.{Judgeable, heldLeft, Passed};
-use decode::held_past;
-use decode::well_formed;
+ghost use Rattle.section.specs.inner.Pass.{Judgeable, heldLeft, Passed};
+use code::held_past;
+use code::well_formed;
 use judge::use_at;
-
-// What an assignment stores: a literal, or a sum, a difference or a comparison of two words.
-pub enum Expr {
-    Literal(u64, u64),
-    Sum(u64, u64),
-    Difference(u64, u64),
-    Less(u64, u64),
-}
-
-pub enum Op {
-    Acquire(u64),
-    Release(u64),
-    Assign(u64, Expr),
-    Jump(u64, u64),
-    Finish,
-    Unknown,
-}
 
 // The answer of the check: the section passes, or the first cause that it fails, with the step.
 pub enum Verdict {

@@ -7,17 +7,18 @@ use Rattle.image.specs.Image.{Image}
 use Rattle.section.specs.declared.Verdict.{Verdict}
 use Rattle.section.specs.Check.{codeOf, check}
 use Rattle.tally.specs.declared.Tally.{Tally}
-use Rattle.engine.specs.declared.Cursors.{Cursors}
-use Rattle.engine.specs.declared.Answer.{Answer}
-use Rattle.engine.specs.declared.Formatted.{Formatted}
-use Rattle.engine.specs.declared.Submitted.{Submitted}
-use Rattle.engine.specs.Edition.{mark, ownWords}
-use Rattle.engine.specs.World.{World, world, answerOf, leaves, outcome}
-use Rattle.engine.specs.Format.{formatAnswer, formatLeaves, formatLeft}
-use Rattle.engine.specs.Submit.{submitAnswer, submitLeaves}
-use Rattle.engine.specs.Cursor.{allIdle}
-use Rattle.engine.specs.Run.{Ran, runOf}
-use Rattle.recovery.specs.declared.Answer.{Answer as Recovery}
+use Rattle.working.specs.declared.Cursors.{Cursors}
+use Rattle.turn.specs.declared.Answer.{Answer}
+use Rattle.intake.specs.declared.Formatted.{Formatted}
+use Rattle.intake.specs.declared.Submitted.{Submitted}
+use Rattle.edition.specs.Edition.{mark, ownWords}
+use Rattle.working.specs.World.{World, world}
+use Rattle.turn.specs.Call.{answerOf, leaves, outcome}
+use Rattle.intake.specs.Format.{formatAnswer, formatLeaves, formatLeft}
+use Rattle.intake.specs.Submit.{submitAnswer, submitLeaves}
+use Rattle.working.specs.Cursor.{allIdle}
+use Rattle.run.specs.Run.{Ran, runOf}
+use Rattle.soundness.specs.declared.Answer.{Answer as Recovery}
 use Rattle.recovery.specs.Recovery.{recovery}
 use Rattle.recovery.specs.Recover.{answerOf as recoveryAnswer, cursorsOf, recoveryLeaves, recoveryLeft}
 

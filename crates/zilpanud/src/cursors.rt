@@ -1,5 +1,5 @@
 // The cursors as they cross: an array of steps and one of turns.
-use engine::Cursors;
+use working::Cursors;
 ghost use mathlib.Core.Path.{_≡_};
 ghost use Rattle.zilpanud.specs.Lent.{cursors};
 

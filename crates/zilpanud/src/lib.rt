@@ -1,20 +1,17 @@
 // What C and Rust link: the engine's entry points and three questions, over slices, arrays and numbers. An answer crosses as a
-// number and a detail (`codes` of engine and recovery, `cause` and `step` of section); the cursors as two arrays, a step and a turn for each worker.
+// number and a detail (`codes` of the crates that answer, `cause` and `step` of section); the cursors as two arrays, a step and a turn for each worker.
 mod asking;
 mod cursors;
 
 ghost use mathlib.Core.Path.{_≡_};
 ghost use Rattle.section.specs.Check.{causeOf, stepOf};
-ghost use Rattle.engine.specs.Codes.{formatCode, submitCode, submitDetail, turnCode, turnDetail, endCode, endDetail};
-ghost use Rattle.recovery.specs.Codes.{recoverCode, recoverDetail};
+ghost use Rattle.intake.specs.Codes.{formatCode, submitCode, submitDetail};
+ghost use Rattle.turn.specs.Codes.{turnCode, turnDetail};
+ghost use Rattle.run.specs.Codes.{endCode, endDetail};
+ghost use Rattle.soundness.specs.Codes.{recoverCode, recoverDetail};
 ghost use Rattle.zilpanud.specs.Lent.{cursors, lent, formatting, formatsTo, checking, submitting, submitsTo};
 ghost use Rattle.zilpanud.specs.Lent.{turning, turnsTo, running, counts, recovering, recoversTo};
 ghost use Rattle.zilpanud.specs.Ask.{askCode, told, idleBit, finishedNo, stands};
-
-// The edition of images that the library serves: word 0, and the own words of a record.
-const MARK: u64 = 1;
-
-const OWN: usize = 8;
 
 // Formats an image for so many workers: 0, or 10. All workers are idle, also where it is refused.
 #[no_mangle]
@@ -29,11 +26,11 @@ pub extern "C" fn zilpanud_format(
     ensures after { λ r. ⌜ lent (now (image .exit)) (now (step .exit)) (now (turn .exit)) (now (left .exit))
         ≡ formatsTo (now (image .entry)) workers (now (left .entry)) ⌝ }
 {
-    let r = engine::format(image, workers, left);
+    let r = edition::format(image, workers, left);
     let next = r.cursors;
     cursors::leave(next, step, turn);
     let a = r.answer;
-    engine::codes::format_code(a)
+    intake::codes::format_code(a)
 }
 
 // The check of a section: 0, or 4 to 9, with the step.
@@ -42,7 +39,7 @@ pub extern "C" fn zilpanud_check(words: &[u64], detail: &mut u64) -> u64
     ensures code { λ r. ⌜ r ≡ causeOf (checking (now (words .entry))) ⌝ }
     ensures detail { λ r. ⌜ now (detail .exit) ≡ stepOf (checking (now (words .entry))) ⌝ }
 {
-    let v = section::check(words, OWN as u16);
+    let v = edition::check(words);
     *detail = section::step(v) as u64;
     section::cause(v)
 }
@@ -70,12 +67,12 @@ pub extern "C" fn zilpanud_submit(
         (now (args .entry)) (now (words .entry)) ⌝ }
 {
     let c = cursors::lent(step, turn);
-    let r = engine::submit(image, c, worker, number, args, words, left);
+    let r = edition::submit(image, c, worker, number, args, words, left);
     let placed = r.cursors;
     cursors::leave(placed, step, turn);
     let a = r.answer;
-    *detail = engine::codes::submit_detail(a);
-    engine::codes::submit_code(a)
+    *detail = intake::codes::submit_detail(a);
+    intake::codes::submit_code(a)
 }
 
 // One turn of a worker: 16 stored, with the index, 17 passed, 18 waiting, with the lock, 19 idle; or 10, 1, 11 with the worker.
@@ -95,12 +92,12 @@ pub extern "C" fn zilpanud_turn(
         ≡ turnsTo (lent (now (image .entry)) (now (step .entry)) (now (turn .entry)) (now (left .entry))) worker ⌝ }
 {
     let c = cursors::lent(step, turn);
-    let r = engine::turn(image, c, worker, left);
+    let r = edition::turn(image, c, worker, left);
     let next = r.cursors;
     cursors::leave(next, step, turn);
     let a = r.answer;
-    *detail = engine::codes::turn_detail(a);
-    engine::codes::turn_code(a)
+    *detail = turn::codes::turn_detail(a);
+    turn::codes::turn_code(a)
 }
 
 // Rounds of turns until all workers are idle: 0, 20 spent; or 10, 11 with the worker. The tally: turns, waits, stores.
@@ -123,14 +120,14 @@ pub extern "C" fn zilpanud_run(
         ≡ counts (running (lent (now (image .entry)) (now (step .entry)) (now (turn .entry)) (now (left .entry))) rounds .after .tally) ⌝ }
 {
     let c = cursors::lent(step, turn);
-    let r = engine::run(image, c, rounds, left);
+    let r = edition::run(image, c, rounds, left);
     let next = r.cursors;
     cursors::leave(next, step, turn);
     let n = r.tally;
     *tally = [n.turns, n.waits, n.stores];
     let e = r.end;
-    *detail = engine::codes::end_detail(e);
-    engine::codes::end_code(e)
+    *detail = run::codes::end_detail(e);
+    run::codes::end_code(e)
 }
 
 // Recovers an image after a cut: 0, or 10, 12 with the worker, 13 with the lock. The arrays are lent for the new cursors alone.
@@ -147,12 +144,12 @@ pub extern "C" fn zilpanud_recover(
     ensures after { λ r. ⌜ lent (now (image .exit)) (now (step .exit)) (now (turn .exit)) (now (left .exit))
         ≡ recoversTo (now (image .entry)) (now (left .entry)) ⌝ }
 {
-    let r = recovery::recover(image, left);
+    let r = edition::recover(image, left);
     let next = r.cursors;
     cursors::leave(next, step, turn);
     let a = r.answer;
-    *detail = recovery::codes::recover_detail(a);
-    recovery::codes::recover_code(a)
+    *detail = soundness::codes::recover_detail(a);
+    soundness::codes::recover_code(a)
 }
 
 // Whether a worker is idle, 1 or 0. It returns 0, or 10, 1, as all questions do, and answers 0 where it is refused.
@@ -168,7 +165,7 @@ pub extern "C" fn zilpanud_is_idle(
     ensures answer { λ r. ⌜ now (answer .exit)
         ≡ told (now (image .entry)) worker (idleBit (cursors (now (step .entry)) (now (turn .entry))) worker) ⌝ }
 {
-    let no = asking::code(image, worker);
+    let no = edition::asked(image, worker);
     if no != 0 {
         *answer = 0;
         return no;
@@ -182,15 +179,10 @@ pub extern "C" fn zilpanud_is_idle(
 #[no_mangle]
 pub extern "C" fn zilpanud_finished(image: &[u64], worker: usize, number: &mut u64) -> u64
     ensures code { λ r. ⌜ r ≡ askCode (now (image .entry)) worker ⌝ }
-    ensures answer { λ r. ⌜ now (number .exit) ≡ told (now (image .entry)) worker (finishedNo (now (image .entry)) worker) ⌝ }
+    ensures answer { λ r. ⌜ now (number .exit) ≡ finishedNo (now (image .entry)) worker ⌝ }
 {
-    let no = asking::code(image, worker);
-    if no != 0 {
-        *number = 0;
-        return no;
-    }
-    *number = asking::finished(image, worker);
-    0
+    *number = edition::finished(image, worker);
+    edition::asked(image, worker)
 }
 
 // How a worker stands to the section of a number: 0 not begun, 1 begun, 2 finished.
@@ -204,7 +196,7 @@ pub extern "C" fn zilpanud_standing(
     ensures code { λ r. ⌜ r ≡ askCode (now (image .entry)) worker ⌝ }
     ensures answer { λ r. ⌜ now (answer .exit) ≡ told (now (image .entry)) worker (stands (now (image .entry)) worker number) ⌝ }
 {
-    let s = engine::asking::standing(image, worker, number);
+    let s = edition::standing(image, worker, number);
     *answer = asking::standing_no(s);
-    asking::code(image, worker)
+    edition::asked(image, worker)
 }

@@ -2,13 +2,14 @@
 use borrow.Author.Needs.{needs}
 use mathlib.Core.Path.{_≡_}
 use lib.ListN.{length}
+use Rattle.edition.specs.Edition.{largest}
 use Rattle.day.specs.Held.{Within}
 use Rattle.day.proofs.play.Statement.{statement}
 use Rattle.day.proofs.play.Tie as tie
 
 abbrev Inv-loop : tie.InvT-loop
 Inv-loop input output image₀ buf₀ out₀ s₀ turns₀ image buf out s turns =
-    (length image ≡ 1240) × (length buf ≡ 65536) × (length out ≡ 65536) × Within image buf out s
+    (length image ≡ largest) × (length buf ≡ 65536) × (length out ≡ 65536) × Within image buf out s
 
 abbrev μ-loop : tie.MeasureT-loop
 μ-loop input output image₀ buf₀ out₀ s₀ turns₀ image buf out s turns = turns

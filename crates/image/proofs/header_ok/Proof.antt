@@ -64,7 +64,8 @@ shared-slice-read-result-6 c = search needs
 returns-5 : tie.Need-returns-5
 unfolding workers lengthOf
 returns-5 c =
-    let A = c .before .before .before .before .before .before .before .before .before .before .before .before .before .before .before .args in
+    let back = c .before .before .before .before .before .before .before .before .before in
+    let A = back .before .before .before .before .before .before .args in
     let m = now (A .image) in
     sym (header-last (A .mark) (A .own) m (omega arith) (omega (arith, ltb-false)) (omega arith) (omega arith) ∙ zeros-joined m 5)
 

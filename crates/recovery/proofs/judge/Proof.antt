@@ -5,7 +5,7 @@ use mathlib.Core.Path.{sym, ap, _∙_}
 use denote.Ref.{now}
 use Rattle.base.proofs.Bools.{denied, granted}
 use Rattle.image.proofs.Header.{header-true}
-use Rattle.recovery.specs.Recover.{isDone}
+use Rattle.soundness.specs.inner.Tests.{isDone}
 use Rattle.recovery.proofs.Answers.{record-none, by-header, by-record, by-lock}
 use Rattle.recovery.proofs.judge.Statement.{statement}
 use Rattle.recovery.proofs.judge.Tie as tie

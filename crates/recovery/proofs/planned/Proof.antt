@@ -3,7 +3,7 @@ use borrow.Author.Needs.{needs}
 use mathlib.Core.Path.{sym, ap, _∙_}
 use denote.Ref.{now}
 use Rattle.base.proofs.Bools.{denied, granted}
-use Rattle.recovery.specs.Recover.{isDone}
+use Rattle.soundness.specs.inner.Tests.{isDone}
 use Rattle.recovery.specs.Recovery.{recovery}
 use Rattle.recovery.proofs.Answers.{done-is, done-restorable, refused-idle, refused-repair}
 use Rattle.recovery.proofs.planned.Statement.{statement}

@@ -2,7 +2,6 @@
 use borrow.Author.Needs.{needs}
 use mathlib.Core.Path.{_∙_}
 use denote.Ref.{now}
-use Rattle.engine.specs.Edition.{mark, ownWords}
 use Rattle.recovery.proofs.Answers.{slots-leave, slots-left}
 use Rattle.recovery.proofs.recover.Statement.{statement}
 use Rattle.recovery.proofs.recover.Tie as tie
@@ -27,8 +26,8 @@ returns c =
         (
           p .ensures .1 .1,
           (
-            rw (p .ensures .1 .1) at (s .ensures .0) ∙ slots-leave mark ownWords (now (A .left)) (now (A .image)),
-            rw (p .ensures .1 .1) at (s .ensures .1) ∙ slots-left mark ownWords (now (A .left)) (now (A .image)),
+            rw (p .ensures .1 .1) at (s .ensures .0) ∙ slots-leave (A .mark) (A .own) (now (A .left)) (now (A .image)),
+            rw (p .ensures .1 .1) at (s .ensures .1) ∙ slots-left (A .mark) (A .own) (now (A .left)) (now (A .image)),
           ),
         ),
       ),

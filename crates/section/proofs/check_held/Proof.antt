@@ -6,7 +6,7 @@ use lib.ListN.{length}
 use denote.Ref.{now}
 use Rattle.base.proofs.Bools.{denied, granted}
 use Rattle.section.specs.Check.{codeOf, passes}
-use Rattle.section.specs.Pass.{reached, heldTo}
+use Rattle.section.specs.inner.Pass.{reached, heldTo}
 use Rattle.section.proofs.Passing.{passed-is}
 use Rattle.section.proofs.Left.{uses-reach, left-by, left-length, passed-sets}
 use Rattle.section.proofs.Whole.{check-short, check-long, check-malformed, check-uses, judgeable}
@@ -49,7 +49,8 @@ returns-3 c =
 
 uses-requires : tie.Need-uses-requires
 uses-requires c κs =
-    let S = c .before .before .before .before .before .before .before .before .before .before .before in
+    let back = c .before .before .before .before .before .before .before .before .before in
+    let S = back .before .before in
     let A = S .args in
     let s = c .before .before .before .before .before .held-sets in
     let v = passed-is (s .result) (granted (c .before .before .passes .ensures) (c .before .if3 .left)) in
@@ -60,12 +61,13 @@ same-length-2 c = search needs
 
 returns-4 : tie.Need-returns-4
 returns-4 c =
-    let A = c .before .before .before .before .before .before .before .before .before .before .before .before .args in
+    let back = c .before .before .before .before .before .before .before .before .before in
+    let A = back .before .before .before .args in
     let w = now (A .words) in
     let s = c .before .before .before .before .before .before .held-sets in
     let u = c .uses in
     let v = passed-is (s .result) (granted (c .before .before .before .passes .ensures) (c .before .before .if3 .left)) in
-    let e = u .ensures ∙ check-uses (A .own) (length w) (codeOf w) (c .before .before .before .before .before .before .before .before .before .if1 .left) (c .before .before .before .before .before .before .before .before .if2 .left) (sym (s .ensures .first) ∙ v) in
+    let e = u .ensures ∙ check-uses (A .own) (length w) (codeOf w) (back .if1 .left) (c .before .before .before .before .before .before .before .before .if2 .left) (sym (s .ensures .first) ∙ v) in
     let all : reached (length w) (s .result) ≡ reached (length w) (u .result) = ap (reached (length w)) v ∙ sym (ap (reached (length w)) (u .ensures) ∙ uses-reach (length w) (codeOf w) 0 (length w)) in
     (e, λ j. s .ensures .sets j ∙ (ap (λ (k : ℕ). heldTo k (codeOf w) (codeOf (now (A .held))) j) all ∙ left-by (A .own) (length w) (codeOf w) (codeOf (now (A .held))) j (u .result) e))
 

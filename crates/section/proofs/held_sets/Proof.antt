@@ -9,7 +9,7 @@ use lib.ListN.{length, getD, length-set}
 use Rattle.base.proofs.Bools.{denied, granted}
 use Rattle.base.proofs.Counting.{left-all}
 use Rattle.section.specs.Check.{codeOf, firstOf, formOf, heldBefore, passes}
-use Rattle.section.specs.Pass.{heldTo}
+use Rattle.section.specs.inner.Pass.{heldTo}
 use Rattle.section.proofs.First.{first-none}
 use Rattle.section.proofs.Facts.{pass-form}
 use Rattle.section.proofs.Passing.{first-on, first-stops, formed-lock, form-fails, held-next}

@@ -5,9 +5,6 @@ use Rattle.section.specs.Check.{causeOf, stepOf}
 use Rattle.zilpanud.proofs.zilpanud_check.Statement.{statement}
 use Rattle.zilpanud.proofs.zilpanud_check.Tie as tie
 
-cast-check : tie.Need-cast-check
-cast-check c = search needs
-
 check-requires : tie.Need-check-requires
 check-requires c κs = search needs
 
@@ -24,4 +21,4 @@ returns c =
 
 pub zilpanud-check-spec : {M : Type 1} → statement M
 zilpanud-check-spec =
-    tie.close (tie.spec cast-check check-requires step-requires cause-requires returns)
+    tie.close (tie.spec check-requires step-requires cause-requires returns)

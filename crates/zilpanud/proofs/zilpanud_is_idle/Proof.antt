@@ -8,15 +8,15 @@ use Rattle.zilpanud.proofs.Asked.{told-yes, told-no}
 use Rattle.zilpanud.proofs.zilpanud_is_idle.Statement.{statement}
 use Rattle.zilpanud.proofs.zilpanud_is_idle.Tie as tie
 
-code-requires : tie.Need-code-requires
-code-requires c κs = search needs
+asked-requires : tie.Need-asked-requires
+asked-requires c κs = search needs
 
 returns : tie.Need-returns
 returns c =
     let a = c .before in
     let A = a .before .before .args in
     let v = idleBit (cursors (now (A .step)) (now (A .turn))) (A .worker) in
-    (a .code .ensures, told-no (now (A .image)) (A .worker) v (λ e. c .if1 .taken (a .code .ensures ∙ e)))
+    (a .asked .ensures, told-no (now (A .image)) (A .worker) v (λ e. c .if1 .taken (a .asked .ensures ∙ e)))
 
 lent-requires : tie.Need-lent-requires
 lent-requires c κs = search needs
@@ -30,9 +30,9 @@ returns-2 c =
     let a = l .before .before in
     let A = a .before .before .args in
     let v = idleBit (cursors (now (A .step)) (now (A .turn))) (A .worker) in
-    let z = sym (a .code .ensures) ∙ l .before .if1 .left in
+    let z = sym (a .asked .ensures) ∙ l .before .if1 .left in
     (sym z, rw (l .lent .ensures) at (c .idle .ensures) ∙ told-yes (now (A .image)) (A .worker) v z)
 
 pub zilpanud-is-idle-spec : {M : Type 1} → statement M
 zilpanud-is-idle-spec =
-    tie.close (tie.spec code-requires returns lent-requires idle-requires returns-2)
+    tie.close (tie.spec asked-requires returns lent-requires idle-requires returns-2)

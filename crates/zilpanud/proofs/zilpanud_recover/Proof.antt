@@ -1,7 +1,7 @@
 -- `zilpanud_recover` meets its contract: the numbers of the recovery's answer, and the cursors that it returns.
 use borrow.Author.Needs.{needs}
 use mathlib.Core.Path.{ap, _∙_}
-use Rattle.recovery.specs.Codes.{recoverCode, recoverDetail}
+use Rattle.soundness.specs.Codes.{recoverCode, recoverDetail}
 use Rattle.zilpanud.proofs.zilpanud_recover.Statement.{statement}
 use Rattle.zilpanud.proofs.zilpanud_recover.Tie as tie
 

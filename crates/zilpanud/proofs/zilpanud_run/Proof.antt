@@ -1,8 +1,8 @@
 -- `zilpanud_run` meets its contract: its parts are those of the engine's one equation.
 use borrow.Author.Needs.{needs}
 use mathlib.Core.Path.{ap, _∙_}
-use Rattle.engine.specs.Run.{Ran}
-use Rattle.engine.specs.Codes.{endCode, endDetail}
+use Rattle.run.specs.Run.{Ran}
+use Rattle.run.specs.Codes.{endCode, endDetail}
 use Rattle.zilpanud.specs.Lent.{counts}
 use Rattle.zilpanud.proofs.zilpanud_run.Statement.{statement}
 use Rattle.zilpanud.proofs.zilpanud_run.Tie as tie

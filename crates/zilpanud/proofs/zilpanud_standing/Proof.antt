@@ -13,16 +13,16 @@ standing-requires c κs = search needs
 standing-no-requires : tie.Need-standing-no-requires
 standing-no-requires c κs = search needs
 
-code-requires : tie.Need-code-requires
-code-requires c κs = search needs
+asked-requires : tie.Need-asked-requires
+asked-requires c κs = search needs
 
 returns : tie.Need-returns
 returns c =
     let n = c .before in
     let s = n .before in
     let A = s .before .before .args in
-    (c .code .ensures, n .standing-no .ensures ∙ ap standingNo (s .standing .ensures) ∙ stands-told (now (A .image)) (A .worker) (A .number))
+    (c .asked .ensures, n .standing-no .ensures ∙ ap standingNo (s .standing .ensures) ∙ stands-told (now (A .image)) (A .worker) (A .number))
 
 pub zilpanud-standing-spec : {M : Type 1} → statement M
 zilpanud-standing-spec =
-    tie.close (tie.spec standing-requires standing-no-requires code-requires returns)
+    tie.close (tie.spec standing-requires standing-no-requires asked-requires returns)

@@ -1,6 +1,6 @@
 -- `section::judge::use_at` meets its contract: the held sets in the array are those before each step.
 use Rattle.section.proofs.Passing.{use-by, looked-up, lands-wider}
-use Rattle.section.specs.Op.{opOf}
+use Rattle.code.specs.Op.{opOf}
 use Rattle.section.specs.Check.{codeOf}
 use lib.ListN.{length, getD}
 use denote.Ref.{now}

@@ -1,0 +1,3 @@
+pub mod Rows
+pub mod Formats
+pub mod Submission

@@ -1,0 +1,4 @@
+pub mod Format
+pub mod Submit
+pub mod Asking
+pub mod Codes

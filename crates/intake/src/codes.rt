@@ -1,0 +1,32 @@
+// The number and the value of each case of the answers here (specs/Codes).
+use crate::Formatted;
+use crate::Submitted;
+ghost use mathlib.Core.Path.{_≡_};
+ghost use Rattle.intake.specs.Codes.{formatCode, submitCode, submitDetail};
+
+pub fn format_code(a: Formatted) -> u64
+    ensures { λ n. ⌜ n ≡ formatCode a ⌝ }
+{
+    match a {
+        Formatted::Done => 0,
+        Formatted::Refused(r) => working::cause(r),
+    }
+}
+
+pub fn submit_code(a: Submitted) -> u64
+    ensures { λ n. ⌜ n ≡ submitCode a ⌝ }
+{
+    match a {
+        Submitted::Taken => 0,
+        Submitted::Refused(r) => working::cause(r),
+    }
+}
+
+pub fn submit_detail(a: Submitted) -> u64
+    ensures { λ n. ⌜ n ≡ submitDetail a ⌝ }
+{
+    match a {
+        Submitted::Taken => 0,
+        Submitted::Refused(r) => working::value(r) as u64,
+    }
+}

@@ -1,0 +1,109 @@
+-- What the plan of a turn rests on: the cases of the definitions that go by the number of a turn, for a turn that is known
+-- only by what it is not; and what a cursor that is ready says of its instruction.
+use Prim.Native.Nat.{ℕ, suc, zero, _+_, _-_, _<_, _≤_}
+use mathlib.Core.Path.{_≡_, refl, ap, _∙_}
+use mathlib.Core.Bool.{Bool, true, false, cond, _&&_, false≢true, true≢false}
+use mathlib.Core.Logic.{_≢_}
+use native.Mathlib.Omega.{arith}
+use lib.ListN.{length, getD}
+use lib.Dec.{leb, ltb, eqb}
+use borrow.Author.Tests.{leb-true, ltb-true, lt-ltb}
+use Rattle.base.proofs.Bools.{and-left}
+use Rattle.base.proofs.Filling.{getD-inside}
+use Rattle.mask.specs.Mask.{with}
+use Rattle.image.specs.declared.Field.the-variants.{Count, Owned}
+use Rattle.image.specs.Place.{Place, field, Memory}
+use Rattle.image.specs.Image.{indexOf}
+use Rattle.code.specs.Table.{turnsOf}
+use Rattle.code.specs.Op.{opOf}
+use Rattle.code.specs.inner.Fits.{fits}
+use Rattle.code.specs.Form.{inRange, inPlace, wellFormed}
+use Rattle.code.proofs.Ranges.{in-range, turns-most}
+use Rattle.working.specs.declared.Cursors.{Cursors}
+use Rattle.plan.specs.declared.Plan.the-variants.{Store}
+use Rattle.working.specs.Cursor.{Cursor, idle, on, isIdle, cursorAt}
+use Rattle.plan.specs.Turn.{stored, codeIn, activeVal, logged, acquireTurn, finishTurn, ready}
+use Rattle.plan.specs.inner.Plan.{planOf, loggedPlan}
+
+-- ---- turns by their number
+
+module _ (n : ℕ) (rd : Memory) (d s t : ℕ) where
+  -- a logged store at a place, as the code says it
+  pub logged-plan : (p : Place) (v ns nt j : ℕ) → planOf n (logged n rd d s t p v (on ns nt) j) ≡ loggedPlan n rd d s t (indexOf n p) v ns nt j
+  logged-plan p v ns nt zero = refl
+  logged-plan p v ns nt (suc zero) = refl
+  logged-plan p v ns nt (suc (suc zero)) = refl
+  logged-plan p v ns nt (suc (suc (suc j))) = refl
+
+  -- from turn 3 on it stores the logged value at its target
+  pub target-plan : (i v ns nt j : ℕ) → 2 < j → loggedPlan n rd d s t i v ns nt j ≡ Store i (rd (field (activeVal n rd d) d)) ns nt
+  target-plan i v ns nt zero l = absurd (omega arith)
+  target-plan i v ns nt (suc zero) l = absurd (omega arith)
+  target-plan i v ns nt (suc (suc zero)) l = absurd (omega arith)
+  target-plan i v ns nt (suc (suc (suc j))) l = refl
+
+  -- its value matters at turn 1 alone
+  pub value-plan : (i v ns nt j : ℕ) → j ≢ 1 → loggedPlan n rd d s t i v ns nt j ≡ loggedPlan n rd d s t i 0 ns nt j
+  value-plan i v ns nt zero a = refl
+  value-plan i v ns nt (suc zero) a = absurd (a refl)
+  value-plan i v ns nt (suc (suc zero)) a = refl
+  value-plan i v ns nt (suc (suc (suc j))) a = refl
+
+module _ (n : ℕ) (rd : Memory) (d s : ℕ) where
+  -- an acquire from turn 2 on
+  pub acquire-plan : (a t : ℕ) → t ≢ 0 → t ≢ 1
+      → planOf n (acquireTurn n rd d a s t) ≡ loggedPlan n rd d s t (indexOf n (field Owned d)) (with (rd (field Owned d)) a) (s + 1) 0 (t - 2)
+  acquire-plan a zero x y = absurd (x refl)
+  acquire-plan a (suc zero) x y = absurd (y refl)
+  acquire-plan a (suc (suc t)) x y = let e : suc (suc t) - 2 ≡ t = omega arith in rw e (logged-plan n rd d s _ _ _ _ _ t)
+
+  -- a finish from turn 2 on
+  pub finish-last : (t : ℕ) → t ≢ 0 → t ≢ 1 → finishTurn n rd d s t ≡ stored (field Count d) 0 idle
+  finish-last zero x y = absurd (x refl)
+  finish-last (suc zero) x y = absurd (y refl)
+  finish-last (suc (suc t)) x y = refl
+
+-- ---- cause 5
+
+-- each of five tests
+private-tests : (p q r s t : Bool) → (p && q && r && s && t) ≡ true → (p ≡ true) × (q ≡ true) × (r ≡ true) × (s ≡ true) × (t ≡ true)
+private-tests true true true true true e = (refl, refl, refl, refl, refl)
+private-tests true true true true false e = absurd (false≢true e)
+private-tests true true true false t e = absurd (false≢true e)
+private-tests true true false s t e = absurd (false≢true e)
+private-tests true false r s t e = absurd (false≢true e)
+private-tests false q r s t e = absurd (false≢true e)
+
+pub formed-range : (own k i w : ℕ) → wellFormed own k i w ≡ true → inRange own w ≡ true
+unfolding wellFormed
+formed-range own k i w e = and-left (inRange own w) (inPlace k i (opOf w)) e
+
+-- ---- a cursor that is ready
+
+pub record Ready (n : ℕ) (rd : Memory) (d s t : ℕ) : Type 0 where
+  pub step : s < 64
+  pub turn : t < 6
+  pub has : t < turnsOf (codeIn n rd d s)
+  pub form : fits n (opOf (codeIn n rd d s))
+
+pub ready-says : (n : ℕ) (rd : Memory) (d s t : ℕ) → ready n rd d s t ≡ true → Ready n rd d s t
+unfolding ready
+ready-says n rd d s t e =
+    let k = rd (field Count d) in
+    let w = codeIn n rd d s in
+    let h = private-tests (leb 3 k) (leb k 64) (ltb s k) (wellFormed n k s w) (ltb t (turnsOf w)) e in
+    record {
+      step = omega (arith, leb-true k 64 (h .1), ltb-true s k (h .2));
+      turn = omega (arith, ltb-true t (turnsOf w) (h .4), turns-most w);
+      has = ltb-true t (turnsOf w) (h .4);
+      form = in-range n w (formed-range n k s w (h .3));
+    }
+
+-- it is ready at each turn that its instruction has
+pub ready-turn : (n : ℕ) (rd : Memory) (d s t u : ℕ) → ready n rd d s t ≡ true → u < turnsOf (codeIn n rd d s) → ready n rd d s u ≡ true
+unfolding ready
+ready-turn n rd d s t u e l =
+    let k = rd (field Count d) in
+    let w = codeIn n rd d s in
+    let h = private-tests (leb 3 k) (leb k 64) (ltb s k) (wellFormed n k s w) (ltb t (turnsOf w)) e in
+    rw (h .0, h .1, h .2, h .3) (lt-ltb u (turnsOf w) l)

@@ -1,0 +1,4 @@
+pub mod Rows
+pub mod Sets
+pub mod Lowest
+pub mod Slots

@@ -1,0 +1,86 @@
+-- `repair::resuming::resumed_all` meets its contract. The loop's invariant: the first d elements of both arrays are the
+-- definition's.
+use Prim.Native.Nat.{ℕ, _-_, _≤_, _<_}
+use mathlib.Core.Path.{_≡_, refl, _∙_}
+use native.Mathlib.Omega.{arith}
+use denote.Ref.{now}
+use lib.ListN.{length, getD, length-set}
+use Rattle.base.proofs.Filling.{filled-next}
+use Rattle.image.specs.Image.{at, workers}
+use Rattle.working.specs.Cursor.{stepNo, turnNo}
+use Rattle.repair.specs.Plan.{resumedAt, resumedAll}
+use Rattle.soundness.proofs.Sets.{eight-is}
+use Rattle.repair.proofs.resuming.resumed_all.Statement.{statement}
+use Rattle.repair.proofs.resuming.resumed_all.Tie as tie
+
+abbrev Inv-loop : tie.InvT-loop
+Inv-loop image own step₀ turn₀ d₀ step turn d =
+    (d ≤ 8) × (length step ≡ 8) × (length turn ≡ 8) × ((j : ℕ) → j < d → getD step j 0 ≡ stepNo (resumedAt own (at own image) (workers image) j))
+    × ((j : ℕ) → j < d → getD turn j 0 ≡ turnNo (resumedAt own (at own image) (workers image) j))
+
+abbrev μ-loop : tie.MeasureT-loop
+μ-loop image own step₀ turn₀ d₀ step turn d = 8 - d
+
+loop-holds : tie.Need-loop-holds Inv-loop μ-loop
+loop-holds c = (omega arith, refl, refl, (λ j l. absurd (omega arith)), λ j l. absurd (omega arith))
+
+step-at-requires : tie.Need-step-at-requires Inv-loop μ-loop
+step-at-requires c κs = c .before .before .before .pre
+
+array-write-step : tie.Need-array-write-step Inv-loop μ-loop
+array-write-step c = omega arith
+
+turn-at-requires : tie.Need-turn-at-requires Inv-loop μ-loop
+turn-at-requires c κs = c .before .before .before .before .pre
+
+array-write-turn : tie.Need-array-write-turn Inv-loop μ-loop
+array-write-turn c = omega arith
+
+add-d : tie.Need-add-d Inv-loop μ-loop
+add-d c = omega arith
+
+loop-less : tie.Need-loop-less Inv-loop μ-loop
+loop-less c = omega arith
+
+loop-again : tie.Need-loop-again Inv-loop μ-loop
+loop-again c =
+    let A = c .before .before .before .before .before .args in
+    let L = c .before .before .before .loop in
+    let at-step : ℕ → ℕ = λ d. stepNo (resumedAt (A .own) (at (A .own) (now (A .image))) (workers (now (A .image))) d) in
+    let at-turn : ℕ → ℕ = λ d. turnNo (resumedAt (A .own) (at (A .own) (now (A .image))) (workers (now (A .image))) d) in
+    let b : L .d < length (L .step) = omega arith in
+    let b′ : L .d < length (L .turn) = omega arith in (
+      omega arith,
+      length-set (L .step) (L .d) (c .before .step-at .result) ∙ L .inv .1,
+      length-set (L .turn) (L .d) (c .turn-at .result) ∙ L .inv .2,
+      filled-next (L .step) (L .d) (c .before .step-at .result) at-step b (L .inv .3) (c .before .step-at .ensures),
+      filled-next (L .turn) (L .d) (c .turn-at .result) at-turn b′ (L .inv .4) (c .turn-at .ensures),
+    )
+
+returns : tie.Need-returns Inv-loop μ-loop
+unfolding resumedAll
+returns c =
+    let A = c .before .before .before .args in
+    let L = c .before .loop in
+    let rd = at (A .own) (now (A .image)) in
+    let D = workers (now (A .image)) in
+    rw (
+      ← eight-is (L .step) (λ d. stepNo (resumedAt (A .own) rd D d)) (L .d) (L .inv .1) (c .loop-test .left) (L .inv .3),
+      ← eight-is (L .turn) (λ d. turnNo (resumedAt (A .own) rd D d)) (L .d) (L .inv .2) (c .loop-test .left) (L .inv .4),
+    )
+
+pub resumed-all-spec : {M : Type 1} → statement M
+resumed-all-spec =
+    tie.close
+    (tie.spec
+    Inv-loop
+    μ-loop
+    loop-holds
+    step-at-requires
+    array-write-step
+    turn-at-requires
+    array-write-turn
+    add-d
+    loop-less
+    loop-again
+    returns)

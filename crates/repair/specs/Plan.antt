@@ -1,0 +1,80 @@
+-- The stores of an accepted recovery, in order, and where the workers go on.
+use Prim.Native.Nat.{ℕ, suc, zero, _+_}
+use mathlib.Core.List.{List, [], _∷_, _++_}
+use mathlib.Core.Bool.{Bool, true, false, cond, _&&_, _||_, not}
+use lib.Dec.{ltb, eqb}
+use Rattle.mask.specs.Mask.{has}
+use Rattle.image.specs.declared.Field.the-variants.{Count, Pc, Intent}
+use Rattle.image.specs.Place.{Place, lock, field, Memory, Store}
+use Rattle.code.specs.declared.Op.{Op}
+use Rattle.code.specs.declared.Op.the-variants.{Acquire, Release, Assign, Jump, Finish, Unknown}
+use Rattle.working.specs.declared.Cursors.{Cursors}
+use Rattle.working.specs.Cursor.{Cursor, idle, on, stepNo, turnNo}
+use Rattle.soundness.specs.Sound.{eight, namedStep, namedOp, owed}
+
+infixl 60 _≔_
+abbrev pub _≔_ : Place → ℕ → Store
+p ≔ v = record { place = p; value = v }
+
+-- a store, where it is to be made
+abbrev pub when : Bool → Store → List Store
+when t s = cond t (s ∷ []) []
+
+-- the stores of k rows, from row i on
+unfoldable pub rows : (ℕ → List Store) → ℕ → ℕ → List Store
+rows f i zero = []
+rows f i (suc k) = f i ++ rows f (i + 1) k
+
+-- the turn of an instruction's logged store; of the others the first is named
+abbrev pub targetTurn : Op → ℕ
+targetTurn (Acquire a) = 5
+targetTurn (Release a) = 3
+targetTurn (Assign a e) = 3
+targetTurn (Jump a b) = 0
+targetTurn Finish = 0
+targetTurn Unknown = 0
+
+-- worker d has a section that is not begun
+abbrev pub unbegun : Memory → ℕ → Bool
+unbegun rd d = eqb (rd (field Pc d)) 0 && not (eqb (rd (field Count d)) 0)
+
+-- n: own words in a record
+module _ (n : ℕ) (rd : Memory) where
+  -- one of the first k workers intends lock b
+  unfoldable pub intended : ℕ → ℕ → Bool
+  intended zero b = false
+  intended (suc k) b = intended k b || has (rd (field Intent k)) b
+
+  -- stage 1: a lock that any of D workers intends is freed
+  abbrev pub unlock : ℕ → ℕ → List Store
+  unlock D b = when (intended D b) (lock b ≔ 0)
+
+  -- stage 2: a worker intends what it is owed
+  abbrev pub intend : ℕ → List Store
+  intend d = (field Intent d ≔ owed n rd d) ∷ []
+
+  -- stage 3: a section that was not begun is withdrawn
+  abbrev pub withdraw : ℕ → List Store
+  withdraw d = when (unbegun rd d) (field Count d ≔ 0)
+
+  -- stage 4: a worker has the locks that it is owed
+  abbrev pub relock : ℕ → ℕ → List Store
+  relock d b = when (has (owed n rd d) b) (lock b ≔ d + 1)
+
+  abbrev pub relocks : ℕ → List Store
+  relocks d = rows (relock d) 0 64
+
+  -- the stores of an accepted recovery of D workers, in order
+  unfoldable pub plan : ℕ → List Store
+  plan D = rows (unlock D) 0 64 ++ (rows intend 0 D ++ (rows withdraw 0 D ++ rows relocks 0 D))
+
+  -- where worker d goes on
+  unfoldable pub resumed : ℕ → Cursor
+  resumed d = cond (eqb (rd (field Pc d)) 0) idle (on (namedStep n rd d) (targetTurn (namedOp n rd d)))
+
+  -- the cursors after it: the begun go on, all others are idle
+  abbrev pub resumedAt : ℕ → ℕ → Cursor
+  resumedAt D d = cond (ltb d D) (resumed d) idle
+
+  unfoldable pub resumedAll : ℕ → Cursors
+  resumedAll D = record { step = eight (λ d. stepNo (resumedAt D d)); turn = eight (λ d. turnNo (resumedAt D d)) }

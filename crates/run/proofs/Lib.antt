@@ -1,0 +1,4 @@
+pub mod Idling
+pub mod Rounds
+pub mod Staying
+pub mod Laps

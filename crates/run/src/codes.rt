@@ -1,0 +1,24 @@
+// The number and the value of each case of the answers here (specs/Codes).
+use crate::End;
+ghost use mathlib.Core.Path.{_≡_};
+ghost use Rattle.run.specs.Codes.{endCode, endDetail};
+
+pub fn end_code(e: End) -> u64
+    ensures { λ n. ⌜ n ≡ endCode e ⌝ }
+{
+    match e {
+        End::AllIdle => 0,
+        End::Spent => 20,
+        End::Halted(r) => working::cause(r),
+    }
+}
+
+pub fn end_detail(e: End) -> u64
+    ensures { λ n. ⌜ n ≡ endDetail e ⌝ }
+{
+    match e {
+        End::AllIdle => 0,
+        End::Spent => 0,
+        End::Halted(r) => working::value(r) as u64,
+    }
+}

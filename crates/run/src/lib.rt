@@ -1,0 +1,159 @@
+// Runs: rounds of turns over the workers, counted in a tally.
+use tally::Tally;
+use turn::Did;
+use working::Cursors;
+use working::Refusal;
+
+pub mod codes;
+
+ghost use mathlib.Core.Path.{_≡_};
+ghost use Prim.Native.Nat.{_+_, _<_, _≤_};
+ghost use mathlib.Core.Bool.{cond};
+ghost use lib.Dec.{eqb};
+ghost use lib.ListN.{length};
+ghost use Rattle.image.specs.Image.{workers, lengthOf};
+ghost use Rattle.tally.specs.Tally.{none, Room};
+ghost use Rattle.working.specs.World.{world};
+ghost use Rattle.turn.specs.inner.Acting.{didAnswer};
+ghost use Rattle.image.specs.Image.{at};
+ghost use Rattle.image.specs.inner.Inside.{Inside};
+ghost use Rattle.plan.specs.Turn.{ready};
+ghost use mathlib.Core.Bool.{true};
+ghost use mathlib.Core.Logic.{_≢_};
+ghost use Rattle.run.specs.Run.{counted, counting, openTo, ran, roundsOf, runOf};
+
+// How a run ends.
+pub enum End {
+    AllIdle,
+    Spent,
+    Halted(Refusal),
+}
+
+pub struct Ran {
+    pub end: End,
+    pub cursors: Cursors,
+    pub tally: Tally,
+}
+
+// The same in a round of a run: after the first round, a turn past the first of its step is known to be one.
+fn ready_in(image: &[u64], d: usize, own: usize, s: u8, t: u8, round: u16) -> bool
+    requires { ⌜ (Inside own (now image) d) × (t ≢ 0 → round ≢ 0 → ready own (at own (now image)) d s t ≡ true) ⌝ }
+    ensures { λ r. ⌜ r ≡ ready own (at own (now (image .entry))) d s t ⌝ }
+{
+    if t != 0 {
+        if round != 0 {
+            return true;
+        }
+    }
+    plan::ready(image, d, own, s, t)
+}
+
+// The workers up to the last open one, of n.
+fn open_to(c: Cursors, n: usize) -> usize
+    requires { ⌜ n ≤ 8 ⌝ }
+    ensures { λ r. ⌜ r ≡ openTo n c ⌝ }
+{
+    let mut k = n;
+    while 0 < k {
+        if c.turn[k - 1] != 255 {
+            return k;
+        }
+        k -= 1;
+    }
+    0
+}
+
+// The same for the workers up to d, by the turn at which d is now and the number for those below it.
+fn open_with(t: u8, d: usize, below: usize) -> usize
+    requires { ⌜ d < 8 ⌝ }
+    ensures { λ r. ⌜ r ≡ cond (eqb t 255) below (d + 1) ⌝ }
+{
+    if t == 255 {
+        return below;
+    }
+    d + 1
+}
+
+// The tally with a turn counted by what it did.
+fn counted(x: Did, t: Tally) -> Tally
+    requires { ⌜ Room t ⌝ }
+    ensures { λ r. ⌜ r ≡ counted (didAnswer x) t ⌝ }
+{
+    match x {
+        Did::Stored(_) => tally::stored(t),
+        Did::Passed => tally::passed(t),
+        Did::Waiting(_) => tally::waiting(t),
+    }
+}
+
+// Rounds over n workers until all are idle, the rounds are spent, or a turn is refused. Idle workers have no turn, and
+// those above the last open one are not looked at.
+fn rounds_of(
+    image: &mut [u64],
+    cursors: Cursors,
+    n: usize,
+    own: usize,
+    rounds: u16,
+    left: &mut u64,
+) -> Ran
+    requires { ⌜ (own ≤ 64) × (n ≡ workers (now image)) × (n ≤ 8) × (length (now image) ≡ lengthOf own n) ⌝ }
+    ensures { λ r. ⌜ ran (r .end) (counting (world (now (image .exit)) (r .cursors) (now (left .exit))) (r .tally))
+        ≡ roundsOf own rounds n (counting (world (now (image .entry)) cursors (now (left .entry))) none) ⌝ }
+{
+    let mut c = cursors;
+    let mut tally = tally::zero();
+    let mut round: u16 = 0;
+    let mut to = open_to(c, n);
+    let end = 'rounds: loop {
+        if to == 0 {
+            break End::AllIdle;
+        }
+        if round == rounds {
+            break End::Spent;
+        }
+        let mut next: usize = 0;
+        let mut d: usize = 0;
+        while d < to {
+            let s = c.step[d];
+            let t = c.turn[d];
+            if t == 255 {
+                d += 1;
+                continue;
+            }
+            if !ready_in(image, d, own, s, t, round) {
+                break 'rounds End::Halted(Refusal::Cursor(d));
+            }
+            let acted = turn::turn_on(image, d, s, t, own, left);
+            c.step[d] = acted.step;
+            c.turn[d] = acted.turn;
+            let did = acted.did;
+            tally = counted(did, tally);
+            next = open_with(c.turn[d], d, next);
+            d += 1;
+        }
+        to = next;
+        round += 1;
+    };
+    Ran {
+        end: end,
+        cursors: c,
+        tally: tally,
+    }
+}
+
+// Rounds of turns until all workers are idle. The header is tested once.
+pub fn run(image: &mut [u64], c: Cursors, rounds: u16, mark: u64, own: usize, left: &mut u64) -> Ran
+    requires { ⌜ own ≤ 64 ⌝ }
+    ensures { λ r. ⌜ ran (r .end) (counting (world (now (image .exit)) (r .cursors) (now (left .exit))) (r .tally))
+        ≡ runOf mark own (world (now (image .entry)) c (now (left .entry))) rounds ⌝ }
+{
+    if !image::header_ok(image, mark, own) {
+        return Ran {
+            end: End::Halted(Refusal::Image),
+            cursors: c,
+            tally: tally::zero(),
+        };
+    }
+    let n = image::workers(image) as usize;
+    rounds_of(image, c, n, own, rounds, left)
+}

@@ -1,0 +1,3 @@
+pub mod Sound
+pub mod Codes
+pub mod inner

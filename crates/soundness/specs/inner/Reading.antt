@@ -1,0 +1,53 @@
+-- What only the inner functions of a recovery need: records that can be read, and the owed sets in a list.
+use Prim.Native.Nat.{ℕ, suc, zero, _+_, _%_, _<_, _≤_}
+use mathlib.Core.Path.{_≡_}
+use mathlib.Core.Bool.{true, cond}
+use mathlib.Core.List.{List}
+use lib.ListN.{length, getD}
+use lib.Dec.{leb, ltb}
+use Rattle.image.specs.declared.Field.the-variants.{Count, Pc}
+use Rattle.image.specs.Place.{field, Memory}
+use Rattle.image.specs.Image.{Image, lengthOf, at, workers}
+use Rattle.code.specs.Form.{inRange}
+use Rattle.section.specs.Check.{heldBefore}
+use Rattle.plan.specs.Turn.{codeIn}
+use Rattle.soundness.specs.Sound.{claimants, namedStep, owed}
+
+-- ---- a section that is begun
+
+-- the pc names a step of a section whose instructions are in their ranges
+pub record Begun (n : ℕ) (rd : Memory) (d : ℕ) : Type 0 where
+  pub some : 1 ≤ rd (field Pc d) % 9223372036854775808
+  pub named : namedStep n rd d < rd (field Count d)
+  pub most : rd (field Count d) ≤ 64
+  pub ranges : (j : ℕ) → j < rd (field Count d) → inRange n (codeIn n rd d j) ≡ true
+
+-- worker d has not begun a section, or one that can be read
+abbrev pub Legible : ℕ → Memory → ℕ → Type 0
+Legible n rd d = (rd (field Pc d) ≡ 0 → ⊥) → Begun n rd d
+
+-- every worker's record can be read
+pub record Restorable (n : ℕ) (m : Image) : Type 0 where
+  pub few : n ≤ 64
+  pub most : workers m ≤ 8
+  pub whole : length m ≡ lengthOf n (workers m)
+  pub legible : (d : ℕ) → d < workers m → Legible n (at n m) d
+
+-- a list has the held set before each of the first k steps of worker d's section
+abbrev pub Helds : ℕ → Memory → ℕ → ℕ → List ℕ → Type 0
+Helds n rd d k held = (j : ℕ) → j < k → getD held j 0 ≡ heldBefore (codeIn n rd d) j
+
+-- ---- owed sets
+
+-- worker d's owed set; empty for one that the image has not
+abbrev pub owedAt : ℕ → Memory → ℕ → ℕ → ℕ
+owedAt n rd D d = cond (ltb d D) (owed n rd d) 0
+
+-- the sets of a list
+abbrev pub setsIn : List ℕ → ℕ → ℕ
+setsIn l d = getD l d 0
+
+-- the lowest lock, of k from b on, that two of the first n sets have; b + k where there is none
+unfoldable pub sharedFrom : (ℕ → ℕ) → ℕ → ℕ → ℕ → ℕ
+sharedFrom sets n b zero = b
+sharedFrom sets n b (suc k) = cond (leb (claimants sets b n) 1) (sharedFrom sets n (b + 1) k) b

@@ -1,0 +1,236 @@
+// Whether a worker's record is sound: cause 12.
+use crate::Answer;
+use crate::Judged;
+use crate::Refusal;
+use image::Field;
+use code::Op;
+use code::held_after;
+use code::op_of;
+ghost use mathlib.Core.Path.{_≡_};
+ghost use mathlib.Core.Bool.{true, false, _||_};
+ghost use lib.ListN.{length};
+ghost use lib.Dec.{eqb};
+ghost use Prim.Native.Nat.{_≤_};
+ghost use Rattle.image.specs.Place.{field};
+ghost use Rattle.image.specs.Image.{at, workers, lengthOf};
+ghost use Rattle.image.specs.inner.Inside.{Inside};
+ghost use Rattle.section.specs.Check.{check, passes};
+ghost use Rattle.code.specs.inner.Fits.{fits};
+ghost use Rattle.plan.specs.Turn.{codeIn, activeAddr, activeVal};
+ghost use Rattle.soundness.specs.Sound.{owedOf, eight, covers, heldNext, owed, sectionOk, setLogged, entryOk, pcOk, sound, unsound};
+ghost use Rattle.soundness.specs.inner.Reading.{Helds, owedAt};
+ghost use Rattle.soundness.specs.inner.Tests.{isDone, byRecord};
+
+// Whether the first k instruction words of worker d's record, each loaded, pass the check, which then leaves the held sets.
+fn section_passes(image: &[u64], d: usize, k: usize, own: usize, held: &mut [u64]) -> bool
+    requires { ⌜ (Inside own (now image) d) × (k ≤ 64) × (64 ≤ length (now held)) ⌝ }
+    ensures passes { λ r. ⌜ r ≡ passes (check own k (codeIn own (at own (now (image .entry))) d)) ⌝ }
+    ensures sets { λ r. ⌜ (r ≡ true → Helds own (at own (now (image .entry))) d k (now (held .exit))) ⌝ }
+{
+    let mut words = [0u64; 64];
+    let mut i: usize = 0;
+    while i < k {
+        words[i] = image::read_step(image, d, i, own);
+        i += 1;
+    }
+    section::passes(section::check_held(&words[..k], own as u16, held))
+}
+
+// Whether worker d has no section, or one that passes the check, with a number that may be under way. The held sets are left.
+fn section_ok(image: &[u64], d: usize, own: usize, held: &mut [u64]) -> bool
+    requires { ⌜ (Inside own (now image) d) × (64 ≤ length (now held)) ⌝ }
+    ensures ok { λ r. ⌜ r ≡ sectionOk own (at own (now (image .entry))) d ⌝ }
+    ensures sets { λ r. ⌜ (r ≡ true → Helds own (at own (now (image .entry))) d (at own (now (image .entry)) (field Field.Count d)) (now (held .exit))) ⌝ }
+{
+    let k = image::read_field(image, Field::Count, d, own);
+    if k == 0 {
+        return image::read_field(image, Field::Pc, d, own) == 0;
+    }
+    if 64 < k {
+        return false;
+    }
+    if !section_passes(image, d, k as usize, own, held) {
+        return false;
+    }
+    let number = image::read_field(image, Field::Number, d, own);
+    if number < 1 {
+        return false;
+    }
+    image::read_field(image, Field::Finished, d, own) <= number
+}
+
+// The address in the active log entry.
+fn logged_addr(image: &[u64], d: usize, own: usize) -> u64
+    requires { ⌜ Inside own (now image) d ⌝ }
+    ensures { λ r. ⌜ r ≡ at own (now (image .entry)) (field (activeAddr own (at own (now (image .entry))) d) d) ⌝ }
+{
+    if image::read_field(image, Field::Pc, d, own) >> 63 == 0 {
+        return image::read_field(image, Field::Addr0, d, own);
+    }
+    image::read_field(image, Field::Addr1, d, own)
+}
+
+// The value in it.
+fn logged_value(image: &[u64], d: usize, own: usize) -> u64
+    requires { ⌜ Inside own (now image) d ⌝ }
+    ensures { λ r. ⌜ r ≡ at own (now (image .entry)) (field (activeVal own (at own (now (image .entry))) d) d) ⌝ }
+{
+    if image::read_field(image, Field::Pc, d, own) >> 63 == 0 {
+        return image::read_field(image, Field::Val0, d, own);
+    }
+    image::read_field(image, Field::Val1, d, own)
+}
+
+// Whether the active entry logs a store of a set in worker d's owned word.
+fn set_logged(image: &[u64], d: usize, set: u64, own: usize) -> bool
+    requires { ⌜ Inside own (now image) d ⌝ }
+    ensures { λ r. ⌜ r ≡ setLogged own (at own (now (image .entry))) d set ⌝ }
+{
+    if logged_addr(image, d, own) != image::field_index(Field::Owned, d, own) as u64 {
+        return false;
+    }
+    logged_value(image, d, own) == set
+}
+
+// Whether the active entry logs the store of an instruction, after which `next` is held.
+fn entry_ok(image: &[u64], d: usize, x: Op, next: u64, own: usize) -> bool
+    requires { ⌜ (Inside own (now image) d) × (fits own x) × (next ≡ heldNext own (at own (now image)) d) ⌝ }
+    ensures { λ r. ⌜ r ≡ entryOk own (at own (now (image .entry))) d x ⌝ }
+{
+    match x {
+        Op::Acquire(_) => set_logged(image, d, next, own),
+        Op::Release(_) => set_logged(image, d, next, own),
+        Op::Assign(a, _) => {
+            logged_addr(image, d, own) == plan::words::operand_index(d, a, own) as u64
+        }
+        Op::Jump(_, _) => false,
+        Op::Finish => false,
+        Op::Unknown => false,
+    }
+}
+
+// What a test of a record finds: whether it holds and, where it does, the owed set.
+struct Found {
+    ok: bool,
+    owed: u64,
+}
+
+fn refused() -> Found
+    ensures ok { λ r. ⌜ r .ok ≡ false ⌝ }
+    ensures owed { λ r. ⌜ r .owed ≡ 0 ⌝ }
+{
+    Found { ok: false, owed: 0 }
+}
+
+// Whether the set owned is the one held before a step, or the one after it.
+fn owned_ok(owned: u64, here: u64, next: u64) -> bool
+    ensures { λ r. ⌜ r ≡ (eqb owned here || eqb owned next) ⌝ }
+{
+    if owned == here {
+        return true;
+    }
+    owned == next
+}
+
+// The owed set at an instruction: of an acquire the held set after it, since its lock may be taken and not yet owned.
+fn owed_by(x: Op, next: u64, owned: u64) -> u64
+    ensures { λ r. ⌜ r ≡ owedOf x next owned ⌝ }
+{
+    match x {
+        Op::Acquire(_) => next,
+        Op::Release(_) => owned,
+        Op::Assign(_, _) => owned,
+        Op::Jump(_, _) => owned,
+        Op::Finish => owned,
+        Op::Unknown => owned,
+    }
+}
+
+// Whether the pc names no step, with nothing owned, or one whose entry is right, with the set before or after it owned.
+fn pc_ok(image: &[u64], d: usize, own: usize, held: &[u64]) -> Found
+    requires { ⌜ (Inside own (now image) d) × (sectionOk own (at own (now image)) d ≡ true) × (64 ≤ length (now held))
+        × Helds own (at own (now image)) d (at own (now image) (field Field.Count d)) (now held) ⌝ }
+    ensures ok { λ r. ⌜ r .ok ≡ pcOk own (at own (now (image .entry))) d ⌝ }
+    ensures owed { λ r. ⌜ (r .ok ≡ true → r .owed ≡ owed own (at own (now (image .entry))) d) ⌝ }
+{
+    let owned = image::read_field(image, Field::Owned, d, own);
+    let pc = image::read_field(image, Field::Pc, d, own);
+    if pc == 0 {
+        return Found {
+            ok: owned == 0,
+            owed: 0,
+        };
+    }
+    let p = pc % 9223372036854775808;
+    if p < 1 {
+        return refused();
+    }
+    if image::read_field(image, Field::Count, d, own) <= p - 1 {
+        return refused();
+    }
+    let s = p as usize - 1;
+    let x = op_of(image::read_step(image, d, s, own));
+    let here = held[s];
+    let next = held_after(here, x);
+    if !entry_ok(image, d, x, next, own) {
+        return refused();
+    }
+    Found {
+        ok: owned_ok(owned, here, next),
+        owed: owed_by(x, next, owned),
+    }
+}
+
+// Whether every lock of `small` is in `big`.
+fn covers(big: u64, small: u64) -> bool
+    ensures { λ r. ⌜ r ≡ covers big small 64 ⌝ }
+{
+    small & big == small
+}
+
+// Whether worker d's record is sound. The held sets of its section go through `held`.
+fn sound(image: &[u64], d: usize, own: usize, held: &mut [u64]) -> Found
+    requires { ⌜ (Inside own (now image) d) × (64 ≤ length (now held)) ⌝ }
+    ensures ok { λ r. ⌜ r .ok ≡ sound own (at own (now (image .entry))) d ⌝ }
+    ensures owed { λ r. ⌜ (r .ok ≡ true → r .owed ≡ owed own (at own (now (image .entry))) d) ⌝ }
+{
+    if !section_ok(image, d, own, held) {
+        return refused();
+    }
+    let f = pc_ok(image, d, own, held);
+    if !f.ok {
+        return f;
+    }
+    let intent = image::read_field(image, Field::Intent, d, own);
+    Found {
+        ok: covers(intent, f.owed),
+        owed: f.owed,
+    }
+}
+
+// Whether all records are sound, with the owed sets, or the first worker whose record is not.
+pub fn records(image: &[u64], own: usize) -> Judged
+    requires { ⌜ (own ≤ 64) × (workers (now image) ≤ 8) × (length (now image) ≡ lengthOf own (workers (now image))) ⌝ }
+    ensures answer { λ r. ⌜ r .answer ≡ byRecord (unsound own (at own (now (image .entry))) (workers (now (image .entry))) 0 (workers (now (image .entry)))) ⌝ }
+    ensures owed { λ r. ⌜ (isDone (r .answer) ≡ true → r .owed ≡ eight (owedAt own (at own (now (image .entry))) (workers (now (image .entry))))) ⌝ }
+{
+    let n = image::workers(image) as usize;
+    let mut sets = [0u64; 8];
+    let mut held = [0u64; 64];
+    let mut d: usize = 0;
+    while d < n {
+        let f = sound(image, d, own, &mut held);
+        if !f.ok {
+            return Judged {
+                answer: Answer::Refused(Refusal::Record(d)),
+                owed: sets,
+            };
+        }
+        sets[d] = f.owed;
+        d += 1;
+    }
+    Judged {
+        answer: Answer::Done,
+        owed: sets,
+    }
+}

@@ -1,0 +1,50 @@
+-- `turn::turn_on` meets its contract: a worker that is ready is open, the plan is the outcome's, and what is done of
+-- it is what the outcome leaves.
+use borrow.Author.Needs.{needs}
+use mathlib.Core.Path.{_≡_, ap, _∙_}
+use native.Mathlib.Omega.{arith}
+use denote.Ref.{now}
+use Rattle.image.specs.Image.{at}
+use Rattle.working.specs.World.{world}
+use Rattle.turn.specs.Call.{outcomeAt}
+use Rattle.plan.specs.inner.Plan.{planOf}
+use Rattle.turn.specs.inner.Acting.{planDid, planLeaves}
+use Rattle.working.proofs.Placed.{on-is}
+use Rattle.plan.proofs.Planned.{ready-says}
+use Rattle.working.proofs.Placed.{open-turn}
+use Rattle.turn.proofs.Turns.{plan-leaves}
+use Rattle.turn.proofs.turn_on.Statement.{statement}
+use Rattle.turn.proofs.turn_on.Tie as tie
+
+next-requires : tie.Need-next-requires
+next-requires c κs = search needs
+
+done-requires : tie.Need-done-requires
+done-requires c κs = search needs
+
+same-length : tie.Need-same-length
+same-length c = search needs
+
+returns : tie.Need-returns
+unfolding outcomeAt
+returns c =
+    λ x h.
+    let v = c .before .before .before .before .before in
+    let S = v .before .before .before in
+    let A = S .args in
+    let w = world (now (A .image)) x (now (A .left)) in
+    let o = outcomeAt (A .own) w (A .d) in
+    let z = ready-says (A .own) (at (A .own) (now (A .image))) (A .d) (A .s) (A .t) (S .pre .1) in
+    let on-it = on-is x (A .d) (h .inside) (open-turn x (A .d) (h .inside) (λ q. omega (arith, z .turn, h .turn, q))) in
+    let e : v .next .result ≡ planOf (A .own) o = rw (on-it, h .step, h .turn) (v .next .ensures) in
+    let r = c .before .before .done .ensures in
+    record { did = r .0 ∙ ap planDid e; after = r .1 x (A .d) h ∙ (ap (planLeaves w (A .d)) e ∙ plan-leaves (A .own) w (A .d) o) }
+
+pub turn-on-spec : {M : Type 1} → statement M
+turn-on-spec =
+    tie.close
+    (tie.spec
+    next-requires
+    done-requires
+    same-length
+    returns)

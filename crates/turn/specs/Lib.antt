@@ -1,0 +1,3 @@
+pub mod Call
+pub mod Codes
+pub mod inner

@@ -1,0 +1,173 @@
+// One turn of a worker: its tests, its plan, at most one store, and the record with the step and turn that the plan names.
+use plan::Plan;
+use working::Cursors;
+use working::Refusal;
+
+pub mod codes;
+
+ghost use mathlib.Core.Path.{_≡_};
+ghost use mathlib.Core.Bool.{true};
+ghost use Prim.Native.Nat.{ℕ, _≤_};
+ghost use Rattle.image.specs.Image.{at};
+ghost use Rattle.image.specs.inner.Inside.{Inside};
+ghost use Rattle.plan.specs.Turn.{ready};
+ghost use Rattle.working.specs.inner.At.{At};
+ghost use Rattle.working.specs.Cursor.{setAt};
+ghost use Rattle.working.specs.World.{world};
+ghost use Rattle.turn.specs.inner.Acting.{tested, gateOf, Acts, planDid, didAnswer, planLeaves};
+ghost use Rattle.turn.specs.Call.{answerOf, leaves, outcomeAt, outcome};
+
+// What a turn answers.
+pub enum Answer {
+    // A store was made at this index.
+    Stored(usize),
+    // There was nothing to store.
+    Passed,
+    // The lock is not free: its owner word is not 0.
+    Waiting(u64),
+    Idle,
+    Refused(Refusal),
+}
+
+// Whether a worker gets a turn.
+enum Gate {
+    Refused(Refusal),
+    Idle,
+    Open,
+}
+
+// What the turn of an open worker did, where it is not refused.
+pub enum Did {
+    Stored(usize),
+    Passed,
+    Waiting(u64),
+}
+
+// What it did, and the step and turn behind it.
+pub struct Acted {
+    pub did: Did,
+    pub step: u8,
+    pub turn: u8,
+}
+
+pub struct Turned {
+    pub answer: Answer,
+    pub cursors: Cursors,
+}
+
+// A plan done, with the step and turn behind it: the plan's, or where it waits those that the worker has.
+pub fn done(image: &mut [u64], p: Plan, s: u8, t: u8, left: &mut u64) -> Acted
+    ensures did { λ r. ⌜ r .did ≡ planDid p ⌝ }
+    ensures after { λ r. ⌜ ((c : Cursors) (d : ℕ) → At c d s t
+        → world (now (image .exit)) (setAt c d (r .step) (r .turn)) (now (left .exit)) ≡ planLeaves (world (now (image .entry)) c (now (left .entry))) d p) ⌝ }
+{
+    match p {
+        Plan::Store {
+            at,
+            value,
+            step,
+            turn,
+        } => {
+            image::store(image, at, value, left);
+            Acted {
+                did: Did::Stored(at),
+                step: step,
+                turn: turn,
+            }
+        }
+        Plan::Pass { step, turn } => Acted {
+            did: Did::Passed,
+            step: step,
+            turn: turn,
+        },
+        Plan::Wait(b) => Acted {
+            did: Did::Waiting(b),
+            step: s,
+            turn: t,
+        },
+    }
+}
+
+// The turn of worker d, which is ready at step s, turn t.
+pub fn turn_on(image: &mut [u64], d: usize, s: u8, t: u8, own: usize, left: &mut u64) -> Acted
+    requires { ⌜ (Inside own (now image) d) × (ready own (at own (now image)) d s t ≡ true) ⌝ }
+    ensures { λ r. ⌜ ((c : Cursors) → At c d s t
+        → Acts own (world (now (image .entry)) c (now (left .entry))) d (r .did) (world (now (image .exit)) (setAt c d (r .step) (r .turn)) (now (left .exit)))) ⌝ }
+{
+    let p = plan::next(image, d, own, s, t);
+    done(image, p, s, t, left)
+}
+
+// What it answers.
+pub fn answer_of(x: Did) -> Answer
+    ensures { λ r. ⌜ r ≡ didAnswer x ⌝ }
+{
+    match x {
+        Did::Stored(at) => Answer::Stored(at),
+        Did::Passed => Answer::Passed,
+        Did::Waiting(b) => Answer::Waiting(b),
+    }
+}
+
+// Whether a worker that the image has gets a turn: an idle one does not, nor one whose cursor is on no turn of its section.
+fn worker_tests(image: &[u64], c: Cursors, d: usize, own: usize) -> Gate
+    requires { ⌜ Inside own (now image) d ⌝ }
+    ensures { λ r. ⌜ ((k : ℕ) → r ≡ gateOf (outcomeAt own (world (now (image .entry)) c k) d)) ⌝ }
+{
+    if working::idle(c, d) {
+        return Gate::Idle;
+    }
+    if !plan::ready(image, d, own, c.step[d], c.turn[d]) {
+        return Gate::Refused(Refusal::Cursor(d));
+    }
+    Gate::Open
+}
+
+// The tests of a turn: causes 10 and 1, then those of the worker.
+fn tests(image: &[u64], c: Cursors, d: usize, mark: u64, own: usize) -> Gate
+    requires { ⌜ own ≤ 64 ⌝ }
+    ensures { λ r. ⌜ ((k : ℕ) → r ≡ gateOf (outcome mark own (world (now (image .entry)) c k) d)) ⌝ }
+{
+    if !image::header_ok(image, mark, own) {
+        return Gate::Refused(Refusal::Image);
+    }
+    if image::workers(image) <= d as u64 {
+        return Gate::Refused(Refusal::Worker);
+    }
+    worker_tests(image, c, d, own)
+}
+
+// The turn of a worker that gets one.
+fn open_turn(image: &mut [u64], c: Cursors, d: usize, own: usize, left: &mut u64) -> Turned
+    requires { ⌜ (Inside own (now image) d) × (tested own (now image) c d ≡ true) ⌝ }
+    ensures answer { λ r. ⌜ r .answer ≡ answerOf own (outcomeAt own (world (now (image .entry)) c (now (left .entry))) d) ⌝ }
+    ensures after { λ r. ⌜ world (now (image .exit)) (r .cursors) (now (left .exit))
+        ≡ leaves own (world (now (image .entry)) c (now (left .entry))) d (outcomeAt own (world (now (image .entry)) c (now (left .entry))) d) ⌝ }
+{
+    let acted = turn_on(image, d, c.step[d], c.turn[d], own, left);
+    let did = acted.did;
+    Turned {
+        answer: answer_of(did),
+        cursors: working::place(c, d, acted.step, acted.turn),
+    }
+}
+
+// One turn of worker d.
+pub fn turn(image: &mut [u64], c: Cursors, d: usize, mark: u64, own: usize, left: &mut u64) -> Turned
+    requires { ⌜ own ≤ 64 ⌝ }
+    ensures answer { λ r. ⌜ r .answer ≡ answerOf own (outcome mark own (world (now (image .entry)) c (now (left .entry))) d) ⌝ }
+    ensures after { λ r. ⌜ world (now (image .exit)) (r .cursors) (now (left .exit))
+        ≡ leaves own (world (now (image .entry)) c (now (left .entry))) d (outcome mark own (world (now (image .entry)) c (now (left .entry))) d) ⌝ }
+{
+    match tests(image, c, d, mark, own) {
+        Gate::Refused(r) => Turned {
+            answer: Answer::Refused(r),
+            cursors: c,
+        },
+        Gate::Idle => Turned {
+            answer: Answer::Idle,
+            cursors: c,
+        },
+        Gate::Open => open_turn(image, c, d, own, left),
+    }
+}

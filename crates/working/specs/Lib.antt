@@ -1,0 +1,4 @@
+pub mod Cursor
+pub mod Refusal
+pub mod World
+pub mod inner
