@@ -1,4 +1,4 @@
 // The program `board`: frame lines on standard input, and what they print on standard output.
 fn main() {
-    day::play(libc::STDIN_FILENO, libc::STDOUT_FILENO);
+    stream::play(libc::STDIN_FILENO, libc::STDOUT_FILENO);
 }

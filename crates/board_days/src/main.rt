@@ -12,7 +12,7 @@ fn play(name: &[u8]) {
         os::fail(name);
         return;
     }
-    day::play(fd, STDOUT_FILENO);
+    stream::play(fd, STDOUT_FILENO);
     libc::close(fd);
 }
 
@@ -22,7 +22,8 @@ fn play_from(names: &[u8], from: usize) -> usize
     ensures { λ r. ⌜ from < r ⌝ }
 {
     let to = names.len();
-    let end = day::line_end(names, from, to);
+    let left = &names[from..];
+    let end = from + day::line_end(left);
     play(&names[from..end]);
     if end < to { end + 1 } else { to }
 }

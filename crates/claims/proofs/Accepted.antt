@@ -35,15 +35,21 @@ module _ (n : ℕ) (rd : Memory) (d : ℕ) where
   ok-sectioned h z = by (eqb (rd (field Count d)) 0) h
     where
       by : (t : Bool)
-          → cond t (eqb (rd (field Pc d)) 0) (passes (check n (rd (field Count d)) (codeIn n rd d)) && leb 1 (rd (field Number d)) && leb (rd (field Finished d)) (rd (field Number d))) ≡ true
+          → cond t (eqb (rd (field Pc d)) 0)
+          (passes (check n (rd (field Count d)) (codeIn n rd d)) && leb 1 (rd (field Number d)) && leb (rd (field Finished d)) (rd (field Number d))) ≡ true
           → Sectioned n rd d
       by true e = absurd (true≢false (sym e ∙ z))
       by false e =
-          let p = and-left (passes (check n (rd (field Count d)) (codeIn n rd d)) && leb 1 (rd (field Number d))) (leb (rd (field Finished d)) (rd (field Number d))) e in
+          let p = and-left (passes (check n (rd (field Count d)) (codeIn n rd d)) && leb 1 (rd (field Number d)))
+          (leb (rd (field Finished d)) (rd (field Number d))) e in
           record {
-            valid = passed-valid n (rd (field Count d)) (codeIn n rd d) (passed-is _ (and-left (passes (check n (rd (field Count d)) (codeIn n rd d))) (leb 1 (rd (field Number d))) p));
+            valid =
+                passed-valid n (rd (field Count d)) (codeIn n rd d)
+                (passed-is _ (and-left (passes (check n (rd (field Count d)) (codeIn n rd d))) (leb 1 (rd (field Number d))) p));
             numbered = leb-true _ _ (and-right (passes (check n (rd (field Count d)) (codeIn n rd d))) (leb 1 (rd (field Number d))) p);
-            unfinished = leb-true _ _ (and-right (passes (check n (rd (field Count d)) (codeIn n rd d)) && leb 1 (rd (field Number d))) (leb (rd (field Finished d)) (rd (field Number d))) e);
+            unfinished =
+                leb-true _ _ (and-right (passes (check n (rd (field Count d)) (codeIn n rd d)) && leb 1 (rd (field Number d)))
+                (leb (rd (field Finished d)) (rd (field Number d))) e);
           }
 
   -- nothing owned, where the pc is 0
@@ -73,7 +79,8 @@ module _ (n : ℕ) (rd : Memory) (d : ℕ) where
   ok-named h z =
       let s = namedStep n rd d in
       let o = rd (field Owned d) in
-      let t = private-tests (leb 1 (rd (field Pc d) % 2 ^ 63)) (ltb s (rd (field Count d))) (entryOk n rd d (opAt n rd d s)) (eqb o (heldAt n rd d s) || eqb o (heldAt n rd d (suc s))) (rw z at h) in
+      let t = private-tests (leb 1 (rd (field Pc d) % 2 ^ 63)) (ltb s (rd (field Count d))) (entryOk n rd d (opAt n rd d s))
+      (eqb o (heldAt n rd d s) || eqb o (heldAt n rd d (suc s))) (rw z at h) in
       record {
         some = leb-true _ _ (t .0);
         below = ltb-true _ _ (t .1);
@@ -91,8 +98,10 @@ module _ (n : ℕ) (rd : Memory) (d : ℕ) where
   private-both a b v w h = (eqb-true a b (and-left (eqb a b) (eqb v w) h), eqb-true v w (and-right (eqb a b) (eqb v w) h))
 
   private-entry : (x : Op) → entryOk n rd d x ≡ true → (rd (field (activeAddr n rd d) d) ≡ indexOf n (targetOf d x)) × logsHeld n rd d (namedStep n rd d) x
-  private-entry (Acquire a) h = private-both (rd (field (activeAddr n rd d) d)) (indexOf n (field Owned d)) (rd (field (activeVal n rd d) d)) (heldAt n rd d (suc (namedStep n rd d))) h
-  private-entry (Release a) h = private-both (rd (field (activeAddr n rd d) d)) (indexOf n (field Owned d)) (rd (field (activeVal n rd d) d)) (heldAt n rd d (suc (namedStep n rd d))) h
+  private-entry (Acquire a) h =
+      private-both (rd (field (activeAddr n rd d) d)) (indexOf n (field Owned d)) (rd (field (activeVal n rd d) d)) (heldAt n rd d (suc (namedStep n rd d))) h
+  private-entry (Release a) h =
+      private-both (rd (field (activeAddr n rd d) d)) (indexOf n (field Owned d)) (rd (field (activeVal n rd d) d)) (heldAt n rd d (suc (namedStep n rd d))) h
   private-entry (Assign a e) h = (eqb-true _ _ h, tt)
   private-entry (Jump a b) h = absurd (false≢true h)
   private-entry Finish h = absurd (false≢true h)
@@ -139,7 +148,8 @@ module _ (n : ℕ) (rd : Memory) (d : ℕ) where
   unfolding owed namedOp
   private-owed z = rw z
 
-  pub settled-phase : (g : Given) → sectionOk n rd d ≡ true → pcOk n rd d ≡ true → rd (field Intent d) ≡ owed n rd d → (rd (field Pc d) ≡ 0 → rd (field Count d) ≡ 0)
+  pub settled-phase : (g : Given) → sectionOk n rd d ≡ true → pcOk n rd d ≡ true → rd (field Intent d) ≡ owed n rd d
+      → (rd (field Pc d) ≡ 0 → rd (field Count d) ≡ 0)
       → Phase n rd d g (resumed n rd d) (owed n rd d) 0
   settled-phase g s p i c = by (eqb (rd (field Pc d)) 0) refl
     where

@@ -21,7 +21,8 @@ pub turn-agrees : (mark n d : ℕ) (w : Traced) → call mark n (turns d) w .wor
 unfolding call
 turn-agrees mark n d w = refl
 
-pub submit-agrees : (mark n d k : ℕ) (args ws : List ℕ) (w : Traced) → call mark n (submits d k args ws) w .world ≡ submitLeaves n (w .world) d k args ws (submitAnswer mark n (w .world) d k ws)
+pub submit-agrees : (mark n d k : ℕ) (args ws : List ℕ) (w : Traced)
+    → call mark n (submits d k args ws) w .world ≡ submitLeaves n (w .world) d k args ws (submitAnswer mark n (w .world) d k ws)
 unfolding call
 submit-agrees mark n d k args ws w = refl
 
@@ -63,13 +64,15 @@ module _ (mark n : ℕ) where
   round-agrees rest more follows zero d w s e = follows w s e
   round-agrees rest more follows (suc k) d w s e =
       let same : outcomeAt n (w .world) d ≡ outcomeAt n (s .world) d = ap (λ (v : World). outcomeAt n v d) e in
-      rw same (swept-agrees more (outcomeAt n (s .world) d) w _ s _ e (round-agrees rest more follows k (d + 1) (turnedAt mark n w d) (turned n s d) (turned-agrees w s d e)))
+      rw same (swept-agrees more (outcomeAt n (s .world) d) w _ s _ e
+      (round-agrees rest more follows k (d + 1) (turnedAt mark n w d) (turned n s d) (turned-agrees w s d e)))
 
   rounds-agree : (r D : ℕ) (w : Traced) (s : Counting) → w .world ≡ s .world → rounds mark n r D w .world ≡ roundsOf n r D s .after .world
   unfolding rounds roundsOf
   rounds-agree zero D w s e = by (anyOpen D 0 (s .world .cursors))
     where
-      by : (b : Bool) → w .world ≡ cond b (ran Rattle.run.specs.declared.End.the-variants.Spent s) (ran Rattle.run.specs.declared.End.the-variants.AllIdle s) .after .world
+      by : (b : Bool)
+          → w .world ≡ cond b (ran Rattle.run.specs.declared.End.the-variants.Spent s) (ran Rattle.run.specs.declared.End.the-variants.AllIdle s) .after .world
       by true = e
       by false = e
   rounds-agree (suc r) D w s e =
@@ -77,7 +80,8 @@ module _ (mark n : ℕ) where
       rw same (by (anyOpen D 0 (s .world .cursors)) (round-agrees (rounds mark n r D) (roundsOf n r D) (λ v t q. rounds-agree r D v t q) D 0 w s e))
     where
       by : (b : Bool) → round mark n (rounds mark n r D) w 0 D .world ≡ afterSweep n (roundsOf n r D) (sweep n D 0 s) .after .world
-          → cond b (round mark n (rounds mark n r D) w 0 D) w .world ≡ cond b (afterSweep n (roundsOf n r D) (sweep n D 0 s)) (ran Rattle.run.specs.declared.End.the-variants.AllIdle s) .after .world
+          → cond b (round mark n (rounds mark n r D) w 0 D) w .world ≡ cond b (afterSweep n (roundsOf n r D) (sweep n D 0 s))
+          (ran Rattle.run.specs.declared.End.the-variants.AllIdle s) .after .world
       by true h = h
       by false h = e
 
@@ -88,6 +92,8 @@ module _ (mark n : ℕ) where
     where
       by : (b : Bool)
           → cond b (rounds mark n r (workers (w .world .image)) w) w .world
-          ≡ cond b (roundsOf n r (workers (w .world .image)) (counting (w .world) none)) (ran (Rattle.run.specs.declared.End.the-variants.Halted Rattle.working.specs.declared.Refusal.the-variants.Image) (counting (w .world) none)) .after .world
+          ≡ cond b (roundsOf n r (workers (w .world .image)) (counting (w .world) none))
+          (ran (Rattle.run.specs.declared.End.the-variants.Halted Rattle.working.specs.declared.Refusal.the-variants.Image) (counting (w .world) none))
+          .after .world
       by true = rounds-agree r (workers (w .world .image)) w (counting (w .world) none) refl
       by false = refl

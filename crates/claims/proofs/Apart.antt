@@ -28,7 +28,8 @@ use Rattle.plan.specs.Turn.{operand, codeIn, wordIn, activeVal}
 use Rattle.soundness.specs.Sound.{targetOf, namedOp}
 use Rattle.claims.specs.Reference.{Given, Job, State, readIn}
 use Rattle.claims.proofs.Virtual.{misses, entryOf, virtual, virtual-none, virtual-due}
-use Rattle.claims.proofs.Invariant.{opAt, heldAt, Sectioned, Named, Nearing, Due, Phase, resting, fresh, due, unlocking, unlocked, between, ended, Live, JobOf, Mirrors}
+use Rattle.claims.proofs.Invariant.{opAt, heldAt, Sectioned, Named, Nearing, Due, Phase, resting, fresh, due, unlocking, unlocked, between, ended, Live}
+use Rattle.claims.proofs.Invariant.{JobOf, Mirrors}
 use Rattle.claims.proofs.Entries.{apart-of, belongs, entry-none, entry-due, entry-named, named-logs}
 use Rattle.claims.proofs.Sets.{within-with, without-within}
 use Rattle.claims.proofs.LiveTurn.{one-owner}
@@ -46,15 +47,20 @@ module _ (n : ℕ) (rd : Memory) (d : ℕ) where
   release-within s a b o h = without-within (heldAt n rd d s) a b (rw (after-release (codeIn n rd d) s a o) at h)
 
   -- one of the held sets before and after a release
-  either-within : (s a locks b : ℕ) → opAt n rd d s ≡ Release a → (locks ≡ heldAt n rd d s) ⊎ (locks ≡ heldAt n rd d (suc s)) → has (heldAt n rd d (suc s)) b ≡ true → has locks b ≡ true
+  either-within : (s a locks b : ℕ) → opAt n rd d s ≡ Release a → (locks ≡ heldAt n rd d s) ⊎ (locks ≡ heldAt n rd d (suc s))
+      → has (heldAt n rd d (suc s)) b ≡ true → has locks b ≡ true
   either-within s a locks b o (inl e) h = rw e (release-within s a b o h)
   either-within s a locks b o (inr e) h = rw e h
 
-  released : (s locks : ℕ) → ((rd (field Owned d) ≡ heldAt n rd d s) × (rd (field Intent d) ≡ heldAt n rd d s)) ⊎ ((rd (field Owned d) ≡ heldAt n rd d (suc s)) × (rd (field Intent d) ≡ heldAt n rd d (suc s))) → locks ≡ rd (field Intent d) → (locks ≡ heldAt n rd d s) ⊎ (locks ≡ heldAt n rd d (suc s))
+  released : (s locks : ℕ)
+      → ((rd (field Owned d) ≡ heldAt n rd d s) × (rd (field Intent d) ≡ heldAt n rd d s)) ⊎
+      ((rd (field Owned d) ≡ heldAt n rd d (suc s)) × (rd (field Intent d) ≡ heldAt n rd d (suc s)))
+      → locks ≡ rd (field Intent d) → (locks ≡ heldAt n rd d s) ⊎ (locks ≡ heldAt n rd d (suc s))
   released s locks (inl e) i = inl (i ∙ e .1)
   released s locks (inr e) i = inr (i ∙ e .1)
 
-  intends : (s locks : ℕ) → (rd (field Intent d) ≡ heldAt n rd d s) ⊎ (rd (field Intent d) ≡ heldAt n rd d (suc s)) → locks ≡ rd (field Intent d) → (locks ≡ heldAt n rd d s) ⊎ (locks ≡ heldAt n rd d (suc s))
+  intends : (s locks : ℕ) → (rd (field Intent d) ≡ heldAt n rd d s) ⊎ (rd (field Intent d) ≡ heldAt n rd d (suc s)) → locks ≡ rd (field Intent d)
+      → (locks ≡ heldAt n rd d s) ⊎ (locks ≡ heldAt n rd d (suc s))
   intends s locks (inl e) i = inl (i ∙ e)
   intends s locks (inr e) i = inr (i ∙ e)
 
@@ -66,7 +72,8 @@ module _ (n : ℕ) (rd : Memory) (d : ℕ) where
   due-within s locks Finish o D b h = absurd D
   due-within s locks Unknown o D b h = absurd D
 
-  due-owned : (s locks : ℕ) (x : Op) → opAt n rd d s ≡ x → Due n rd d s locks x → (a : ℕ) (e : Expr) → opAt n rd d s ≡ Assign a e → rd (field Owned d) ≡ heldAt n rd d (suc s)
+  due-owned : (s locks : ℕ) (x : Op) → opAt n rd d s ≡ x → Due n rd d s locks x → (a : ℕ) (e : Expr) → opAt n rd d s ≡ Assign a e
+      → rd (field Owned d) ≡ heldAt n rd d (suc s)
   due-owned s locks (Acquire c) o D a e p = cc
   due-owned s locks (Release c) o D a e p = cc
   due-owned s locks (Assign c f) o D a e p = D .0 ∙ sym (after-assign (codeIn n rd d) s a e p)
@@ -88,7 +95,8 @@ module _ (n : ℕ) (rd : Memory) (d : ℕ) where
   near-within s t h locks Unknown N b l = absurd N
 
   pub busy-due : (s locks : ℕ) → Sectioned n rd d → Named n rd d s → Due n rd d s locks (opAt n rd d s) → Busy n rd d locks s
-  busy-due s locks S N D = record { sectioned = S; named = N; owned = due-owned s locks (opAt n rd d s) refl D; within = due-within s locks (opAt n rd d s) refl D }
+  busy-due s locks S N D =
+      record { sectioned = S; named = N; owned = due-owned s locks (opAt n rd d s) refl D; within = due-within s locks (opAt n rd d s) refl D }
 
   pub busy-between :
       (s k t locks : ℕ) → Sectioned n rd d → Named n rd d s → rd (field Owned d) ≡ heldAt n rd d k → heldAt n rd d k ≡ heldAt n rd d (suc s)
@@ -183,9 +191,11 @@ module _ (n D : ℕ) (rd : Memory) (cursor : ℕ → Cursor) (locks jumps : ℕ 
   misses-cell : (d e x : ℕ) → d < D → e < D → e ≢ d → x < 512 → has (locks d) (x / 8) ≡ true → misses (entryOf n rd e) (cell x)
   misses-cell d e x l m h lx p = by (ℕ-discrete (rd (field Pc e)) 0)
     where
-      apart : (s : ℕ) → Busy n rd e (locks e) s → (t : Bool) → same (cell x) (targetOf e (opAt n rd e s)) ≡ t → same (cell x) (targetOf e (opAt n rd e s)) ≡ false
+      apart : (s : ℕ) → Busy n rd e (locks e) s → (t : Bool) → same (cell x) (targetOf e (opAt n rd e s)) ≡ t
+          → same (cell x) (targetOf e (opAt n rd e s)) ≡ false
       apart s B true i =
-          let k : Guarded e (locks e) (cell x) = subst (Guarded e (locks e)) (sym (same-place (cell x) (targetOf e (opAt n rd e s)) i)) (target-guarded n rd e (locks e) s B) in
+          let k : Guarded e (locks e) (cell x) = subst (Guarded e (locks e)) (sym (same-place (cell x) (targetOf e (opAt n rd e s)) i))
+          (target-guarded n rd e (locks e) s B) in
           absurd (h (one-owner L (x / 8) e d (omega arith) m l (k .1) p))
       apart s B false i = i
 

@@ -68,7 +68,9 @@ module _ (mark n D : ℕ) (cells : List ℕ) (m : Image) (begun : List Given) (o
   recovered-reached left =
       reached-all mark n D cells m begun order left (plan n (at n m) (workers m)) (k .reached)
       (rw (recovery-at mark n m (k .reached .header) left)
-      (unseen-mirrors n D (at n m) _ (subst (λ (e : ℕ). Rattle.claims.proofs.Unseen.Unseen n e (at n m) (updAll (at n m) (take left (plan n (at n m) (workers m))))) (k .reached .many) (plan-unseen n (workers m) (at n m) crash left))
+      (unseen-mirrors n D (at n m) _
+      (subst (λ (e : ℕ). Rattle.claims.proofs.Unseen.Unseen n e (at n m) (updAll (at n m) (take left (plan n (at n m) (workers m)))))
+      (k .reached .many) (plan-unseen n (workers m) (at n m) crash left))
       (k .reached .state) (k .reached .mirrors)))
 
   -- a recovery cut anywhere leaves an image that the next accepts
@@ -76,18 +78,24 @@ module _ (mark n D : ℕ) (cells : List ℕ) (m : Image) (begun : List Given) (o
   recover-cut left =
       record {
         reached = recovered-reached left;
-        crashed = subst (λ (e : ℕ). Crashed n e (at n (putAll n left m (plan n (at n m) (workers m))))) (k .reached .many) (recovery-cut mark n m (k .reached .header) crash left);
+        crashed =
+            subst (λ (e : ℕ). Crashed n e (at n (putAll n left m (plan n (at n m) (workers m))))) (k .reached .many)
+            (recovery-cut mark n m (k .reached .header) crash left);
       }
 
   -- an uncut one leaves the world running
   pub recover-whole : (left : ℕ) → 592 ≤ left → (g : Trace) → g .begun ≡ begun → g .order ≡ order
-      → Running mark n D cells (traced (world (putAll n left m (plan n (at n m) (workers m))) (resumedAll n (at n m) (workers m)) (left - length (plan n (at n m) (workers m)))) (forgetful g))
+      → Running mark n D cells (traced
+      (world (putAll n left m (plan n (at n m) (workers m))) (resumedAll n (at n m) (workers m)) (left - length (plan n (at n m) (workers m))))
+      (forgetful g))
   recover-whole left l g b o =
       record {
         reached = rw (b, o) (recovered-reached left);
         full = resumed-full n (at n m) (workers m);
         locks = owed n (at n m);
-        live = subst (λ (e : ℕ). Live n e (at n (putAll n left m (plan n (at n m) (workers m)))) (cursorAt (resumedAll n (at n m) (workers m))) (owed n (at n m)) (λ d. 0) (g .last)) (k .reached .many) (recovery-whole mark n m (k .reached .header) crash left l (g .last));
+        live =
+            subst (λ (e : ℕ). Live n e (at n (putAll n left m (plan n (at n m) (workers m)))) (cursorAt (resumedAll n (at n m) (workers m))) (owed n (at n m))
+            (λ d. 0) (g .last)) (k .reached .many) (recovery-whole mark n m (k .reached .header) crash left l (g .last));
       }
 
 -- ---- submitting
@@ -120,7 +128,8 @@ taken-as mark n w d k ws e =
       passes = a .checked;
     }
 
-module _ (mark n D : ℕ) (cells : List ℕ) (w : Traced) (d k : ℕ) (args ws : List ℕ) (wide : 8 ≤ n) (full8 : length args ≡ 8) (r : Running mark n D cells w) (t : TakenAs mark n (w .world) d k ws) where
+module _ (mark n D : ℕ) (cells : List ℕ) (w : Traced) (d k : ℕ) (args ws : List ℕ) (wide : 8 ≤ n) (full8 : length args ≡ 8) (r : Running mark n D cells w)
+    (t : TakenAs mark n (w .world) d k ws) where
   abbrev m : Image
   m = w .world .image
 
@@ -136,7 +145,8 @@ module _ (mark n D : ℕ) (cells : List ℕ) (w : Traced) (d k : ℕ) (args ws :
   submitted-reached : (left : ℕ) → Reached mark n D cells (putAll n left m (submission n d k args ws)) (w .trace .begun) (w .trace .order)
   submitted-reached left =
       reached-all mark n D cells m (w .trace .begun) (w .trace .order) left (submission n d k args ws) (r .reached)
-      (rw (submitted-at left) (unseen-mirrors n D rd _ (submission-unseen n D d k args ws rd (t .count) (t .pc) left) (r .reached .state) (r .reached .mirrors)))
+      (rw (submitted-at left) (unseen-mirrors n D rd _ (submission-unseen n D d k args ws rd (t .count) (t .pc) left) (r .reached .state)
+      (r .reached .mirrors)))
 
   -- a submission cut anywhere leaves an image that a recovery accepts
   pub submit-cut : (left : ℕ) → Recoverable mark n D cells (putAll n left m (submission n d k args ws)) (w .trace .begun) (w .trace .order)
@@ -150,15 +160,20 @@ module _ (mark n D : ℕ) (cells : List ℕ) (w : Traced) (d k : ℕ) (args ws :
 
   -- an uncut one leaves the worker at its first turn
   pub submit-whole : (left : ℕ) → n + 66 ≤ left
-      → Running mark n D cells (traced (world (putAll n left m (submission n d k args ws)) (placed (w .world .cursors) d (on 0 0)) (left - length (submission n d k args ws))) (taking (w .trace) (given d k args ws)))
+      → Running mark n D cells (traced
+      (world (putAll n left m (submission n d k args ws)) (placed (w .world .cursors) d (on 0 0)) (left - length (submission n d k args ws)))
+      (taking (w .trace) (given d k args ws)))
   submit-whole left l =
       let few64 = check-parts n (length ws) (codeOf ws) (t .passes) .1 in
       let enough : length (submission n d k args ws) ≤ left = rw (submission-length n d k args ws full8 wide) (omega arith) in
       let e = submitted-at left ∙ ap (updAll rd) (take-all left (submission n d k args ws) enough) in
-      let L = submit-live n D rd (cursorAt (w .world .cursors)) (r .locks) (w .trace .jumps) (w .trace .last) d k args ws (r .live) dl (idle-is _ (t .idles)) wide full8 (t .passes) (t .numbered) in
+      let L = submit-live n D rd (cursorAt (w .world .cursors)) (r .locks) (w .trace .jumps) (w .trace .last) d k args ws (r .live) dl (idle-is _ (t .idles))
+      wide full8 (t .passes) (t .numbered) in
       record {
         reached = submitted-reached left;
         full = full-set (w .world .cursors) d 0 0 (r .full);
         locks = but (r .locks) d 0;
-        live = rw e (live-cursors n D (submittedTo n d k args ws rd) _ (cursorAt (placed (w .world .cursors) d (on 0 0))) _ _ _ (cursors-placed D (w .world .cursors) d (on 0 0) (r .full) (few mark n D cells w (r .reached)) dl (λ q. omega arith)) L);
+        live =
+            rw e (live-cursors n D (submittedTo n d k args ws rd) _ (cursorAt (placed (w .world .cursors) d (on 0 0))) _ _ _
+            (cursors-placed D (w .world .cursors) d (on 0 0) (r .full) (few mark n D cells w (r .reached)) dl (λ q. omega arith)) L);
       }

@@ -105,7 +105,8 @@ module _ (n D : ℕ) (rd : Memory) (cursor : ℕ → Cursor) (locks jumps : ℕ 
       → Mirrors n D (after n rd d k) (state (set (S .cells) a v) (set (S .queues) d (job (j .code) (suc (j .next)) (j .own) (j .held) ∷ [])))
   assign-cell a v t g e =
       let p = cell a in
-      mirror-set n D rd d (switched n rd d k) S (set (S .cells) a v) (job (j .code) (suc (j .next)) (j .own) (j .held) ∷ []) l M (length-set (S .cells) a v ∙ M .size)
+      mirror-set n D rd d (switched n rd d k) S (set (S .cells) a v) (job (j .code) (suc (j .next)) (j .own) (j .held) ∷ []) l M
+      (length-set (S .cells) a v ∙ M .size)
       (λ x y. by x y (ℕ-discrete x a))
       (λ f i. old p (field Owned f) t refl refl)
       (λ f x i. old p (own f x) t refl refl)
@@ -223,6 +224,7 @@ module _ (n D : ℕ) (rd : Memory) (cursor : ℕ → Cursor) (locks jumps : ℕ 
     counts-finish o = (
       state (S .cells) (set (S .queues) d []),
       advance-finish (onto S d j []) d j [] queue (code-at Finish o) ∙ reset (S .cells) [],
-      mirror-set n D rd d 0 S (S .cells) [] l M (M .size) (λ x y. M .cells x y ∙ sym (F (cell x) refl)) (λ f i. F (field Owned f) refl) (λ f x i. F (own f x) refl)
+      mirror-set n D rd d 0 S (S .cells) [] l M (M .size) (λ x y. M .cells x y ∙ sym (F (cell x) refl)) (λ f i. F (field Owned f) refl)
+          (λ f x i. F (own f x) refl)
           (λ z. refl) (λ z. absurd (z refl)),
     )

@@ -152,7 +152,8 @@ module _ (n : ℕ) (rd : Memory) (d : ℕ) where
   pub parts-sound : sectionOk n rd d ≡ true → pcOk n rd d ≡ true → Covered (owed n rd d) (rd (field Intent d)) → sound n rd d ≡ true
   unfolding sound
   parts-sound s p w =
-      and-both (sectionOk n rd d && pcOk n rd d) (covers (rd (field Intent d)) (owed n rd d) 64) (and-both (sectionOk n rd d) (pcOk n rd d) s p) (all-covers _ _ 64 w)
+      and-both (sectionOk n rd d && pcOk n rd d) (covers (rd (field Intent d)) (owed n rd d) 64) (and-both (sectionOk n rd d) (pcOk n rd d) s p)
+      (all-covers _ _ 64 w)
 
 -- ---- a memory that a recovery accepts, by its parts
 
@@ -196,7 +197,13 @@ module _ (n : ℕ) (rd : Memory) (D : ℕ) where
 -- ---- acceptance
 
 module _ (mark n : ℕ) (m : Image) where
-  pub crashed-accepted : headerOk mark n m ≡ true → Crashed n (workers m) (at n m) → recovery mark n m ≡ accepted (plan n (at n m) (workers m)) (resumedAll n (at n m) (workers m))
+  pub crashed-accepted : headerOk mark n m ≡ true → Crashed n (workers m) (at n m)
+      → recovery mark n m ≡ accepted (plan n (at n m) (workers m)) (resumedAll n (at n m) (workers m))
   unfolding recovery
   crashed-accepted h c =
-      rw (h, all-right n (at n m) (workers m) 0 64 (λ b l u. c .locks b (omega arith)), all-sound n (at n m) (workers m) 0 (workers m) (λ d l u. c .sounds d (omega arith)))
+      rw (
+        h,
+        all-right n (at n m) (workers m) 0 64 (λ b l u. c .locks b (omega arith)),
+        all-sound n (at n m) (workers m) 0 (workers m)
+            (λ d l u. c .sounds d (omega arith)),
+      )

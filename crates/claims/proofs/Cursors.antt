@@ -21,7 +21,8 @@ unfolding setAt
 full-set c d s t f = record { steps = length-set (c .step) d s ∙ f .steps; turns = length-set (c .turn) d t ∙ f .turns }
 
 -- the cursors after one was placed
-pub cursors-placed : (D : ℕ) (c : Cursors) (d : ℕ) (x : Cursor) → Full c → D ≤ 8 → d < D → sayable x → (e : ℕ) → e < D → but (cursorAt c) d x e ≡ cursorAt (placed c d x) e
+pub cursors-placed : (D : ℕ) (c : Cursors) (d : ℕ) (x : Cursor) → Full c → D ≤ 8 → d < D → sayable x → (e : ℕ) → e < D
+    → but (cursorAt c) d x e ≡ cursorAt (placed c d x) e
 cursors-placed D c d x f few dl s e el = by (ℕ-discrete e d)
   where
     by : Dec (e ≡ d) → but (cursorAt c) d x e ≡ cursorAt (placed c d x) e

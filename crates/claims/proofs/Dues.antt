@@ -37,12 +37,15 @@ use Rattle.claims.proofs.Entries.{named-logs}
 module _ (n : ℕ) (rd : Memory) (d : ℕ) (g : Given) (s locks : ℕ) (sec : Sectioned n rd d) (m : Named n rd d s) where
   -- step s is over in rd′
   over :
-      (rd′ : Memory) (x : Op) → KeepsNamed n rd rd′ d → rd′ (field Number d) ≡ rd (field Number d) → rd′ (field Finished d) ≤ rd′ (field Number d) → opAt n rd d s ≡ x → ends x ≡ false
+      (rd′ : Memory) (x : Op) → KeepsNamed n rd rd′ d → rd′ (field Number d) ≡ rd (field Number d) → rd′ (field Finished d) ≤ rd′ (field Number d)
+      → opAt n rd d s ≡ x → ends x ≡ false
       → rd′ (targetOf d x) ≡ rd (field (activeVal n rd d) d) → rd′ (field Owned d) ≡ heldAt n rd d (suc s) → Before n rd′ d g (suc s) 0
   over rd′ x k e f o i done w =
       record {
         sectioned = sectioned-kept n rd rd′ d k e f sec;
-        origin = after s (suc s) 0 (named-kept n rd rd′ d k s m) (ap (λ (y : Op). rd′ (targetOf d y)) (op-kept n rd rd′ d k s ∙ o) ∙ (done ∙ sym (value-kept n rd rd′ d k))) stay refl;
+        origin =
+            after s (suc s) 0 (named-kept n rd rd′ d k s m)
+            (ap (λ (y : Op). rd′ (targetOf d y)) (op-kept n rd rd′ d k s ∙ o) ∙ (done ∙ sym (value-kept n rd rd′ d k))) stay refl;
         below = rw (k .count) (step-behind n (rd (field Count d)) (codeIn n rd d) (sec .valid) s x (m .below) o i);
         owned = w ∙ sym (held-kept n rd rd′ d k (suc s));
       }
@@ -54,7 +57,8 @@ module _ (n : ℕ) (rd : Memory) (d : ℕ) (g : Given) (s locks : ℕ) (sec : Se
       let v = rd (field (activeVal n rd d) d) in
       let rd′ = upd rd (field Owned d) v in
       let done : rd′ (field Owned d) ≡ v = upd-same rd (field Owned d) v in
-      let b = over rd′ (Acquire a) (keeps-field n rd d v Owned refl refl refl refl refl refl) refl (sec .unfinished) o refl done (done ∙ named-logs n rd d s m (Acquire a) o) in
+      let b = over rd′ (Acquire a) (keeps-field n rd d v Owned refl refl refl refl refl refl) refl (sec .unfinished) o refl done
+      (done ∙ named-logs n rd d s m (Acquire a) o) in
       (locks, inRecord Owned v, rw (add-one s) (arrive n rd′ d g (suc s) 0 locks b (u .1) (u .2)))
 
   due-release : (a : ℕ) → opAt n rd d s ≡ Release a → Due n rd d s locks (Release a) → Stepped n rd d g locks 0 (opTurn n rd d s 3 (Release a))
@@ -67,7 +71,8 @@ module _ (n : ℕ) (rd : Memory) (d : ℕ) (g : Given) (s locks : ℕ) (sec : Se
       (locks, inRecord Owned v, unlocking s a locks sec′ (named-kept n rd rd′ d k s m) o w (either (u .0)) (u .1))
     where
       either :
-          ((rd (field Owned d) ≡ heldAt n rd d s) × (rd (field Intent d) ≡ heldAt n rd d s)) ⊎ ((rd (field Owned d) ≡ heldAt n rd d (suc s)) × (rd (field Intent d) ≡ heldAt n rd d (suc s)))
+          ((rd (field Owned d) ≡ heldAt n rd d s) × (rd (field Intent d) ≡ heldAt n rd d s)) ⊎
+          ((rd (field Owned d) ≡ heldAt n rd d (suc s)) × (rd (field Intent d) ≡ heldAt n rd d (suc s)))
           → (rd (field Intent d) ≡ heldAt n rd d s) ⊎ (rd (field Intent d) ≡ heldAt n rd d (suc s))
       either (inl x) = inl (x .1)
       either (inr x) = inr (x .1)
@@ -126,7 +131,8 @@ module _ (n : ℕ) (rd : Memory) (d : ℕ) (g : Given) (s locks : ℕ) (sec : Se
 
   -- ---- the lock and the intent of a release
 
-  module _ (a : ℕ) (o : opAt n rd d s ≡ Release a) (w : rd (field Owned d) ≡ heldAt n rd d (suc s)) (z : (rd (field Intent d) ≡ heldAt n rd d s) ⊎ (rd (field Intent d) ≡ heldAt n rd d (suc s))) where
+  module _ (a : ℕ) (o : opAt n rd d s ≡ Release a) (w : rd (field Owned d) ≡ heldAt n rd d (suc s))
+      (z : (rd (field Intent d) ≡ heldAt n rd d s) ⊎ (rd (field Intent d) ≡ heldAt n rd d (suc s))) where
     shrunk : heldAt n rd d (suc s) ≡ without (heldAt n rd d s) a
     shrunk = after-release (codeIn n rd d) s a o
 
@@ -152,19 +158,25 @@ module _ (n : ℕ) (rd : Memory) (d : ℕ) (g : Given) (s locks : ℕ) (sec : Se
         rd′ : Memory
         rd′ = upd rd (lock a) 0
 
-        lacks : ((rd (lock a) ≡ d + 1) → ⊥) → (rd (field Intent d) ≡ heldAt n rd d s) ⊎ (rd (field Intent d) ≡ heldAt n rd d (suc s)) → locks ≡ heldAt n rd d (suc s)
+        lacks : ((rd (lock a) ≡ d + 1) → ⊥) → (rd (field Intent d) ≡ heldAt n rd d s) ⊎ (rd (field Intent d) ≡ heldAt n rd d (suc s))
+            → locks ≡ heldAt n rd d (suc s)
         lacks f (inl i) = absurd (f (mine (rw (e ∙ i) (sec .valid .releases s a (m .below) o))))
         lacks f (inr i) = e ∙ i
 
         by : (q : Bool) → eqb (rd (lock a)) (d + 1) ≡ q → Stepped n rd d g locks 0 (cond q (stored (lock a) 0 (on s 5)) (unheld (on s 5)))
         by true q =
             let k = keeps-lock n rd d 0 a in
-            let sec′ = sectioned-kept n rd rd′ d k refl (sec .unfinished) sec in
-            (without locks a, frees a range (named (eqb-true _ _ q)), unlocked s a (without locks a) sec′ (named-kept n rd rd′ d k s m) o w z (rw e intent-without))
+            let sec′ = sectioned-kept n rd rd′ d k refl (sec .unfinished) sec in (
+              without locks a,
+              frees a range (named (eqb-true _ _ q)),
+              unlocked s a (without locks a) sec′ (named-kept n rd rd′ d k s m) o w z
+                  (rw e intent-without),
+            )
         by false q = unlocked s a locks sec m o w z (lacks (eqb-false _ _ q) z)
 
     pub unlocking-turn :
-        locks ≡ rd (field Intent d) → (has locks a ≡ true → rd (lock a) ≡ d + 1) → (rd (lock a) ≡ d + 1 → has locks a ≡ true) → Stepped n rd d g locks 0 (turnAt n rd d (on s 4))
+        locks ≡ rd (field Intent d) → (has locks a ≡ true → rd (lock a) ≡ d + 1) → (rd (lock a) ≡ d + 1 → has locks a ≡ true) → Stepped n rd d g locks 0
+        (turnAt n rd d (on s 4))
     unlocking-turn e mine named = rw (turn-op n rd d s 4 (Release a) (sec .valid) (m .below) o (omega arith)) (lock-op e mine named)
 
     intent-op : locks ≡ heldAt n rd d (suc s) → Stepped n rd d g locks 0 (opTurn n rd d s 5 (Release a))
@@ -181,7 +193,8 @@ module _ (n : ℕ) (rd : Memory) (d : ℕ) (g : Given) (s locks : ℕ) (sec : Se
 -- ---- the count of a finish
 
 pub ended-turn :
-    (n : ℕ) (rd : Memory) (d : ℕ) (g : Given) (s : ℕ) → Sectioned n rd d → rd (field Pc d) ≡ 0 → rd (field Owned d) ≡ 0 → rd (field Intent d) ≡ 0 → s < rd (field Count d) → opAt n rd d s ≡ Finish
+    (n : ℕ) (rd : Memory) (d : ℕ) (g : Given) (s : ℕ) → Sectioned n rd d → rd (field Pc d) ≡ 0 → rd (field Owned d) ≡ 0 → rd (field Intent d) ≡ 0
+    → s < rd (field Count d) → opAt n rd d s ≡ Finish
     → Stepped n rd d g 0 0 (turnAt n rd d (on s 2))
 ended-turn n rd d g s sec p w i l o =
     rw (turn-op n rd d s 2 Finish (sec .valid) l o (omega arith))

@@ -98,7 +98,8 @@ spare-val-apart n rd d f a b = by (second n rd d)
     by true = a
     by false = b
 
-pub spare-addr-apart : (n : ℕ) (rd : Memory) (d : ℕ) (f : Field) → sameField f Addr0 ≡ false → sameField f Addr1 ≡ false → sameField f (spareAddr n rd d) ≡ false
+pub spare-addr-apart : (n : ℕ) (rd : Memory) (d : ℕ) (f : Field) → sameField f Addr0 ≡ false → sameField f Addr1 ≡ false
+    → sameField f (spareAddr n rd d) ≡ false
 unfolding spareAddr
 spare-addr-apart n rd d f a b = by (second n rd d)
   where
@@ -157,7 +158,8 @@ pub named-pc : (n : ℕ) (rd : Memory) (d s : ℕ) → rd (field Pc d) % 2 ^ 63 
 named-pc n rd d s e z = let w : 0 % 2 ^ 63 ≡ suc s = rw z at e in omega arith
 
 -- the entry of a worker whose pc names step s
-pub entry-named : (n : ℕ) (rd : Memory) (d s : ℕ) → rd (field Pc d) % 2 ^ 63 ≡ suc s → entryOf n rd d ≡ due (targetOf d (opAt n rd d s)) (rd (field (activeVal n rd d) d))
+pub entry-named : (n : ℕ) (rd : Memory) (d s : ℕ) → rd (field Pc d) % 2 ^ 63 ≡ suc s
+    → entryOf n rd d ≡ due (targetOf d (opAt n rd d s)) (rd (field (activeVal n rd d) d))
 unfolding namedOp
 entry-named n rd d s e = entry-due n rd d (named-pc n rd d s e) ∙ rw (named-step n rd d s e)
 

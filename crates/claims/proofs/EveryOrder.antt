@@ -37,7 +37,8 @@ pub machine-append : (xs ys : List Move) → machine xs ≡ true → machine ys 
 unfolding machine
 machine-append [] ys p q = q
 machine-append (x ∷ xs) ys p q =
-    and-both (callable (ofMove x)) (machine (xs ++ ys)) (and-left (callable (ofMove x)) (machine xs) p) (machine-append xs ys (and-right (callable (ofMove x)) (machine xs) p) q)
+    and-both (callable (ofMove x)) (machine (xs ++ ys)) (and-left (callable (ofMove x)) (machine xs) p)
+    (machine-append xs ys (and-right (callable (ofMove x)) (machine xs) p) q)
 
 play-nil : (mark n : ℕ) (w : Traced) → play mark n [] w ≡ w
 unfolding play
@@ -165,10 +166,12 @@ no-map n [] e = refl
 no-map n (g ∷ gs) e = cc
 
 -- a worker with an empty queue is idle, and no section of it waits
-rest-idle : (mark n D : ℕ) (w : Traced) (s : State) (gs : ℕ → List Given) → Even mark n D w s gs → noneLeft (s .queues) ≡ true → (d : ℕ) → d < D → (cursorAt (w .world .cursors) d ≡ idle) × (gs d ≡ [])
+rest-idle : (mark n D : ℕ) (w : Traced) (s : State) (gs : ℕ → List Given) → Even mark n D w s gs → noneLeft (s .queues) ≡ true → (d : ℕ) → d < D
+    → (cursorAt (w .world .cursors) d ≡ idle) × (gs d ≡ [])
 rest-idle mark n D w s gs E e d l = by (E .level .stands d l)
   where
-    by : Stand n (at n (w .world .image)) d (cursorAt (w .world .cursors) d) (getD (s .queues) d []) (gs d) → (cursorAt (w .world .cursors) d ≡ idle) × (gs d ≡ [])
+    by : Stand n (at n (w .world .image)) d (cursorAt (w .world .cursors) d) (getD (s .queues) d []) (gs d)
+        → (cursorAt (w .world .cursors) d ≡ idle) × (gs d ≡ [])
     by (inl i) = (i .cursor, no-map n (gs d) (sym (none-left (s .queues) e d) ∙ i .queue))
     by (inr x) =
         let p : [] ≡ x .first ∷ map (start n) (gs d) = sym (none-left (s .queues) e d) ∙ x .queue in

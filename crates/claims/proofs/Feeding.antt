@@ -53,14 +53,17 @@ enqueue-at n s g d l more = by (ℕ-discrete d (g .worker))
     by (no e) =
         rw (ne-eqb (g .worker) d (λ i. e (sym i)), getD-set-other (s .queues) (g .worker) d (getD (s .queues) (g .worker) [] ++ (start n g ∷ [])) [] e)
 
-map-cond : (n d : ℕ) (g : Given) (gs : List Given) → map (start n) (ofWorker d (g ∷ gs)) ≡ cond (eqb (g .worker) d) (start n g ∷ map (start n) (ofWorker d gs)) (map (start n) (ofWorker d gs))
+map-cond : (n d : ℕ) (g : Given) (gs : List Given)
+    → map (start n) (ofWorker d (g ∷ gs)) ≡ cond (eqb (g .worker) d) (start n g ∷ map (start n) (ofWorker d gs)) (map (start n) (ofWorker d gs))
 map-cond n d g gs = by (eqb (g .worker) d)
   where
-    by : (b : Bool) → map (start n) (cond b (g ∷ ofWorker d gs) (ofWorker d gs)) ≡ cond b (start n g ∷ map (start n) (ofWorker d gs)) (map (start n) (ofWorker d gs))
+    by : (b : Bool)
+        → map (start n) (cond b (g ∷ ofWorker d gs) (ofWorker d gs)) ≡ cond b (start n g ∷ map (start n) (ofWorker d gs)) (map (start n) (ofWorker d gs))
     by true = refl
     by false = refl
 
-feed-at : (n : ℕ) (s : State) (gs : List Given) (d : ℕ) → d < length (s .queues) → getD (feed n s gs .queues) d [] ≡ getD (s .queues) d [] ++ map (start n) (ofWorker d gs)
+feed-at : (n : ℕ) (s : State) (gs : List Given) (d : ℕ) → d < length (s .queues)
+    → getD (feed n s gs .queues) d [] ≡ getD (s .queues) d [] ++ map (start n) (ofWorker d gs)
 unfolding feed
 feed-at n s [] d l = sym (append-nil (getD (s .queues) d []))
 feed-at n s (g ∷ gs) d l =
@@ -89,6 +92,8 @@ initial-same n D cells gs hs same =
     let k : d < D = rw (initial-length n D cells gs) at l in
     initial-at n D cells gs d k ∙ (ap (map (start n)) (same d k) ∙ sym (initial-at n D cells hs d k)))
     in
-    let at-first : initial n D cells gs ≡ state cells (initial n D cells gs .queues) = ap (λ (c : List ℕ). state c (initial n D cells gs .queues)) (initial-cells n D cells gs) in
-    let at-last : initial n D cells hs ≡ state cells (initial n D cells hs .queues) = ap (λ (c : List ℕ). state c (initial n D cells hs .queues)) (initial-cells n D cells hs) in
+    let at-first : initial n D cells gs ≡ state cells (initial n D cells gs .queues) = ap (λ (c : List ℕ). state c (initial n D cells gs .queues))
+    (initial-cells n D cells gs) in
+    let at-last : initial n D cells hs ≡ state cells (initial n D cells hs .queues) = ap (λ (c : List ℕ). state c (initial n D cells hs .queues))
+    (initial-cells n D cells hs) in
     at-first ∙ (ap (state cells) queues ∙ sym at-last)

@@ -41,11 +41,13 @@ module _ (rd : Memory) (d v : ℕ) where
   reads f x y true p q = rw p
   reads f x y false p q = rw q
 
-  crossed : (x y : Field) (b : Bool) → sameField x y ≡ false → sameField y x ≡ false → upd rd (field (cond b x y) d) v (field (cond b y x) d) ≡ rd (field (cond b y x) d)
+  crossed : (x y : Field) (b : Bool) → sameField x y ≡ false → sameField y x ≡ false
+      → upd rd (field (cond b x y) d) v (field (cond b y x) d) ≡ rd (field (cond b y x) d)
   crossed x y true p q = rw q
   crossed x y false p q = rw p
 
-  beside : (w x y z : Field) (b : Bool) → sameField w y ≡ false → sameField x z ≡ false → upd rd (field (cond b y z) d) v (field (cond b w x) d) ≡ rd (field (cond b w x) d)
+  beside : (w x y z : Field) (b : Bool) → sameField w y ≡ false → sameField x z ≡ false
+      → upd rd (field (cond b y z) d) v (field (cond b w x) d) ≡ rd (field (cond b w x) d)
   beside w x y z true p q = rw p
   beside w x y z false p q = rw q
 
@@ -86,7 +88,8 @@ module _ (n : ℕ) (rd rd′ : Memory) (d : ℕ) where
 module _ (n : ℕ) (rd : Memory) (d v : ℕ) where
   -- a single word that is neither count, pc nor of the log
   pub keeps-field :
-      (f : Field) → sameField Count f ≡ false → sameField Pc f ≡ false → sameField Addr0 f ≡ false → sameField Val0 f ≡ false → sameField Addr1 f ≡ false → sameField Val1 f ≡ false
+      (f : Field) → sameField Count f ≡ false → sameField Pc f ≡ false → sameField Addr0 f ≡ false → sameField Val0 f ≡ false → sameField Addr1 f ≡ false
+      → sameField Val1 f ≡ false
       → KeepsNamed n rd (upd rd (field f d) v) d
   unfolding activeAddr activeVal
   keeps-field f c p a0 v0 a1 v1 =
@@ -117,7 +120,8 @@ module _ (n : ℕ) (rd : Memory) (d v : ℕ) where
   quiet-lock a = record { keeps = keeps-lock a; owned = refl; number = refl; owns = λ i. refl; cells = λ x. refl }
 
   -- the two words of the spare entry, and a single word that is not of the log
-  pub spare-addr-other : (f : Field) → sameField f Addr0 ≡ false → sameField f Addr1 ≡ false → upd rd (field (spareAddr n rd d) d) v (field f d) ≡ rd (field f d)
+  pub spare-addr-other : (f : Field) → sameField f Addr0 ≡ false → sameField f Addr1 ≡ false
+      → upd rd (field (spareAddr n rd d) d) v (field f d) ≡ rd (field f d)
   unfolding spareAddr
   spare-addr-other f p q = wrote rd d v f Addr0 Addr1 (second n rd d) p q
 

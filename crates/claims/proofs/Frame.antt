@@ -28,7 +28,8 @@ use Rattle.plan.specs.Turn.{operand, codeIn, wordIn, spareAddr, spareVal, activ
 use Rattle.soundness.specs.Sound.{targetOf}
 use Rattle.repair.specs.Plan.{targetTurn}
 use Rattle.claims.specs.Reference.{Given}
-use Rattle.claims.proofs.Invariant.{opAt, heldAt, Sectioned, Nearing, Due, Jumps, stay, leap, Phase, resting, fresh, due, unlocking, unlocked, between, ended}
+use Rattle.claims.proofs.Invariant.{opAt, heldAt, Sectioned, Nearing, Due, Jumps, stay, leap, Phase, resting, fresh, due, unlocking, unlocked, between}
+use Rattle.claims.proofs.Invariant.{ended}
 use Rattle.claims.proofs.Sets.{Subset, within-refl, within-with, within-none}
 use Rattle.claims.proofs.Fields.{KeepsNamed, spare-addr-kept, spare-val-kept}
 use Rattle.claims.proofs.Origins.{op-kept, held-kept, value-kept, sectioned-kept, named-kept, entered-kept}
@@ -104,7 +105,8 @@ module _ (n : ℕ) (rd rd′ : Memory) (e locks : ℕ) (A : Agree rd rd′ e loc
   unfolding operand
   word-same h x w c = by (ltb x 512) refl (leb 512 x) refl
     where
-      by : (t : Bool) → ltb x 512 ≡ t → (u : Bool) → leb 512 x ≡ u → rd′ (cond (ltb x 512) (cell x) (own e (x - 512))) ≡ rd (cond (ltb x 512) (cell x) (own e (x - 512)))
+      by : (t : Bool) → ltb x 512 ≡ t → (u : Bool) → leb 512 x ≡ u
+          → rd′ (cond (ltb x 512) (cell x) (own e (x - 512))) ≡ rd (cond (ltb x 512) (cell x) (own e (x - 512)))
       by true t u v = rw t (A .cells x (borrow.Author.Tests.ltb-true x 512 t) (w (x / 8) (in-cell u v)))
         where
           in-cell : (u : Bool) → leb 512 x ≡ u → has h (x / 8) ≡ true
@@ -114,7 +116,8 @@ module _ (n : ℕ) (rd rd′ : Memory) (e locks : ℕ) (A : Agree rd rd′ e loc
 
   -- how far a step has come: the words that an assignment reads are covered by h, which is within the locks
   nearing-same :
-      (s t h : ℕ) (x : Op) → Subset h locks → ((a : ℕ) (z : Expr) → x ≡ Assign a z → (coveredIn h z ≡ true) × ranged n z) → Nearing n rd e s t h locks x → Nearing n rd′ e s t h locks x
+      (s t h : ℕ) (x : Op) → Subset h locks → ((a : ℕ) (z : Expr) → x ≡ Assign a z → (coveredIn h z ≡ true) × ranged n z) → Nearing n rd e s t h locks x →
+      Nearing n rd′ e s t h locks x
   nearing-same s t h (Acquire a) w c (p, i, l, u, v) = (p, A .fields Intent ∙ i, l, λ m. spareAddr-same ∙ u m, λ m. spareVal-same ∙ v m)
   nearing-same s t h (Release a) w c (p, i, l, u, v) = (p, A .fields Intent ∙ i, l, λ m. spareAddr-same ∙ u m, λ m. spareVal-same ∙ v m)
   nearing-same s t h (Assign a z) w c (p, i, l, u, v) = (
@@ -131,22 +134,32 @@ module _ (n : ℕ) (rd rd′ : Memory) (e locks : ℕ) (A : Agree rd rd′ e loc
   due-same : (s : ℕ) (x : Op) → Due n rd e s locks x → Due n rd′ e s locks x
   due-same s (Acquire a) (o, i, l) = (by o, A .fields Intent ∙ (i ∙ sym (held-kept n rd rd′ e keeps (suc s))), l ∙ sym (held-kept n rd rd′ e keeps (suc s)))
     where
-      by : (rd (field Owned e) ≡ heldAt n rd e s) ⊎ (rd (field Owned e) ≡ heldAt n rd e (suc s)) → (rd′ (field Owned e) ≡ heldAt n rd′ e s) ⊎ (rd′ (field Owned e) ≡ heldAt n rd′ e (suc s))
+      by : (rd (field Owned e) ≡ heldAt n rd e s) ⊎ (rd (field Owned e) ≡ heldAt n rd e (suc s))
+          → (rd′ (field Owned e) ≡ heldAt n rd′ e s) ⊎ (rd′ (field Owned e) ≡ heldAt n rd′ e (suc s))
       by (inl h) = inl (A .fields Owned ∙ (h ∙ sym (held-kept n rd rd′ e keeps s)))
       by (inr h) = inr (A .fields Owned ∙ (h ∙ sym (held-kept n rd rd′ e keeps (suc s))))
   due-same s (Release a) (o, l) = (by o, l ∙ sym (A .fields Intent))
     where
       by :
-          ((rd (field Owned e) ≡ heldAt n rd e s) × (rd (field Intent e) ≡ heldAt n rd e s)) ⊎ ((rd (field Owned e) ≡ heldAt n rd e (suc s)) × (rd (field Intent e) ≡ heldAt n rd e (suc s)))
-          → ((rd′ (field Owned e) ≡ heldAt n rd′ e s) × (rd′ (field Intent e) ≡ heldAt n rd′ e s)) ⊎ ((rd′ (field Owned e) ≡ heldAt n rd′ e (suc s)) × (rd′ (field Intent e) ≡ heldAt n rd′ e (suc s)))
+          ((rd (field Owned e) ≡ heldAt n rd e s) × (rd (field Intent e) ≡ heldAt n rd e s)) ⊎
+          ((rd (field Owned e) ≡ heldAt n rd e (suc s)) × (rd (field Intent e) ≡ heldAt n rd e (suc s)))
+          → ((rd′ (field Owned e) ≡ heldAt n rd′ e s) × (rd′ (field Intent e) ≡ heldAt n rd′ e s)) ⊎
+          ((rd′ (field Owned e) ≡ heldAt n rd′ e (suc s)) × (rd′ (field Intent e) ≡ heldAt n rd′ e (suc s)))
       by (inl h) = inl (A .fields Owned ∙ (h .0 ∙ sym (held-kept n rd rd′ e keeps s)), A .fields Intent ∙ (h .1 ∙ sym (held-kept n rd rd′ e keeps s)))
-      by (inr h) = inr (A .fields Owned ∙ (h .0 ∙ sym (held-kept n rd rd′ e keeps (suc s))), A .fields Intent ∙ (h .1 ∙ sym (held-kept n rd rd′ e keeps (suc s))))
-  due-same s (Assign a z) (o, i, l) = (A .fields Owned ∙ (o ∙ sym (held-kept n rd rd′ e keeps s)), A .fields Intent ∙ (i ∙ sym (held-kept n rd rd′ e keeps s)), l ∙ sym (held-kept n rd rd′ e keeps s))
+      by (inr h) =
+          inr (A .fields Owned ∙ (h .0 ∙ sym (held-kept n rd rd′ e keeps (suc s))), A .fields Intent ∙ (h .1 ∙ sym (held-kept n rd rd′ e keeps (suc s))))
+  due-same s (Assign a z) (o, i, l) = (
+    A .fields Owned ∙ (o ∙ sym (held-kept n rd rd′ e keeps s)),
+    A .fields Intent ∙ (i ∙ sym (held-kept n rd rd′ e keeps s)),
+    l ∙ sym
+        (held-kept n rd rd′ e keeps s),
+  )
   due-same s (Jump a b) h = h
   due-same s Finish h = h
   due-same s Unknown h = h
 
-  intent-same : (s : ℕ) → (rd (field Intent e) ≡ heldAt n rd e s) ⊎ (rd (field Intent e) ≡ heldAt n rd e (suc s)) → (rd′ (field Intent e) ≡ heldAt n rd′ e s) ⊎ (rd′ (field Intent e) ≡ heldAt n rd′ e (suc s))
+  intent-same : (s : ℕ) → (rd (field Intent e) ≡ heldAt n rd e s) ⊎ (rd (field Intent e) ≡ heldAt n rd e (suc s))
+      → (rd′ (field Intent e) ≡ heldAt n rd′ e s) ⊎ (rd′ (field Intent e) ≡ heldAt n rd′ e (suc s))
   intent-same s (inl h) = inl (A .fields Intent ∙ (h ∙ sym (held-kept n rd rd′ e keeps s)))
   intent-same s (inr h) = inr (A .fields Intent ∙ (h ∙ sym (held-kept n rd rd′ e keeps (suc s))))
 
@@ -158,7 +171,8 @@ module _ (n : ℕ) (rd rd′ : Memory) (e locks : ℕ) (A : Agree rd rd′ e loc
       (leap jj kk a b (jumps-same i jj kk v w js) (rw (A .fields Count) l) (op-kept n rd rd′ e keeps kk ∙ o))
 
   -- a target that stands on a word covered by h
-  target-same : (h s : ℕ) → Subset h locks → ((a : ℕ) (z : Expr) → opAt n rd e s ≡ Assign a z → covered h a ≡ true) → rd′ (targetOf e (opAt n rd e s)) ≡ rd (targetOf e (opAt n rd e s))
+  target-same : (h s : ℕ) → Subset h locks → ((a : ℕ) (z : Expr) → opAt n rd e s ≡ Assign a z → covered h a ≡ true)
+      → rd′ (targetOf e (opAt n rd e s)) ≡ rd (targetOf e (opAt n rd e s))
   target-same h s w c = by (opAt n rd e s) refl
     where
       by : (x : Op) → opAt n rd e s ≡ x → rd′ (targetOf e x) ≡ rd (targetOf e x)
@@ -170,23 +184,32 @@ module _ (n : ℕ) (rd rd′ : Memory) (e locks : ℕ) (A : Agree rd rd′ e loc
       by Unknown o = A .fields Owned
 
 -- a worker stands in a memory as in one that agrees with it
-pub phase-same : (n : ℕ) (rd rd′ : Memory) (e : ℕ) (g : Given) (c : Cursor) (locks j : ℕ) → Phase n rd e g c locks j → Agree rd rd′ e locks → Phase n rd′ e g c locks j
+pub phase-same : (n : ℕ) (rd rd′ : Memory) (e : ℕ) (g : Given) (c : Cursor) (locks j : ℕ) → Phase n rd e g c locks j → Agree rd rd′ e locks
+    → Phase n rd′ e g c locks j
 phase-same n rd rd′ e g c locks j (resting k p i o) A = resting (A .fields Count ∙ k) (A .fields Pc ∙ p) (A .fields Intent ∙ i) (A .fields Owned ∙ o)
 phase-same n rd rd′ e g c locks j (fresh t l s h p o m) A =
     let m′ =
     nearing-same n rd rd′ e l A 0 t 0 (opAt n rd e 0) (within-none l)
-    (λ a z q. (subst (λ (h : ℕ). coveredIn h z ≡ true) (held-zero (codeIn n rd e)) (s .valid .operands 0 a z (some-steps (s .valid)) q), expr-range n (codeIn n rd e 0) a z (s .valid .ranges 0 (some-steps (s .valid))) q)) m
+    (λ a z q. (
+      subst (λ (h : ℕ). coveredIn h z ≡ true) (held-zero (codeIn n rd e)) (s .valid .operands 0 a z (some-steps (s .valid)) q),
+      expr-range n
+          (codeIn n rd e 0) a z (s .valid .ranges 0 (some-steps (s .valid))) q,
+    )) m
     in
-    fresh t l (sectioned-same n rd rd′ e l A s) (entered-kept n rd rd′ e (keeps n rd rd′ e l A) (A .owns) (A .fields Number) g h) (A .fields Pc ∙ p) (A .fields Owned ∙ o)
+    fresh t l (sectioned-same n rd rd′ e l A s) (entered-kept n rd rd′ e (keeps n rd rd′ e l A) (A .owns) (A .fields Number) g h) (A .fields Pc ∙ p)
+    (A .fields Owned ∙ o)
     (subst (Nearing n rd′ e 0 t 0 l) (sym (op-kept n rd rd′ e (keeps n rd rd′ e l A) 0)) m′)
 phase-same n rd rd′ e g c locks j (due s l k m q) A =
     subst (λ (x : Op). Phase n rd′ e g (on s (targetTurn x)) l 0) (op-kept n rd rd′ e (keeps n rd rd′ e l A) s)
-    (due s l (sectioned-same n rd rd′ e l A k) (named-kept n rd rd′ e (keeps n rd rd′ e l A) s m) (subst (Due n rd′ e s l) (sym (op-kept n rd rd′ e (keeps n rd rd′ e l A) s)) (due-same n rd rd′ e l A s (opAt n rd e s) q)))
+    (due s l (sectioned-same n rd rd′ e l A k) (named-kept n rd rd′ e (keeps n rd rd′ e l A) s m)
+    (subst (Due n rd′ e s l) (sym (op-kept n rd rd′ e (keeps n rd rd′ e l A) s)) (due-same n rd rd′ e l A s (opAt n rd e s) q)))
 phase-same n rd rd′ e g c locks j (unlocking s a l k m o w i q) A =
-    unlocking s a l (sectioned-same n rd rd′ e l A k) (named-kept n rd rd′ e (keeps n rd rd′ e l A) s m) (op-kept n rd rd′ e (keeps n rd rd′ e l A) s ∙ o) (A .fields Owned ∙ (w ∙ sym (held-kept n rd rd′ e (keeps n rd rd′ e l A) (suc s))))
+    unlocking s a l (sectioned-same n rd rd′ e l A k) (named-kept n rd rd′ e (keeps n rd rd′ e l A) s m) (op-kept n rd rd′ e (keeps n rd rd′ e l A) s ∙ o)
+    (A .fields Owned ∙ (w ∙ sym (held-kept n rd rd′ e (keeps n rd rd′ e l A) (suc s))))
     (intent-same n rd rd′ e l A s i) (q ∙ sym (A .fields Intent))
 phase-same n rd rd′ e g c locks j (unlocked s a l k m o w i q) A =
-    unlocked s a l (sectioned-same n rd rd′ e l A k) (named-kept n rd rd′ e (keeps n rd rd′ e l A) s m) (op-kept n rd rd′ e (keeps n rd rd′ e l A) s ∙ o) (A .fields Owned ∙ (w ∙ sym (held-kept n rd rd′ e (keeps n rd rd′ e l A) (suc s))))
+    unlocked s a l (sectioned-same n rd rd′ e l A k) (named-kept n rd rd′ e (keeps n rd rd′ e l A) s m) (op-kept n rd rd′ e (keeps n rd rd′ e l A) s ∙ o)
+    (A .fields Owned ∙ (w ∙ sym (held-kept n rd rd′ e (keeps n rd rd′ e l A) (suc s))))
     (intent-same n rd rd′ e l A s i) (q ∙ sym (held-kept n rd rd′ e (keeps n rd rd′ e l A) (suc s)))
 phase-same n rd rd′ e g c locks j (between s k t l jj q m f u z o h y) A =
     let w = nearing-within n rd e k t (heldAt n rd e k) l (opAt n rd e k) y in
@@ -195,7 +218,8 @@ phase-same n rd rd′ e g c locks j (between s k t l jj q m f u z o h y) A =
     (λ a x p. subst (λ (g : ℕ). covered g a ≡ true) (sym (h ∙ after-assign (codeIn n rd e) s a x p)) (q .valid .targets s a x (m .below) p))
     in
     let y′ =
-    nearing-same n rd rd′ e l A k t (heldAt n rd e k) (opAt n rd e k) w (λ a x p. (q .valid .operands k a x z p, expr-range n (codeIn n rd e k) a x (q .valid .ranges k z) p)) y
+    nearing-same n rd rd′ e l A k t (heldAt n rd e k) (opAt n rd e k) w
+    (λ a x p. (q .valid .operands k a x z p, expr-range n (codeIn n rd e k) a x (q .valid .ranges k z) p)) y
     in
     between s k t l jj (sectioned-same n rd rd′ e l A q) (named-kept n rd rd′ e (keeps n rd rd′ e l A) s m)
     (rw (op-kept n rd rd′ e (keeps n rd rd′ e l A) s) (f′ ∙ (f ∙ sym (value-kept n rd rd′ e (keeps n rd rd′ e l A)))))
@@ -203,6 +227,8 @@ phase-same n rd rd′ e g c locks j (between s k t l jj q m f u z o h y) A =
     (rw (A .fields Count) z)
     (A .fields Owned ∙ (o ∙ sym (held-kept n rd rd′ e (keeps n rd rd′ e l A) k)))
     (held-kept n rd rd′ e (keeps n rd rd′ e l A) k ∙ (h ∙ sym (held-kept n rd rd′ e (keeps n rd rd′ e l A) (suc s))))
-    (subst (Nearing n rd′ e k t (heldAt n rd′ e k) l) (sym (op-kept n rd rd′ e (keeps n rd rd′ e l A) k)) (subst (λ (x : ℕ). Nearing n rd′ e k t x l (opAt n rd e k)) (sym (held-kept n rd rd′ e (keeps n rd rd′ e l A) k)) y′))
+    (subst (Nearing n rd′ e k t (heldAt n rd′ e k) l) (sym (op-kept n rd rd′ e (keeps n rd rd′ e l A) k))
+    (subst (λ (x : ℕ). Nearing n rd′ e k t x l (opAt n rd e k)) (sym (held-kept n rd rd′ e (keeps n rd rd′ e l A) k)) y′))
 phase-same n rd rd′ e g c locks j (ended s k p o i b q) A =
-    ended s (sectioned-same n rd rd′ e 0 A k) (A .fields Pc ∙ p) (A .fields Owned ∙ o) (A .fields Intent ∙ i) (rw (A .fields Count) b) (op-kept n rd rd′ e (keeps n rd rd′ e 0 A) s ∙ q)
+    ended s (sectioned-same n rd rd′ e 0 A k) (A .fields Pc ∙ p) (A .fields Owned ∙ o) (A .fields Intent ∙ i) (rw (A .fields Count) b)
+    (op-kept n rd rd′ e (keeps n rd rd′ e 0 A) s ∙ q)

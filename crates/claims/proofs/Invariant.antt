@@ -80,7 +80,8 @@ module _ (n : ℕ) (rd : Memory) (d : ℕ) where
 
   -- what is owned, intended and locked while step s's target store is due: by the instruction
   abbrev pub Due : ℕ → ℕ → Op → Type 0
-  Due s locks (Acquire a) = ((rd (field Owned d) ≡ heldAt s) ⊎ (rd (field Owned d) ≡ heldAt (suc s))) × (rd (field Intent d) ≡ heldAt (suc s)) × (locks ≡ heldAt (suc s))
+  Due s locks (Acquire a) = ((rd (field Owned d) ≡ heldAt s) ⊎ (rd (field Owned d) ≡ heldAt (suc s))) × (rd (field Intent d) ≡ heldAt (suc s)) ×
+      (locks ≡ heldAt (suc s))
   Due s locks (Release a) =
       (((rd (field Owned d) ≡ heldAt s) × (rd (field Intent d) ≡ heldAt s)) ⊎ ((rd (field Owned d) ≡ heldAt (suc s)) × (rd (field Intent d) ≡ heldAt (suc s))))
       × (locks ≡ rd (field Intent d))
@@ -124,7 +125,8 @@ module _ (n : ℕ) (rd : Memory) (d : ℕ) where
         (s k t locks j : ℕ) → Sectioned → Named s → rd (targetOf d (opAt s)) ≡ rd (field (activeVal n rd d) d) → Jumps (suc s) j k → k < rd (field Count d)
         → rd (field Owned d) ≡ heldAt k → heldAt k ≡ heldAt (suc s) → Nearing k t (heldAt k) locks (opAt k) → Phase g (on k t) locks j
     -- a finish whose pc is stored: its count is next
-    ended : (s : ℕ) → Sectioned → rd (field Pc d) ≡ 0 → rd (field Owned d) ≡ 0 → rd (field Intent d) ≡ 0 → s < rd (field Count d) → opAt s ≡ Finish → Phase g (on s 2) 0 0
+    ended : (s : ℕ) → Sectioned → rd (field Pc d) ≡ 0 → rd (field Owned d) ≡ 0 → rd (field Intent d) ≡ 0 → s < rd (field Count d) → opAt s ≡ Finish
+        → Phase g (on s 2) 0 0
 
 -- between calls, with the cursors known
 pub record Live (n D : ℕ) (rd : Memory) (cursor : ℕ → Cursor) (locks : ℕ → ℕ) (jumps : ℕ → ℕ) (given : ℕ → Given) : Type 0 where

@@ -29,7 +29,8 @@ standing S d c o h k = onto S d (job c k o h) []
 module _ (n : ℕ) (rd : Memory) (d : ℕ) (val : Valid n (rd (field Count d)) (codeIn n rd d)) (i : ℕ) where
   module _ (S : State) (c o : List ℕ) (h : ℕ) (room : d < length (S .queues)) (code : (x : ℕ) → x < rd (field Count d) → getD c x 0 ≡ rd (step d x))
       (reads : (x : ℕ) → covered (heldAt n rd d i) x ≡ true → x < 512 + n → readIn (S .cells) o x ≡ wordIn n rd d x) where
-    jump-once : (k a b : ℕ) → heldAt n rd d k ≡ heldAt n rd d i → k < rd (field Count d) → opAt n rd d k ≡ Jump a b → advance (standing S d c o h k) d ≡ some (standing S d c o h (cond (eqb (wordIn n rd d a) 0) b (suc k)))
+    jump-once : (k a b : ℕ) → heldAt n rd d k ≡ heldAt n rd d i → k < rd (field Count d) → opAt n rd d k ≡ Jump a b
+        → advance (standing S d c o h k) d ≡ some (standing S d c o h (cond (eqb (wordIn n rd d a) 0) b (suc k)))
     jump-once k a b e l p =
         let q : readIn (S .cells) o a ≡ wordIn n rd d a = reads a (rw (← e) (val .tests k a b l p)) (jump-range n (codeIn n rd d k) a b (val .ranges k l) p) in
         advance-jump (standing S d c o h k) d (job c k o h) [] (getD-set-same (S .queues) d (job c k o h ∷ []) [] room) a b (ap opOf (code k l) ∙ p)
@@ -38,4 +39,5 @@ module _ (n : ℕ) (rd : Memory) (d : ℕ) (val : Valid n (rd (field Count d)) (
     pub jumps-follow : {j k : ℕ} → Jumps n rd d i j k → follow (standing S d c o h i) (replicate j d) ≡ some (standing S d c o h k)
     jumps-follow stay = follow-none (standing S d c o h i)
     jumps-follow (leap j k a b J l p) =
-        follow-last (standing S d c o h i) (standing S d c o h k) (standing S d c o h (cond (eqb (wordIn n rd d a) 0) b (suc k))) j d (jumps-follow J) (jump-once k a b (jumps-held n rd d i j k val J) l p)
+        follow-last (standing S d c o h i) (standing S d c o h k) (standing S d c o h (cond (eqb (wordIn n rd d a) 0) b (suc k))) j d (jumps-follow J)
+        (jump-once k a b (jumps-held n rd d i j k val J) l p)

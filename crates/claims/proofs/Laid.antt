@@ -23,19 +23,22 @@ use Rattle.claims.proofs.StoreRows.{updAll-append}
 -- ---- a row of stores
 
 -- a place that is none of the row's from i on
-pub assigns-other : (rd : Memory) (f : ℕ → Place) (i : ℕ) (vs : List ℕ) (q : Place) → ((j : ℕ) → i ≤ j → same q (f j) ≡ false) → updAll rd (assigns f i vs) q ≡ rd q
+pub assigns-other : (rd : Memory) (f : ℕ → Place) (i : ℕ) (vs : List ℕ) (q : Place) → ((j : ℕ) → i ≤ j → same q (f j) ≡ false)
+    → updAll rd (assigns f i vs) q ≡ rd q
 unfolding assigns updAll
 assigns-other rd f i [] q h = refl
 assigns-other rd f i (v ∷ vs) q h = assigns-other (upd rd (f i) v) f (i + 1) vs q (λ j l. h j (omega arith)) ∙ rw (h i (omega arith))
 
 -- a place of the row
 pub assigns-at :
-    (rd : Memory) (f : ℕ → Place) → ((a b : ℕ) → a ≢ b → same (f a) (f b) ≡ false) → (i : ℕ) (vs : List ℕ) (x : ℕ) → i ≤ x → x < i + length vs → updAll rd (assigns f i vs) (f x) ≡ getD vs (x - i) 0
+    (rd : Memory) (f : ℕ → Place) → ((a b : ℕ) → a ≢ b → same (f a) (f b) ≡ false) → (i : ℕ) (vs : List ℕ) (x : ℕ) → i ≤ x → x < i + length vs
+    → updAll rd (assigns f i vs) (f x) ≡ getD vs (x - i) 0
 unfolding assigns updAll
 assigns-at rd f apart i [] x l u = absurd (omega arith)
 assigns-at rd f apart i (v ∷ vs) x l u = by (λ h. assigns-at (upd rd (f i) v) f apart (i + 1) vs x h (omega arith)) (ℕ-discrete x i)
   where
-    by : (i + 1 ≤ x → updAll (upd rd (f i) v) (assigns f (i + 1) vs) (f x) ≡ getD vs (x - (i + 1)) 0) → Dec (x ≡ i) → updAll (upd rd (f i) v) (assigns f (i + 1) vs) (f x) ≡ getD (v ∷ vs) (x - i) 0
+    by : (i + 1 ≤ x → updAll (upd rd (f i) v) (assigns f (i + 1) vs) (f x) ≡ getD vs (x - (i + 1)) 0) → Dec (x ≡ i)
+        → updAll (upd rd (f i) v) (assigns f (i + 1) vs) (f x) ≡ getD (v ∷ vs) (x - i) 0
     by more (yes p) =
         let e : x - i ≡ 0 = omega arith in
         rw (e, p) (assigns-other (upd rd (f i) v) f (i + 1) vs (f i) (λ j h. apart i j (λ q. omega arith)) ∙ upd-same rd (f i) v)
@@ -88,7 +91,8 @@ module _ (n : ℕ) (rd : Memory) (d k : ℕ) (args ws : List ℕ) where
   unfolding submission
   parts =
       updAll-cons rd _ _
-      ∙ (updAll-append numbered (assigns (own d) 0 (filled n args)) _ ∙ (updAll-append owning (assigns (step d) 0 ws) _ ∙ (updAll-cons coded _ [] ∙ updAll-nil _)))
+      ∙ (updAll-append numbered (assigns (own d) 0 (filled n args)) _ ∙
+      (updAll-append owning (assigns (step d) 0 ws) _ ∙ (updAll-cons coded _ [] ∙ updAll-nil _)))
 
   -- neither an own word nor an instruction of worker d
   rows-other : (q : Place) → ((i : ℕ) → same q (own d i) ≡ false) → ((i : ℕ) → same q (step d i) ≡ false) → coded q ≡ numbered q
@@ -104,7 +108,9 @@ module _ (n : ℕ) (rd : Memory) (d k : ℕ) (args ws : List ℕ) where
             assigns-other owning (step d) 0 ws (own d i) (λ j h. refl)
             ∙ (assigns-at numbered (own d) (own-apart d) 0 (filled n args) i (omega arith) (omega arith) ∙ (let e : i - 0 ≡ i = omega arith in rw e));
         code-words = λ i l. assigns-at owning (step d) (step-apart d) 0 ws i (omega arith) (omega arith) ∙ (let e : i - 0 ≡ i = omega arith in rw e);
-        fields = λ e h f. rw (ne-eqb e d h, and-false (sameField f Count)) (rows-other (field f e) (λ i. refl) (λ i. refl) ∙ rw (ne-eqb e d h, and-false (sameField f Number)));
+        fields =
+            λ e h f. rw (ne-eqb e d h, and-false (sameField f Count))
+            (rows-other (field f e) (λ i. refl) (λ i. refl) ∙ rw (ne-eqb e d h, and-false (sameField f Number)));
         owns = λ e h i. rows-other (own e i) (λ j. rw (ne-eqb e d h)) (λ j. refl);
         steps = λ e h i. rows-other (step e i) (λ j. refl) (λ j. rw (ne-eqb e d h));
         cells = λ x. rows-other (cell x) (λ i. refl) (λ i. refl);

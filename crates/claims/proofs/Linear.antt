@@ -25,7 +25,8 @@ use Rattle.working.proofs.Placed.{placed-same, placed-other}
 use Rattle.working.proofs.Placed.{idle-is}
 use Rattle.claims.specs.Reference.{Given, given, initial}
 use Rattle.claims.specs.Events.{but}
-use Rattle.claims.specs.Calls.{Traced, traced, turnBy, turnedAt, ranBy, submitTrace, Call, submits, turns, runs, recovers, Move, whole, cut, call, lent, move, play, from, recovering, plain, callable, machine}
+use Rattle.claims.specs.Calls.{Traced, traced, turnBy, turnedAt, ranBy, submitTrace, Call, submits, turns, runs, recovers, Move, whole, cut, call, lent}
+use Rattle.claims.specs.Calls.{move, play, from, recovering, plain, callable, machine}
 use Rattle.claims.specs.Claims.{Idle, Linearizable, after}
 use Rattle.claims.proofs.LiveTurn.{but-same, but-other}
 use Rattle.claims.proofs.Progress.{isMoving}
@@ -47,21 +48,24 @@ use Rattle.claims.proofs.Moves.{args-full}
 
 -- its own: nothing was pending, and now it is
 paired-taken :
-    (e : ℕ) (taken begun : List Given) (pc : ℕ) (c c′ : Cursor) (g x : Given) → PairedAt e taken begun pc c g → pend pc c ≡ false → pend pc c′ ≡ true → x .worker ≡ e
+    (e : ℕ) (taken begun : List Given) (pc : ℕ) (c c′ : Cursor) (g x : Given) → PairedAt e taken begun pc c g → pend pc c ≡ false → pend pc c′ ≡ true
+    → x .worker ≡ e
     → PairedAt e (taken ++ (x ∷ [])) begun pc c′ x
 unfolding PairedAt
 paired-taken e taken begun pc c c′ g x y none one own =
     let z = paired-none e taken begun pc c g y none in
     rw (of-snoc-same e taken x own, z, one)
 
-paired-aside : (e : ℕ) (taken begun : List Given) (pc : ℕ) (c : Cursor) (g x : Given) → x .worker ≢ e → PairedAt e taken begun pc c g → PairedAt e (taken ++ (x ∷ [])) begun pc c g
+paired-aside : (e : ℕ) (taken begun : List Given) (pc : ℕ) (c : Cursor) (g x : Given) → x .worker ≢ e → PairedAt e taken begun pc c g
+    → PairedAt e (taken ++ (x ∷ [])) begun pc c g
 unfolding PairedAt
 paired-aside e taken begun pc c g x i y = rw (of-snoc-other e taken x i) y
 
 module _ (mark n D : ℕ) (cells : List ℕ) where
   -- ---- a submit
 
-  module _ (w : Traced) (d k : ℕ) (args ws : List ℕ) (wide : 8 ≤ n) (full8 : length args ≡ 8) (r : Running mark n D cells w) (t : TakenAs mark n (w .world) d k ws)
+  module _ (w : Traced) (d k : ℕ) (args ws : List ℕ) (wide : 8 ≤ n) (full8 : length args ≡ 8) (r : Running mark n D cells w)
+      (t : TakenAs mark n (w .world) d k ws)
       (paired : Paired mark n D cells w) (left : ℕ) where
     abbrev m : Image
     m = w .world .image
@@ -81,36 +85,44 @@ module _ (mark n D : ℕ) (cells : List ℕ) where
         let l : d < D = subst (λ (e : ℕ). d < e) (r .reached .many) (t .below) in
         let c = cursorAt (w .world .cursors) d in
         let none : pend (at n m (field Pc d)) c ≡ false = rw (idle-is c (t .idles)) (pend-idle (at n m (field Pc d))) in
-        paired-taken d (w .trace .taken) (w .trace .begun) (at n m (field Pc d)) c (on 0 0) (w .trace .last d) x (paired d l) none (pend-start (at n m (field Pc d)) 0 (t .pc)) refl
+        paired-taken d (w .trace .taken) (w .trace .begun) (at n m (field Pc d)) c (on 0 0) (w .trace .last d) x (paired d l) none
+        (pend-start (at n m (field Pc d)) 0 (t .pc)) refl
 
     submit-paired :
         (e : ℕ) → e < D
-        → PairedAt e (w .trace .taken ++ (x ∷ [])) (w .trace .begun) (at n (putAll n left m (submission n d k args ws)) (field Pc e)) (cursorAt (placed (w .world .cursors) d (on 0 0)) e) (but (w .trace .last) d x e)
+        → PairedAt e (w .trace .taken ++ (x ∷ [])) (w .trace .begun) (at n (putAll n left m (submission n d k args ws)) (field Pc e))
+        (cursorAt (placed (w .world .cursors) d (on 0 0)) e) (but (w .trace .last) d x e)
     submit-paired e l = by (ℕ-discrete e d)
       where
         by : Dec (e ≡ d)
-            → PairedAt e (w .trace .taken ++ (x ∷ [])) (w .trace .begun) (at n (putAll n left m (submission n d k args ws)) (field Pc e)) (cursorAt (placed (w .world .cursors) d (on 0 0)) e) (but (w .trace .last) d x e)
+            → PairedAt e (w .trace .taken ++ (x ∷ [])) (w .trace .begun) (at n (putAll n left m (submission n d k args ws)) (field Pc e))
+            (cursorAt (placed (w .world .cursors) d (on 0 0)) e) (but (w .trace .last) d x e)
         by (yes i) =
             let q = few mark n D cells w (r .reached) in
             let dl : d < D = rw i at l in
-            let now : on 0 0 ≡ cursorAt (placed (w .world .cursors) d (on 0 0)) d = sym (placed-same (w .world .cursors) d (on 0 0) (r .full) (omega arith) (λ z. omega arith)) in
+            let now : on 0 0 ≡ cursorAt (placed (w .world .cursors) d (on 0 0)) d = sym
+            (placed-same (w .world .cursors) d (on 0 0) (r .full) (omega arith) (λ z. omega arith)) in
             rw (i, but-same (w .trace .last) d x) (paired-as d _ _ _ _ _ _ _ taken-own (submitted-pcs d dl) now)
         by (no i) =
             rw (but-other (w .trace .last) d x e i)
-            (paired-as e _ _ _ _ _ _ _ (paired-aside e (w .trace .taken) (w .trace .begun) _ _ _ x (λ z. i (sym z)) (paired e l)) (submitted-pcs e l) (sym (placed-other (w .world .cursors) d e (on 0 0) i)))
+            (paired-as e _ _ _ _ _ _ _ (paired-aside e (w .trace .taken) (w .trace .begun) _ _ _ x (λ z. i (sym z)) (paired e l)) (submitted-pcs e l)
+            (sym (placed-other (w .world .cursors) d e (on 0 0) i)))
 
   submit-call :
       (w : Traced) (d k : ℕ) (args ws : List ℕ) → 8 ≤ n → length args ≡ 8 → Running mark n D cells w → Paired mark n D cells w
-      → Paired mark n D cells (traced (submitLeaves n (w .world) d k args ws (submitAnswer mark n (w .world) d k ws)) (submitTrace mark n (w .trace) (given d k args ws) (submitAnswer mark n (w .world) d k ws)))
+      → Paired mark n D cells (traced (submitLeaves n (w .world) d k args ws (submitAnswer mark n (w .world) d k ws))
+      (submitTrace mark n (w .trace) (given d k args ws) (submitAnswer mark n (w .world) d k ws)))
   submit-call w d k args ws wide full r paired = by (submitAnswer mark n (w .world) d k ws) refl
     where
-      by : (a : Submitted) → submitAnswer mark n (w .world) d k ws ≡ a → Paired mark n D cells (traced (submitLeaves n (w .world) d k args ws a) (submitTrace mark n (w .trace) (given d k args ws) a))
+      by : (a : Submitted) → submitAnswer mark n (w .world) d k ws ≡ a
+          → Paired mark n D cells (traced (submitLeaves n (w .world) d k args ws a) (submitTrace mark n (w .trace) (given d k args ws) a))
       by Taken e = submit-paired w d k args ws wide full r (taken-as mark n (w .world) d k ws e) paired (w .world .left)
       by (Refused q) e = paired
 
   -- ---- a turn
 
-  turn-call : (w : Traced) (d : ℕ) → Running mark n D cells w → 0 < w .world .left → Paired mark n D cells w → Paired mark n D cells (turnBy mark n w d (outcome mark n (w .world) d))
+  turn-call : (w : Traced) (d : ℕ) → Running mark n D cells w → 0 < w .world .left → Paired mark n D cells w
+      → Paired mark n D cells (turnBy mark n w d (outcome mark n (w .world) d))
   turn-call w d r left paired = by (ltb d D) refl
     where
       by : (b : Bool) → ltb d D ≡ b → Paired mark n D cells (turnBy mark n w d (outcome mark n (w .world) d))
@@ -124,28 +136,33 @@ module _ (mark n D : ℕ) (cells : List ℕ) where
     spare : Spare mark n D cells w
     paired : Paired mark n D cells w
 
-  paired-turned : (w : Traced) (d : ℕ) → Running mark n D cells w → d < D → 0 < w .world .left → Paired mark n D cells w → Paired mark n D cells (turnedAt mark n w d)
+  paired-turned : (w : Traced) (d : ℕ) → Running mark n D cells w → d < D → 0 < w .world .left → Paired mark n D cells w
+      → Paired mark n D cells (turnedAt mark n w d)
   unfolding turnedAt outcomeAt
   paired-turned w d r l left paired = paired-turn mark n D cells w d r l left paired
 
   both-turned : (w : Traced) (d : ℕ) → d < D → Coupled w → Coupled (turnedAt mark n w d)
   both-turned w d l b = by (spare-turn mark n D cells w d (b .spare) l) (isMoving (turnAt n (at n (w .world .image)) d (cursorAt (w .world .cursors) d))) refl
     where
-      by : Turn mark n D cells w d → (q : Bool) → isMoving (turnAt n (at n (w .world .image)) d (cursorAt (w .world .cursors) d)) ≡ q → Coupled (turnedAt mark n w d)
+      by : Turn mark n D cells w d → (q : Bool) → isMoving (turnAt n (at n (w .world .image)) d (cursorAt (w .world .cursors) d)) ≡ q
+          → Coupled (turnedAt mark n w d)
       by t true e =
           let f = t .falls e in
           let k = b .spare .stores in
           record { spare = t .spare; paired = paired-turned w d (b .spare .running) l (omega arith) (b .paired) }
       by t false e = let q = t .same e .1 in record { spare = t .spare; paired = rw q (b .paired) }
 
-  run-call : (w : Traced) (r : ℕ) → Running mark n D cells w → plenty mark n D cells ≤ w .world .left → Paired mark n D cells w → Paired mark n D cells (ranBy mark n w r)
+  run-call : (w : Traced) (r : ℕ) → Running mark n D cells w → plenty mark n D cells ≤ w .world .left → Paired mark n D cells w
+      → Paired mark n D cells (ranBy mark n w r)
   run-call w r h l paired =
       rw (ran-is mark n D cells w r (h .reached))
-      (rounds-keep mark n D cells Coupled both-turned r w (record { spare = spare-lent mark n D cells w (w .world .left) h (omega arith); paired = paired }) .paired)
+      (rounds-keep mark n D cells Coupled both-turned r w (record { spare = spare-lent mark n D cells w (w .world .left) h (omega arith); paired = paired })
+      .paired)
 
   -- ---- each call but a recovery
 
-  paired-call : (c : Call) (w : Traced) → 8 ≤ n → callable c ≡ true → not (recovering c) ≡ true → plenty mark n D cells ≤ w .world .left → Running mark n D cells w → Paired mark n D cells w → Paired mark n D cells (call mark n c w)
+  paired-call : (c : Call) (w : Traced) → 8 ≤ n → callable c ≡ true → not (recovering c) ≡ true → plenty mark n D cells ≤ w .world .left
+      → Running mark n D cells w → Paired mark n D cells w → Paired mark n D cells (call mark n c w)
   unfolding call
   paired-call (submits d k args ws) w wide h p l r paired = submit-call w d k args ws wide (args-full d k args ws h) r paired
   paired-call (turns d) w wide h p l r paired = turn-call w d r (omega arith) paired
@@ -182,7 +199,8 @@ module _ (mark n : ℕ) where
   rested-paired m e l = let z : pend (at n m (field Pc e)) (cursorAt allIdle e) ≡ false = rw (idle-at e) (pend-idle (at n m (field Pc e))) in rw z
 
   -- with all workers idle nothing is pending
-  idle-same : (D : ℕ) (cells : List ℕ) (w : Traced) → Paired mark n D cells w → Idle mark n D (w .world .cursors) → initial n D cells (w .trace .taken) ≡ initial n D cells (w .trace .begun)
+  idle-same : (D : ℕ) (cells : List ℕ) (w : Traced) → Paired mark n D cells w → Idle mark n D (w .world .cursors)
+      → initial n D cells (w .trace .taken) ≡ initial n D cells (w .trace .begun)
   idle-same D cells w paired i =
       initial-same n D cells (w .trace .taken) (w .trace .begun)
       (λ d l. paired-none d _ _ _ _ _ (paired d l) (rw (i d l) (pend-idle (at n (w .world .image) (field Pc d)))))
@@ -191,6 +209,7 @@ module _ (mark n : ℕ) where
   unfolding Linearizable
   linearizable wide narrow m rest xs h p i =
       let w = after mark n m xs in
-      let g = play-paired mark n (workers m) (cellsOf m) xs (from m) wide narrow h p (record { running = rested-running mark n m rest; paired = rested-paired m }) in
+      let g = play-paired mark n (workers m) (cellsOf m) xs (from m) wide narrow h p
+      (record { running = rested-running mark n m rest; paired = rested-paired m }) in
       let x = idle-gives mark n (workers m) (cellsOf m) w (g .running) i in
       record { final = x .final; followed = rw (idle-same (workers m) (cellsOf m) w (g .paired) i) (x .followed); ended = x .ended; same = x .same }

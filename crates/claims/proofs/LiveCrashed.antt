@@ -21,7 +21,8 @@ use Rattle.working.specs.Cursor.{Cursor}
 use Rattle.plan.specs.Turn.{codeIn, activeAddr}
 use Rattle.soundness.specs.Sound.{targetOf, owedOf, owed, namedStep, namedOp, sectionOk, entryOk, pcOk}
 use Rattle.claims.specs.Reference.{Given}
-use Rattle.claims.proofs.Invariant.{opAt, heldAt, Sectioned, logsHeld, Named, Nearing, Due, Phase, resting, fresh, due, unlocking, unlocked, between, ended, Live, Crashed}
+use Rattle.claims.proofs.Invariant.{opAt, heldAt, Sectioned, logsHeld, Named, Nearing, Due, Phase, resting, fresh, due, unlocking, unlocked, between}
+use Rattle.claims.proofs.Invariant.{ended, Live, Crashed}
 use Rattle.claims.proofs.Covers.{Covered, Parts, parts-crashed}
 use Rattle.claims.proofs.Sets.{within-none, within-with, without-within}
 use Rattle.claims.proofs.Entries.{named-step}
@@ -49,7 +50,13 @@ module _ (n : ℕ) (rd : Memory) (d : ℕ) where
   unfolding sectionOk
   section-some s =
       let v = s .valid in
-      rw (ne-eqb (rd (field Count d)) 0 (λ e. omega (arith, v .least)), valid-passed n (rd (field Count d)) (codeIn n rd d) v, le-leb _ _ (s .numbered), le-leb _ _ (s .unfinished))
+      rw (
+        ne-eqb (rd (field Count d)) 0 (λ e. omega (arith, v .least)),
+        valid-passed n (rd (field Count d)) (codeIn n rd d) v,
+        le-leb _ _ (s .numbered),
+        le-leb
+            _ _ (s .unfinished),
+      )
 
   -- a pc that is 0
   pub pc-none : rd (field Pc d) ≡ 0 → rd (field Owned d) ≡ 0 → pcOk n rd d ≡ true
@@ -71,7 +78,8 @@ module _ (n : ℕ) (rd : Memory) (d : ℕ) where
   unfolding owed namedOp
   owed-named s e = rw (named-some s e, named-step n rd d s e)
 
-  private-entry : (s : ℕ) (x : Op) → namedStep n rd d ≡ s → rd (field (activeAddr n rd d) d) ≡ indexOf n (targetOf d x) → logsHeld n rd d s x → entryOk n rd d x ≡ true
+  private-entry : (s : ℕ) (x : Op) → namedStep n rd d ≡ s → rd (field (activeAddr n rd d) d) ≡ indexOf n (targetOf d x) → logsHeld n rd d s x
+      → entryOk n rd d x ≡ true
   private-entry s (Acquire a) e h l = rw e (and-both _ _ (eq-eqb _ _ h) (eq-eqb _ _ l))
   private-entry s (Release a) e h l = rw e (and-both _ _ (eq-eqb _ _ h) (eq-eqb _ _ l))
   private-entry s (Assign a x) e h l = eq-eqb _ _ h
@@ -123,7 +131,8 @@ module _ (n : ℕ) (rd : Memory) (d : ℕ) where
   private-held s locks (Acquire a) r = r .0
   private-held s locks (Release a) r = by (r .0)
     where
-      by : ((rd (field Owned d) ≡ heldAt n rd d s) × (rd (field Intent d) ≡ heldAt n rd d s)) ⊎ ((rd (field Owned d) ≡ heldAt n rd d (suc s)) × (rd (field Intent d) ≡ heldAt n rd d (suc s)))
+      by : ((rd (field Owned d) ≡ heldAt n rd d s) × (rd (field Intent d) ≡ heldAt n rd d s)) ⊎
+          ((rd (field Owned d) ≡ heldAt n rd d (suc s)) × (rd (field Intent d) ≡ heldAt n rd d (suc s)))
           → (rd (field Owned d) ≡ heldAt n rd d s) ⊎ (rd (field Owned d) ≡ heldAt n rd d (suc s))
       by (inl e) = inl (e .0)
       by (inr e) = inr (e .0)
@@ -136,7 +145,8 @@ module _ (n : ℕ) (rd : Memory) (d : ℕ) where
   private-dues s locks (Acquire a) r = (sym (r .2), r .2 ∙ sym (r .1))
   private-dues s locks (Release a) r = by (r .0)
     where
-      by : ((rd (field Owned d) ≡ heldAt n rd d s) × (rd (field Intent d) ≡ heldAt n rd d s)) ⊎ ((rd (field Owned d) ≡ heldAt n rd d (suc s)) × (rd (field Intent d) ≡ heldAt n rd d (suc s)))
+      by : ((rd (field Owned d) ≡ heldAt n rd d s) × (rd (field Intent d) ≡ heldAt n rd d s)) ⊎
+          ((rd (field Owned d) ≡ heldAt n rd d (suc s)) × (rd (field Intent d) ≡ heldAt n rd d (suc s)))
           → (rd (field Owned d) ≡ locks) × (locks ≡ rd (field Intent d))
       by (inl e) = (e .0 ∙ (sym (e .1) ∙ sym (r .1)), r .1)
       by (inr e) = (e .0 ∙ (sym (e .1) ∙ sym (r .1)), r .1)
@@ -146,7 +156,8 @@ module _ (n : ℕ) (rd : Memory) (d : ℕ) where
   private-dues s locks Unknown r = absurd r
 
   -- after a release's target store it is owed the smaller set, which is in the one that it intends
-  private-smaller : (s a : ℕ) → opAt n rd d s ≡ Release a → (rd (field Intent d) ≡ heldAt n rd d s) ⊎ (rd (field Intent d) ≡ heldAt n rd d (suc s)) → Covered (heldAt n rd d (suc s)) (rd (field Intent d))
+  private-smaller : (s a : ℕ) → opAt n rd d s ≡ Release a → (rd (field Intent d) ≡ heldAt n rd d s) ⊎ (rd (field Intent d) ≡ heldAt n rd d (suc s))
+      → Covered (heldAt n rd d (suc s)) (rd (field Intent d))
   private-smaller s a o (inl e) = rw (e, after-release (codeIn n rd d) s a o) (λ c l. without-within (heldAt n rd d s) a c)
   private-smaller s a o (inr e) = covered-same _ _ (sym e)
 

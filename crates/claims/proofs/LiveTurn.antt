@@ -78,7 +78,8 @@ pub record Owning (D : ℕ) (rd : Memory) (locks : ℕ → ℕ) : Type 0 where
   pub owner : (b d : ℕ) → b < 64 → rd (lock b) ≡ d + 1 → (d < D) × (has (locks d) b ≡ true)
 
 -- nothing changes at the locks
-same-owning : (D : ℕ) (rd rd′ : Memory) (locks : ℕ → ℕ) (d : ℕ) → ((b : ℕ) → rd′ (lock b) ≡ rd (lock b)) → Owning D rd locks → Owning D rd′ (but locks d (locks d))
+same-owning : (D : ℕ) (rd rd′ : Memory) (locks : ℕ → ℕ) (d : ℕ) → ((b : ℕ) → rd′ (lock b) ≡ rd (lock b)) → Owning D rd locks
+    → Owning D rd′ (but locks d (locks d))
 same-owning D rd rd′ locks d same O =
     record {
       locked = λ b e l p h. same b ∙ O .locked b e l p (sym (ap (λ (m : ℕ). has m b) (but-self locks d e)) ∙ h);
@@ -90,7 +91,8 @@ relocked :
     (D : ℕ) (rd : Memory) (locks : ℕ → ℕ) (d a w m : ℕ) → d < D → Owning D rd locks → ((e : ℕ) → e < D → e ≢ d → has (locks e) a ≡ true → ⊥)
     → ((b : ℕ) → b ≢ a → has m b ≡ has (locks d) b) → (has m a ≡ true → w ≡ d + 1) → ((e : ℕ) → w ≡ e + 1 → (e ≡ d) × (has m a ≡ true))
     → Owning D (upd rd (lock a) w) (but locks d m)
-relocked D rd locks d a w m dl O alone rest to from = record { locked = λ b e l p h. lk b e l p h (ℕ-discrete b a) (ℕ-discrete e d); owner = λ b e l h. ow b e l h (ℕ-discrete b a) (ℕ-discrete e d) }
+relocked D rd locks d a w m dl O alone rest to from =
+    record { locked = λ b e l p h. lk b e l p h (ℕ-discrete b a) (ℕ-discrete e d); owner = λ b e l h. ow b e l h (ℕ-discrete b a) (ℕ-discrete e d) }
   where
     mine : (b : ℕ) → has (but locks d m d) b ≡ has m b
     mine b = ap (λ (x : ℕ). has x b) (but-same locks d m)
@@ -99,25 +101,30 @@ relocked D rd locks d a w m dl O alone rest to from = record { locked = λ b e l
     theirs b e r = ap (λ (x : ℕ). has x b) (but-other locks d m e r)
 
     lk : (b e : ℕ) → b < 64 → e < D → has (but locks d m e) b ≡ true → Dec (b ≡ a) → Dec (e ≡ d) → cond (eqb b a) w (rd (lock b)) ≡ e + 1
-    lk b e l p h (yes q) (yes r) = rw (eq-eqb b a q, r) (to (sym (mine a) ∙ subst (λ (c : ℕ). has (but locks d m d) c ≡ true) q (subst (λ (f : ℕ). has (but locks d m f) b ≡ true) r h)))
+    lk b e l p h (yes q) (yes r) =
+        rw (eq-eqb b a q, r) (to (sym (mine a) ∙ subst (λ (c : ℕ). has (but locks d m d) c ≡ true) q (subst (λ (f : ℕ). has (but locks d m f) b ≡ true) r h)))
     lk b e l p h (yes q) (no r) = absurd (alone e p r (subst (λ (c : ℕ). has (locks e) c ≡ true) q (sym (theirs b e r) ∙ h)))
-    lk b e l p h (no q) (yes r) = rw (ne-eqb b a q, r) (O .locked b d l dl (sym (rest b q) ∙ (sym (mine b) ∙ subst (λ (f : ℕ). has (but locks d m f) b ≡ true) r h)))
+    lk b e l p h (no q) (yes r) =
+        rw (ne-eqb b a q, r) (O .locked b d l dl (sym (rest b q) ∙ (sym (mine b) ∙ subst (λ (f : ℕ). has (but locks d m f) b ≡ true) r h)))
     lk b e l p h (no q) (no r) = rw (ne-eqb b a q) (O .locked b e l p (sym (theirs b e r) ∙ h))
 
     ow : (b e : ℕ) → b < 64 → cond (eqb b a) w (rd (lock b)) ≡ e + 1 → Dec (b ≡ a) → Dec (e ≡ d) → (e < D) × (has (but locks d m e) b ≡ true)
     ow b e l h (yes q) (yes r) = let x = from e (rw (eq-eqb b a q) at h) in rw (q, r) (dl, mine a ∙ x .1)
     ow b e l h (yes q) (no r) = let x = from e (rw (eq-eqb b a q) at h) in absurd (r (x .0))
-    ow b e l h (no q) (yes r) = let x = O .owner b e l (rw (ne-eqb b a q) at h) in rw r (dl, mine b ∙ (rest b q ∙ subst (λ (f : ℕ). has (locks f) b ≡ true) r (x .1)))
+    ow b e l h (no q) (yes r) = let x = O .owner b e l (rw (ne-eqb b a q) at h) in rw r
+        (dl, mine b ∙ (rest b q ∙ subst (λ (f : ℕ). has (locks f) b ≡ true) r (x .1)))
     ow b e l h (no q) (no r) = let x = O .owner b e l (rw (ne-eqb b a q) at h) in (x .0, theirs b e r ∙ x .1)
 
 -- after each store that a turn may make
 pub touched-owning :
-    (n D : ℕ) (rd : Memory) (locks : ℕ → ℕ) (d : ℕ) (p : Place) (v locks′ : ℕ) → d < D → Owning D rd locks → Touches n rd d (locks d) p v locks′ → Owning D (upd rd p v) (but locks d locks′)
+    (n D : ℕ) (rd : Memory) (locks : ℕ → ℕ) (d : ℕ) (p : Place) (v locks′ : ℕ) → d < D → Owning D rd locks → Touches n rd d (locks d) p v locks′ → Owning D
+    (upd rd p v) (but locks d locks′)
 touched-owning n D rd locks d p v locks′ dl O (inRecord f w) = same-owning D rd (upd rd (field f d) w) locks d (λ b. refl) O
 touched-owning n D rd locks d p v locks′ dl O (ownWord i w b) = same-owning D rd (upd rd (own d i) w) locks d (λ c. refl) O
 touched-owning n D rd locks d p v locks′ dl O (ownCell x w b h) = same-owning D rd (upd rd (cell x) w) locks d (λ c. refl) O
 touched-owning n D rd locks d p v locks′ dl O (takes a b free) =
-    relocked D rd locks d a (d + 1) (with (locks d) a) dl O (λ e l r h. let x = O .locked a e b l h in omega arith) (λ c q. has-with-other (locks d) a c (λ s. q (sym s))) (λ h. refl)
+    relocked D rd locks d a (d + 1) (with (locks d) a) dl O (λ e l r h. let x = O .locked a e b l h in omega arith)
+    (λ c q. has-with-other (locks d) a c (λ s. q (sym s))) (λ h. refl)
     (λ e h. (omega arith, has-with (locks d) a))
 touched-owning n D rd locks d p v locks′ dl O (frees a b h) =
     relocked D rd locks d a 0 (without (locks d) a) dl O (λ e l r k. let x = O .locked a e b l k in let y = O .locked a d b dl h in r (omega arith))
@@ -131,9 +138,11 @@ owning L = record { locked = L .locked; owner = L .owner }
 -- the others stand as they did, worker d as it does now
 pub live-but :
     (n D : ℕ) (rd rd′ : Memory) (cursor : ℕ → Cursor) (locks jumps : ℕ → ℕ) (given : ℕ → Given) (d : ℕ) (c : Cursor) (locks′ j : ℕ)
-    → ((e : ℕ) → e < D → e ≢ d → Phase n rd′ e (given e) (cursor e) (locks e) (jumps e)) → Phase n rd′ d (given d) c locks′ j → Owning D rd′ (but locks d locks′)
+    → ((e : ℕ) → e < D → e ≢ d → Phase n rd′ e (given e) (cursor e) (locks e) (jumps e)) → Phase n rd′ d (given d) c locks′ j → Owning D rd′
+    (but locks d locks′)
     → Live n D rd′ (but cursor d c) (but locks d locks′) (but jumps d j) given
-live-but n D rd rd′ cursor locks jumps given d c locks′ j others mine O = record { phase = λ e l. ph e l (ℕ-discrete e d); locked = O .locked; owner = O .owner }
+live-but n D rd rd′ cursor locks jumps given d c locks′ j others mine O =
+    record { phase = λ e l. ph e l (ℕ-discrete e d); locked = O .locked; owner = O .owner }
   where
     ph : (e : ℕ) → e < D → Dec (e ≡ d) → Phase n rd′ e (given e) (but cursor d c e) (but locks d locks′ e) (but jumps d j e)
     ph e l (yes r) =
@@ -157,18 +166,25 @@ live-turn n D rd cursor locks jumps given d (stored p v c) L dl (m, t, ph) = (
   m,
   t,
   live-but n D rd (upd rd p v) cursor locks jumps given d c m (cond (isPc p) 0 (jumps d))
-      (λ e l r. phase-same n rd (upd rd p v) e (given e) (cursor e) (locks e) (jumps e) (L .phase e l) (agrees n rd d (locks d) p v m t e (locks e) r (λ b k h g. r (sym (one-owner L b d e k dl l h g)))))
+      (λ e l r. phase-same n rd (upd rd p v) e (given e) (cursor e) (locks e) (jumps e) (L .phase e l)
+      (agrees n rd d (locks d) p v m t e (locks e) r (λ b k h g. r (sym (one-owner L b d e k dl l h g)))))
       ph
       (touched-owning n D rd locks d p v m dl (owning L) t),
 )
 live-turn n D rd cursor locks jumps given d (jumped c) L dl ph = live-moved n D rd cursor locks jumps given d c (suc (jumps d)) L ph
 live-turn n D rd cursor locks jumps given d (unheld c) L dl ph =
-    subst (λ (f : ℕ → ℕ). Live n D rd (but cursor d c) locks f given) (fun-ext (but-self jumps d)) (live-moved n D rd cursor locks jumps given d c (jumps d) L ph)
+    subst (λ (f : ℕ → ℕ). Live n D rd (but cursor d c) locks f given) (fun-ext (but-self jumps d))
+    (live-moved n D rd cursor locks jumps given d c (jumps d) L ph)
 live-turn n D rd cursor locks jumps given d (waiting b) L dl h = h
 live-turn n D rd cursor locks jumps given d resting L dl h = h
 live-turn n D rd cursor locks jumps given d (refused r) L dl h = h
 
 -- the phases look at the cursors of the workers alone
-pub live-cursors : (n D : ℕ) (rd : Memory) (c c′ : ℕ → Cursor) (locks jumps : ℕ → ℕ) (given : ℕ → Given) → ((e : ℕ) → e < D → c e ≡ c′ e) → Live n D rd c locks jumps given → Live n D rd c′ locks jumps given
+pub live-cursors : (n D : ℕ) (rd : Memory) (c c′ : ℕ → Cursor) (locks jumps : ℕ → ℕ) (given : ℕ → Given) → ((e : ℕ) → e < D → c e ≡ c′ e)
+    → Live n D rd c locks jumps given → Live n D rd c′ locks jumps given
 live-cursors n D rd c c′ locks jumps given same L =
-    record { phase = λ d l. subst (λ (x : Cursor). Phase n rd d (given d) x (locks d) (jumps d)) (same d l) (L .phase d l); locked = L .locked; owner = L .owner }
+    record {
+      phase = λ d l. subst (λ (x : Cursor). Phase n rd d (given d) x (locks d) (jumps d)) (same d l) (L .phase d l);
+      locked = L .locked;
+      owner = L .owner;
+    }

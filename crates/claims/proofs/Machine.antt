@@ -18,7 +18,8 @@ use Rattle.code.specs.declared.Expr.{Expr}
 use Rattle.code.specs.declared.Op.{Op}
 use Rattle.code.specs.declared.Op.the-variants.{Acquire, Release, Assign, Jump, Finish, Unknown}
 use Rattle.code.specs.Op.{opOf, eval}
-use Rattle.claims.specs.Reference.{Job, job, State, state, readIn, heldIn, taken, onto, assigned, whole, front, advance, andThen, follow, noneLeft, Given, start, enqueue, feed, initial}
+use Rattle.claims.specs.Reference.{Job, job, State, state, readIn, heldIn, taken, onto, assigned, whole, front, advance, andThen, follow, noneLeft, Given}
+use Rattle.claims.specs.Reference.{start, enqueue, feed, initial}
 
 -- ---- orders in two parts
 
@@ -169,7 +170,8 @@ module _ (n : ℕ) (g : Given) where
     whole-enqueue t j Finish e = back _ _ t (q (s .cells)) e
     whole-enqueue t j Unknown e = absurd (let z : _≡_ {A = ℕ} 0 1 = cc in omega arith)
 
-  front-same : (s t : State) (q : List Job) → g .worker < length (s .queues) → front s (g .worker) q ≡ some t → front (enqueue n s g) (g .worker) (behind q) ≡ some (enqueue n t g)
+  front-same : (s t : State) (q : List Job) → g .worker < length (s .queues) → front s (g .worker) q ≡ some t
+      → front (enqueue n s g) (g .worker) (behind q) ≡ some (enqueue n t g)
   front-same s t [] l e = absurd (let z : _≡_ {A = ℕ} 0 1 = cc in omega arith)
   front-same s t (j ∷ js) l e =
       whole-enqueue s (g .worker) js (behind js)
@@ -226,7 +228,8 @@ enqueue-length n s g = length-set (s .queues) (g .worker) _
 
 -- ---- the machine fed late
 
-pub enqueue-follow : (n : ℕ) (g : Given) (s t : State) (xs : List ℕ) → follow s xs ≡ some t → g .worker < length (s .queues) → follow (enqueue n s g) xs ≡ some (enqueue n t g)
+pub enqueue-follow : (n : ℕ) (g : Given) (s t : State) (xs : List ℕ) → follow s xs ≡ some t → g .worker < length (s .queues)
+    → follow (enqueue n s g) xs ≡ some (enqueue n t g)
 unfolding follow
 enqueue-follow n g s t [] e l = let i : s ≡ t = cc in rw i
 enqueue-follow n g s t (d ∷ ds) e l =

@@ -18,15 +18,18 @@ use Rattle.code.specs.declared.Op.{Op}
 use Rattle.code.specs.declared.Op.the-variants.{Acquire, Release, Assign, Jump, Finish, Unknown}
 use Rattle.code.specs.Op.{eval}
 use Rattle.working.specs.Cursor.{Cursor, idle, on}
-use Rattle.plan.specs.Turn.{Outcome, stored, jumped, unheld, waiting, resting, refused, operand, wordIn, spareAddr, spareVal, activeVal, switched, logged, lockTurn, unlockTurn, acquireTurn, releaseTurn, finishTurn, turnAt}
+use Rattle.plan.specs.Turn.{Outcome, stored, jumped, unheld, waiting, resting, refused, operand, wordIn, spareAddr, spareVal, activeVal, switched, logged}
+use Rattle.plan.specs.Turn.{lockTurn, unlockTurn, acquireTurn, releaseTurn, finishTurn, turnAt}
 use Rattle.soundness.specs.Sound.{targetOf}
 use Rattle.repair.specs.Plan.{targetTurn}
 use Rattle.claims.specs.Reference.{Given, Job, State, follow, enqueue, initial}
 use Rattle.claims.specs.Calls.{isPc}
-use Rattle.claims.proofs.Invariant.{opAt, heldAt, Sectioned, logsHeld, Nearing, Jumps, Lodged, Phase, resting as rests, fresh, due, unlocking, unlocked, between, ended, Live, JobOf, Mirrors}
+use Rattle.claims.proofs.Invariant.{opAt, heldAt, Sectioned, logsHeld, Nearing, Jumps, Lodged, Phase, resting as rests, fresh, due, unlocking, unlocked}
+use Rattle.claims.proofs.Invariant.{between, ended, Live, JobOf, Mirrors}
 use Rattle.claims.proofs.Machine.{follow-then, initial-more}
 use Rattle.claims.proofs.Entries.{named-pc, operand-no-pc, addr-no-pc, val-no-pc}
-use Rattle.claims.proofs.Stutter.{mirror-kept, unmirrored-lock, unmirrored-intent, unmirrored-finished, unmirrored-spare-addr, unmirrored-spare-val, unmirrored-resting, mirror-target}
+use Rattle.claims.proofs.Stutter.{mirror-kept, unmirrored-lock, unmirrored-intent, unmirrored-finished, unmirrored-spare-addr, unmirrored-spare-val}
+use Rattle.claims.proofs.Stutter.{unmirrored-resting, mirror-target}
 use Rattle.claims.proofs.Apart.{Busy, busy-due, busy-between, target-guarded, misses-guarded}
 use Rattle.claims.proofs.PcTurn.{began, Counted, fresh-counted, counted-acquire, counted-release, counted-assign, counted-finish}
 use Rattle.claims.proofs.Ready.{turn-op}
@@ -36,7 +39,8 @@ use Rattle.claims.proofs.Ready.{turn-op}
 -- a store of v at p, with j jumps made before; by whether it is a store of a pc. A section that begins is worker d's
 abbrev pub MirroredStore : ℕ → ℕ → Memory → State → ℕ → Given → ℕ → Place → ℕ → Bool → Type 0
 MirroredStore n D rd S j g d p v false = Mirrors n D (upd rd p v) S
-MirroredStore n D rd S j g d p v true = (p ≡ field Pc d) × (rd (field Pc d) ≡ 0 → g .worker ≡ d) × ((S′ : State) × (follow (began n rd S g d) (replicate (suc j) d) ≡ some S′) × Mirrors n D (upd rd p v) S′)
+MirroredStore n D rd S j g d p v true = (p ≡ field Pc d) × (rd (field Pc d) ≡ 0 → g .worker ≡ d) ×
+    ((S′ : State) × (follow (began n rd S g d) (replicate (suc j) d) ≡ some S′) × Mirrors n D (upd rd p v) S′)
 
 -- a turn of worker d, by its outcome
 abbrev pub Mirrored : ℕ → ℕ → Memory → State → ℕ → Given → ℕ → Outcome → Type 0
@@ -72,7 +76,8 @@ module _ (n D : ℕ) (rd : Memory) (S : State) (M : Mirrors n D rd S) (j : ℕ) 
 
   -- address, value, pc
   logged-turns :
-      (k t : ℕ) (p : Place) (v : ℕ) (c : Cursor) (i : ℕ) → i ≤ 2 → (i ≡ 2 → Counted n D rd S j g d (switched n rd d k)) → Mirrored n D rd S j g d (logged n rd d k t p v c i)
+      (k t : ℕ) (p : Place) (v : ℕ) (c : Cursor) (i : ℕ) → i ≤ 2 → (i ≡ 2 → Counted n D rd S j g d (switched n rd d k)) → Mirrored n D rd S j g d
+      (logged n rd d k t p v c i)
   logged-turns k t p v c zero h f = addr-turn _
   logged-turns k t p v c (suc zero) h f = val-turn _
   logged-turns k t p v c (suc (suc zero)) h f = (refl, mine, f refl)
@@ -152,12 +157,14 @@ module _ (n D : ℕ) (rd : Memory) (cursor : ℕ → Cursor) (locks jumps : ℕ 
       mine : rd (field Pc d) ≡ 0 → given d .worker ≡ d
       mine z = absurd (named-pc n rd d s (B .named .pc) z)
 
-      by : (j : Job) → getD (S .queues) d [] ≡ j ∷ [] → JobOf n D rd d j → (x : Op) → opAt n rd d k ≡ x → Nearing n rd d k t (heldAt n rd d k) (locks d) x → Mirrored n D rd S i (given d) d (turnAt n rd d (on k t))
+      by : (j : Job) → getD (S .queues) d [] ≡ j ∷ [] → JobOf n D rd d j → (x : Op) → opAt n rd d k ≡ x → Nearing n rd d k t (heldAt n rd d k) (locks d) x
+          → Mirrored n D rd S i (given d) d (turnAt n rd d (on k t))
       by j q J (Acquire a) x K =
           let r : t ≤ 4 = K .0 in
           rw (turn-op n rd d k t (Acquire a) (sec .valid) below x (omega arith))
           (acquire-turns n D rd S M i (given d) d mine k t a r
-          (λ e. counted-acquire n D rd cursor locks jumps given L d l S M sec s k i B made leaps below level j q J a x (rw (K .2, e) (has-with (heldAt n rd d k) a)) (K .4 (omega arith))))
+          (λ e. counted-acquire n D rd cursor locks jumps given L d l S M sec s k i B made leaps below level j q J a x
+          (rw (K .2, e) (has-with (heldAt n rd d k) a)) (K .4 (omega arith))))
       by j q J (Release a) x K =
           let r : t ≤ 2 = K .0 in
           rw (turn-op n rd d k t (Release a) (sec .valid) below x (omega arith))
@@ -172,14 +179,17 @@ module _ (n D : ℕ) (rd : Memory) (cursor : ℕ → Cursor) (locks jumps : ℕ 
       by j q J Finish x K =
           let r : t ≤ 1 = K .0 in
           rw (turn-op n rd d k t Finish (sec .valid) below x (omega arith))
-          (finish-turns n D rd S M i (given d) d mine k t r (λ e. counted-finish n D rd cursor locks jumps given L d l S M sec s k i B made leaps below level j q J x))
+          (finish-turns n D rd S M i (given d) d mine k t r
+          (λ e. counted-finish n D rd cursor locks jumps given L d l S M sec s k i B made leaps below level j q J x))
       by j q J Unknown x K = absurd K
 
   phase-turn : (c : Cursor) (w i : ℕ) → locks d ≡ w → Phase n rd d (given d) c w i → Mirrored n D rd S i (given d) d (turnAt n rd d c)
   phase-turn c w i e (rests a b x y) = rw (turn-idle n rd d) tt
   phase-turn c w i e (fresh t lk sec H p o N) = fresh-turn t sec H p o (rw e N)
   phase-turn c w i e (due s lk sec N K) = due-turn s (rw e (busy-due n rd d s lk sec N K)) (opAt n rd d s) refl
-  phase-turn c w i e (unlocking s a lk sec N o x y z) = rw (turn-op n rd d s 4 (Release a) (sec .valid) (N .below) o (omega arith)) (unlock-turn n D rd S M 0 (given d) d (λ q. absurd (named-pc n rd d s (N .pc) q)) a s)
+  phase-turn c w i e (unlocking s a lk sec N o x y z) =
+      rw (turn-op n rd d s 4 (Release a) (sec .valid) (N .below) o (omega arith))
+      (unlock-turn n D rd S M 0 (given d) d (λ q. absurd (named-pc n rd d s (N .pc) q)) a s)
   phase-turn c w i e (unlocked s a lk sec N o x y z) =
       rw (turn-op n rd d s 5 (Release a) (sec .valid) (N .below) o (omega arith)) (mirror-kept n D rd (field Intent d) _ (unmirrored-intent n D rd d) S M)
   phase-turn c w i e (between s k t lk j sec N made J below o h K) =
@@ -189,7 +199,8 @@ module _ (n D : ℕ) (rd : Memory) (cursor : ℕ → Cursor) (locks jumps : ℕ 
 
 -- a turn of a worker in a live memory
 pub mirror-turn :
-    (n D : ℕ) (rd : Memory) (cursor : ℕ → Cursor) (locks jumps : ℕ → ℕ) (given : ℕ → Given) → Live n D rd cursor locks jumps given → (d : ℕ) → d < D → (S : State)
+    (n D : ℕ) (rd : Memory) (cursor : ℕ → Cursor) (locks jumps : ℕ → ℕ) (given : ℕ → Given) → Live n D rd cursor locks jumps given → (d : ℕ) → d < D →
+    (S : State)
     → Mirrors n D rd S → Mirrored n D rd S (jumps d) (given d) d (turnAt n rd d (cursor d))
 mirror-turn n D rd cursor locks jumps given L d l S M = phase-turn n D rd cursor locks jumps given L d l S M (cursor d) (locks d) (jumps d) refl (L .phase d l)
 

@@ -31,14 +31,16 @@ use Rattle.repair.specs.Plan.{targetTurn}
 use Rattle.claims.specs.Reference.{Given}
 use Rattle.claims.proofs.Invariant.{opAt, heldAt, Sectioned, logsHeld, Named, Nearing, Due, leap, Phase, due, ended}
 use Rattle.claims.proofs.Turns.{inRecord, takes, Stepped}
-use Rattle.claims.proofs.Fields.{quiet-intent, quiet-finished, quiet-lock, quiet-spare-addr, quiet-spare-val, spare-addr-other, spare-val-other, spare-addr-now, spare-val-now, spare-val-addr, next-step, next-address, next-value}
+use Rattle.claims.proofs.Fields.{quiet-intent, quiet-finished, quiet-lock, quiet-spare-addr, quiet-spare-val, spare-addr-other, spare-val-other}
+use Rattle.claims.proofs.Fields.{spare-addr-now, spare-val-now, spare-val-addr, next-step, next-address, next-value}
 use Rattle.claims.proofs.Ready.{turn-op, step-behind, finish-free}
 use Rattle.claims.proofs.Origins.{Origin, began, after, reads-kept, Before, before-kept, near, arrive, near-ready}
 use Rattle.claims.proofs.Entries.{addr-no-pc, val-no-pc}
 
 -- a jump is never first, so that there is a step that is over
 jump-origin :
-    (n : ℕ) (rd : Memory) (d : ℕ) (g : Given) → Valid n (rd (field Count d)) (codeIn n rd d) → (a c : ℕ) (q : Bool) → eqb (wordIn n rd d a) 0 ≡ q → {k j : ℕ} → k < rd (field Count d) → opAt n rd d k ≡ Jump a c
+    (n : ℕ) (rd : Memory) (d : ℕ) (g : Given) → Valid n (rd (field Count d)) (codeIn n rd d) → (a c : ℕ) (q : Bool) → eqb (wordIn n rd d a) 0 ≡ q → {k j : ℕ}
+    → k < rd (field Count d) → opAt n rd d k ≡ Jump a c
     → heldAt n rd d (cond q c (suc k)) ≡ heldAt n rd d k → Origin n rd d g k j → Origin n rd d g (cond q c (suc k)) (suc j)
 jump-origin n rd d g v a c q e l o h (began x p) = let y = v .first .1 in let z : _≡_ {A = ℕ} 0 1 = cc in absurd (omega arith)
 jump-origin n rd d g v a c q e l o h (after s k j m done js f) = after s (cond q c (suc k)) (suc j) m done (rw e at (leap j k a c js l o)) (h ∙ f)
@@ -54,16 +56,26 @@ module _ (n : ℕ) (rd : Memory) (d : ℕ) (g : Given) (k j locks : ℕ) (b : Be
       → Stepped n rd d g locks j (stored (field (spareAddr n rd d) d) w (on k t))
   log-address w t x o r =
       let rd′ = upd rd (field (spareAddr n rd d) d) w in
-      let f : rd′ (field Finished d) ≤ rd′ (field Number d) = rw (spare-addr-other n rd d w Finished refl refl, spare-addr-other n rd d w Number refl refl) (b .sectioned .unfinished) in
-      (locks, inRecord (spareAddr n rd d) w, rw (addr-no-pc n rd d) (near n rd′ d g k j t locks x (before-kept n rd rd′ d g k j (quiet-spare-addr n rd d w) f b) o r))
+      let f : rd′ (field Finished d) ≤ rd′ (field Number d) = rw (spare-addr-other n rd d w Finished refl refl, spare-addr-other n rd d w Number refl refl)
+      (b .sectioned .unfinished) in (
+        locks,
+        inRecord (spareAddr n rd d) w,
+        rw (addr-no-pc n rd d)
+            (near n rd′ d g k j t locks x (before-kept n rd rd′ d g k j (quiet-spare-addr n rd d w) f b) o r),
+      )
 
   log-value :
       (w t : ℕ) (x : Op) → opAt n rd d k ≡ x → Nearing n (upd rd (field (spareVal n rd d) d) w) d k t (heldAt n rd d k) locks x
       → Stepped n rd d g locks j (stored (field (spareVal n rd d) d) w (on k t))
   log-value w t x o r =
       let rd′ = upd rd (field (spareVal n rd d) d) w in
-      let f : rd′ (field Finished d) ≤ rd′ (field Number d) = rw (spare-val-other n rd d w Finished refl refl, spare-val-other n rd d w Number refl refl) (b .sectioned .unfinished) in
-      (locks, inRecord (spareVal n rd d) w, rw (val-no-pc n rd d) (near n rd′ d g k j t locks x (before-kept n rd rd′ d g k j (quiet-spare-val n rd d w) f b) o r))
+      let f : rd′ (field Finished d) ≤ rd′ (field Number d) = rw (spare-val-other n rd d w Finished refl refl, spare-val-other n rd d w Number refl refl)
+      (b .sectioned .unfinished) in (
+        locks,
+        inRecord (spareVal n rd d) w,
+        rw (val-no-pc n rd d)
+            (near n rd′ d g k j t locks x (before-kept n rd rd′ d g k j (quiet-spare-val n rd d w) f b) o r),
+      )
 
   log-pc :
       (x : Op) → opAt n rd d k ≡ x → rd (field (spareAddr n rd d) d) ≡ indexOf n (targetOf d x)
@@ -119,8 +131,12 @@ module _ (n : ℕ) (rd : Memory) (d : ℕ) (g : Given) (k j locks : ℕ) (b : Be
         by : (t : Bool) → eqb (rd (lock a)) 0 ≡ t → Stepped n rd d g locks j (cond t (stored (lock a) (d + 1) (on k 2)) (waiting a))
         by true e =
             let b′ = before-kept n rd rd′ d g k j (quiet-lock n rd d (d + 1) a) (b .sectioned .unfinished) b in
-            let f : with locks a ≡ with (heldAt n rd d k) a = ap (λ (m : ℕ). with m a) (r .2) in
-            (with locks a, takes a range (eqb-true _ _ e), near n rd′ d g k j 2 (with locks a) (Acquire a) b′ o (omega arith, r .1, f, (λ m. absurd (omega arith)), (λ m. absurd (omega arith))))
+            let f : with locks a ≡ with (heldAt n rd d k) a = ap (λ (m : ℕ). with m a) (r .2) in (
+              with locks a,
+              takes a range (eqb-true _ _ e),
+              near n rd′ d g k j 2 (with locks a) (Acquire a) b′ o
+                  (omega arith, r .1, f, (λ m. absurd (omega arith)), (λ m. absurd (omega arith))),
+            )
         by false e = (range, eqb-false _ _ e, above (r .2))
 
     acquire-turn : (t : ℕ) → Nearing n rd d k t (heldAt n rd d k) locks (Acquire a) → Stepped n rd d g locks j (opTurn n rd d k t (Acquire a))
@@ -128,13 +144,26 @@ module _ (n : ℕ) (rd : Memory) (d : ℕ) (g : Given) (k j locks : ℕ) (b : Be
     acquire-turn (suc zero) r = acquire-lock r
     acquire-turn (suc (suc zero)) r =
         let w = indexOf n (field Owned d) in
-        log-address w 3 (Acquire a) o (omega arith, spare-addr-other n rd d w Intent refl refl ∙ r .1, r .2, (λ m. spare-addr-now n rd d w), (λ m. absurd (omega arith)))
+        log-address w 3 (Acquire a) o (
+          omega arith,
+          spare-addr-other n rd d w Intent refl refl ∙ r .1,
+          r .2,
+          (λ m. spare-addr-now n rd d w),
+          (λ m. absurd (omega arith)),
+        )
     acquire-turn (suc (suc (suc zero))) r =
         let w = with (rd (field Owned d)) a in
         let v : w ≡ with (heldAt n rd d k) a = ap (λ (m : ℕ). with m a) (b .owned) in
-        log-value w 4 (Acquire a) o (omega arith, spare-val-other n rd d w Intent refl refl ∙ r .1, r .2, (λ m. spare-val-addr n rd d w ∙ r .3 (omega arith)), (λ m. spare-val-now n rd d w ∙ v))
+        log-value w 4 (Acquire a) o (
+          omega arith,
+          spare-val-other n rd d w Intent refl refl ∙ r .1,
+          r .2,
+          (λ m. spare-val-addr n rd d w ∙ r .3 (omega arith)),
+          (λ m. spare-val-now n rd d w ∙ v),
+        )
     acquire-turn (suc (suc (suc (suc zero)))) r =
-        log-pc (Acquire a) o (r .3 (omega arith)) (next-value n rd d k small ∙ (r .4 (omega arith) ∙ sym grown)) (inl (b .owned), r .1 ∙ sym grown, r .2 ∙ sym grown)
+        log-pc (Acquire a) o (r .3 (omega arith)) (next-value n rd d k small ∙ (r .4 (omega arith) ∙ sym grown))
+        (inl (b .owned), r .1 ∙ sym grown, r .2 ∙ sym grown)
     acquire-turn (suc (suc (suc (suc (suc t))))) r = absurd (let l = r .0 in omega arith)
 
   -- ---- a release
@@ -143,13 +172,26 @@ module _ (n : ℕ) (rd : Memory) (d : ℕ) (g : Given) (k j locks : ℕ) (b : Be
     release-turn : (t : ℕ) → Nearing n rd d k t (heldAt n rd d k) locks (Release a) → Stepped n rd d g locks j (opTurn n rd d k t (Release a))
     release-turn zero r =
         let w = indexOf n (field Owned d) in
-        log-address w 1 (Release a) o (omega arith, spare-addr-other n rd d w Intent refl refl ∙ r .1, r .2, (λ m. spare-addr-now n rd d w), (λ m. absurd (omega arith)))
+        log-address w 1 (Release a) o (
+          omega arith,
+          spare-addr-other n rd d w Intent refl refl ∙ r .1,
+          r .2,
+          (λ m. spare-addr-now n rd d w),
+          (λ m. absurd (omega arith)),
+        )
     release-turn (suc zero) r =
         let w = without (rd (field Owned d)) a in
         let v : w ≡ without (heldAt n rd d k) a = ap (λ (m : ℕ). without m a) (b .owned) in
-        log-value w 2 (Release a) o (omega arith, spare-val-other n rd d w Intent refl refl ∙ r .1, r .2, (λ m. spare-val-addr n rd d w ∙ r .3 (omega arith)), (λ m. spare-val-now n rd d w ∙ v))
+        log-value w 2 (Release a) o (
+          omega arith,
+          spare-val-other n rd d w Intent refl refl ∙ r .1,
+          r .2,
+          (λ m. spare-val-addr n rd d w ∙ r .3 (omega arith)),
+          (λ m. spare-val-now n rd d w ∙ v),
+        )
     release-turn (suc (suc zero)) r =
-        log-pc (Release a) o (r .3 (omega arith)) (next-value n rd d k small ∙ (r .4 (omega arith) ∙ sym (after-release (codeIn n rd d) k a o))) (inl (b .owned, r .1), r .2 ∙ sym (r .1))
+        log-pc (Release a) o (r .3 (omega arith)) (next-value n rd d k small ∙ (r .4 (omega arith) ∙ sym (after-release (codeIn n rd d) k a o)))
+        (inl (b .owned, r .1), r .2 ∙ sym (r .1))
     release-turn (suc (suc (suc t))) r = absurd (let l = r .0 in omega arith)
 
   -- ---- an assignment
@@ -158,12 +200,19 @@ module _ (n : ℕ) (rd : Memory) (d : ℕ) (g : Given) (k j locks : ℕ) (b : Be
     assign-turn : (t : ℕ) → Nearing n rd d k t (heldAt n rd d k) locks (Assign a e) → Stepped n rd d g locks j (opTurn n rd d k t (Assign a e))
     assign-turn zero r =
         let w = indexOf n (operand d a) in
-        log-address w 1 (Assign a e) o (omega arith, spare-addr-other n rd d w Intent refl refl ∙ r .1, r .2, (λ m. spare-addr-now n rd d w), (λ m. absurd (omega arith)))
+        log-address w 1 (Assign a e) o
+        (omega arith, spare-addr-other n rd d w Intent refl refl ∙ r .1, r .2, (λ m. spare-addr-now n rd d w), (λ m. absurd (omega arith)))
     assign-turn (suc zero) r =
         let w = eval (wordIn n rd d) e in
         let rd′ = upd rd (field (spareVal n rd d) d) w in
         let v : w ≡ eval (wordIn n rd′ d) e = ap (λ (f : ℕ → ℕ). eval f e) (sym (reads-kept n rd rd′ d (quiet-spare-val n rd d w))) in
-        log-value w 2 (Assign a e) o (omega arith, spare-val-other n rd d w Intent refl refl ∙ r .1, r .2, (λ m. spare-val-addr n rd d w ∙ r .3 (omega arith)), (λ m. spare-val-now n rd d w ∙ v))
+        log-value w 2 (Assign a e) o (
+          omega arith,
+          spare-val-other n rd d w Intent refl refl ∙ r .1,
+          r .2,
+          (λ m. spare-val-addr n rd d w ∙ r .3 (omega arith)),
+          (λ m. spare-val-now n rd d w ∙ v),
+        )
     assign-turn (suc (suc zero)) r = log-pc (Assign a e) o (r .3 (omega arith)) tt (b .owned, r .1, r .2)
     assign-turn (suc (suc (suc t))) r = absurd (let l = r .0 in omega arith)
 
@@ -205,12 +254,20 @@ module _ (n : ℕ) (rd : Memory) (d : ℕ) (g : Given) (k j locks : ℕ) (b : Be
     finish-turn zero r =
         let w = rd (field Number d) in
         let rd′ = upd rd (field Finished d) w in
-        let f : rd′ (field Finished d) ≤ rd′ (field Number d) = rw (upd-same rd (field Finished d) w) (omega arith) in
-        (locks, inRecord Finished w, near n rd′ d g k j 1 locks Finish (before-kept n rd rd′ d g k j (quiet-finished n rd d w) f b) o (omega arith, r .1, r .2, λ m. upd-same rd (field Finished d) w))
+        let f : rd′ (field Finished d) ≤ rd′ (field Number d) = rw (upd-same rd (field Finished d) w) (omega arith) in (
+          locks,
+          inRecord Finished w,
+          near n rd′ d g k j 1 locks Finish (before-kept n rd rd′ d g k j (quiet-finished n rd d w) f b) o
+              (omega arith, r .1, r .2, λ m. upd-same rd (field Finished d) w),
+        )
     finish-turn (suc zero) r =
         let rd′ = upd rd (field Pc d) 0 in
-        let s : Sectioned n rd′ d = record { valid = b .sectioned .valid; numbered = b .sectioned .numbered; unfinished = b .sectioned .unfinished } in
-        (locks, inRecord Pc 0, subst (λ (m : ℕ). Phase n rd′ d g (on k 2) m 0) (sym (r .2 ∙ none)) (ended k s (upd-same rd (field Pc d) 0) (b .owned ∙ none) (r .1 ∙ none) (b .below) o))
+        let s : Sectioned n rd′ d = record { valid = b .sectioned .valid; numbered = b .sectioned .numbered; unfinished = b .sectioned .unfinished } in (
+          locks,
+          inRecord Pc 0,
+          subst (λ (m : ℕ). Phase n rd′ d g (on k 2) m 0) (sym (r .2 ∙ none))
+              (ended k s (upd-same rd (field Pc d) 0) (b .owned ∙ none) (r .1 ∙ none) (b .below) o),
+        )
     finish-turn (suc (suc t)) r = absurd (let l = r .0 in omega arith)
 
   -- ---- all of them

@@ -37,7 +37,8 @@ use Rattle.claims.proofs.OrderBlock.{Block, on-begun, turns-calls, turn
 use Rattle.claims.proofs.Frame.{eval-same}
 
 -- the words of a list after one changed, where a function changes alike
-filled-alike : (l : List ℕ) (size i v : ℕ) (f : ℕ → ℕ) → length l ≡ size → ((j : ℕ) → j < size → getD l j 0 ≡ f j) → (j : ℕ) → j < size → getD (set l i v) j 0 ≡ cond (eqb j i) v (f j)
+filled-alike : (l : List ℕ) (size i v : ℕ) (f : ℕ → ℕ) → length l ≡ size → ((j : ℕ) → j < size → getD l j 0 ≡ f j) → (j : ℕ) → j < size
+    → getD (set l i v) j 0 ≡ cond (eqb j i) v (f j)
 filled-alike l size i v f e h j g = by (ℕ-discrete j i)
   where
     by : Dec (j ≡ i) → getD (set l i v) j 0 ≡ cond (eqb j i) v (f j)
@@ -68,7 +69,8 @@ module _
 
   assign-wrote : Wrote mark n D w rd d (operand d a) result (on (k + 1) 0) cur (w .trace .taken)
   assign-wrote =
-      log-turns mark n D w rd d cur (w .trace .taken) k 0 (Assign a x) (operand d a) (λ (m : Memory). eval (wordIn n m d) x) (on (k + 1) 0) (start-view mark n D w s gs E d dl W) dl
+      log-turns mark n D w rd d cur (w .trace .taken) k 0 (Assign a x) (operand d a) (λ (m : Memory). eval (wordIn n m d) x) (on (k + 1) 0)
+      (start-view mark n D w s gs E d dl W) dl
       (here mark n D w s gs E d dl W (Assign a x) o) assign-logs (operand-valid n d a D dl reach) (λ q. omega arith)
       (λ z. ap (λ (f : ℕ → ℕ). eval f x) (reads-kept n rd (upd rd (field (spareAddr n rd d) d) z) d (quiet-spare-addr n rd d z)))
 
@@ -87,28 +89,39 @@ module _
   next-held = W .held ∙ sym (after-assign (codeIn n rd d) k a x o)
 
   -- the cell is the result
-  to-cell : a < 512 → operand d a ≡ cell a → Even mark n D (play mark n (turnsOf 4 d) w) (state (set (s .cells) a result) (set (s .queues) d (job (W .first .code) (suc k) (W .first .own) (W .first .held) ∷ map (start n) (gs d)))) gs
+  to-cell : a < 512 → operand d a ≡ cell a
+      → Even mark n D (play mark n (turnsOf 4 d) w)
+      (state (set (s .cells) a result) (set (s .queues) d (job (W .first .code) (suc k) (W .first .own) (W .first .held) ∷ map (start n) (gs d)))) gs
   to-cell l p =
       let N = assign-wrote .noted in
-      even-after mark n D w s gs E d (play mark n (turnsOf 4 d) w) (upd before (cell a) result) (on (suc k) 0) (w .trace .taken) gs (set (s .cells) a result) _ (assign-view (cell a) p) dl (λ e h. refl)
+      even-after mark n D w s gs E d (play mark n (turnsOf 4 d) w) (upd before (cell a) result) (on (suc k) 0) (w .trace .taken) gs (set (s .cells) a result) _
+      (assign-view (cell a) p) dl (λ e h. refl)
       (λ e h. record { fields = N .fields e h; steps = N .steps e; owns = N .owns e })
-      (inr (works-on n rd (upd before (cell a) result) d _ _ (gs d) W (suc k) (W .first .own) (W .first .held) (N .count) (N .steps d) (N .number) next-below (W .size)
+      (inr (works-on n rd (upd before (cell a) result) d _ _ (gs d) W (suc k) (W .first .own) (W .first .held) (N .count) (N .steps d) (N .number) next-below
+      (W .size)
       (λ i h. W .words i h ∙ sym (N .owns d i)) next-held (N .owned ∙ (W .owned ∙ sym (W .held))) (N .intent ∙ (W .intent ∙ sym (W .held)))))
-      (owning-kept D rd (upd before (cell a) result) (heldsOf (s .queues)) d (W .first .held) (N .locks) (sym (mine-held mark n D w s gs E d dl W)) (E .level .owning))
+      (owning-kept D rd (upd before (cell a) result) (heldsOf (s .queues)) d (W .first .held) (N .locks) (sym (mine-held mark n D w s gs E d dl W))
+      (E .level .owning))
       (length-set (s .cells) a result ∙ E .level .size)
       (filled-alike (s .cells) 512 a result (λ (y : ℕ). before (cell y)) (E .level .size) (λ y h. E .level .cells y h ∙ sym (N .cells y)))
 
   -- the own word is
-  to-own : (i : ℕ) → i < n → operand d a ≡ own d i → Even mark n D (play mark n (turnsOf 4 d) w) (onto s d (job (W .first .code) (suc k) (set (W .first .own) i result) (W .first .held)) (map (start n) (gs d))) gs
+  to-own : (i : ℕ) → i < n → operand d a ≡ own d i
+      → Even mark n D (play mark n (turnsOf 4 d) w)
+      (onto s d (job (W .first .code) (suc k) (set (W .first .own) i result) (W .first .held)) (map (start n) (gs d))) gs
   to-own i l p =
       let N = assign-wrote .noted in
-      even-after mark n D w s gs E d (play mark n (turnsOf 4 d) w) (upd before (own d i) result) (on (suc k) 0) (w .trace .taken) gs (s .cells) _ (assign-view (own d i) p) dl (λ e h. refl)
+      even-after mark n D w s gs E d (play mark n (turnsOf 4 d) w) (upd before (own d i) result) (on (suc k) 0) (w .trace .taken) gs (s .cells) _
+      (assign-view (own d i) p) dl (λ e h. refl)
       (λ e h. record { fields = N .fields e h; steps = N .steps e; owns = λ j. rw (ne-eqb e d h) (N .owns e j) })
-      (inr (works-on n rd (upd before (own d i) result) d _ _ (gs d) W (suc k) (set (W .first .own) i result) (W .first .held) (N .count) (N .steps d) (N .number) next-below
+      (inr (works-on n rd (upd before (own d i) result) d _ _ (gs d) W (suc k) (set (W .first .own) i result) (W .first .held) (N .count) (N .steps d)
+      (N .number) next-below
       (length-set (W .first .own) i result ∙ W .size)
-      (λ j h. rw (eq-eqb d d refl) (filled-alike (W .first .own) n i result (λ (y : ℕ). before (own d y)) (W .size) (λ y g. W .words y g ∙ sym (N .owns d y)) j h))
+      (λ j h. rw (eq-eqb d d refl) (filled-alike (W .first .own) n i result (λ (y : ℕ). before (own d y)) (W .size) (λ y g. W .words y g ∙ sym (N .owns d y)) j
+      h))
       next-held (N .owned ∙ (W .owned ∙ sym (W .held))) (N .intent ∙ (W .intent ∙ sym (W .held)))))
-      (owning-kept D rd (upd before (own d i) result) (heldsOf (s .queues)) d (W .first .held) (N .locks) (sym (mine-held mark n D w s gs E d dl W)) (E .level .owning))
+      (owning-kept D rd (upd before (own d i) result) (heldsOf (s .queues)) d (W .first .held) (N .locks) (sym (mine-held mark n D w s gs E d dl W))
+      (E .level .owning))
       (E .level .size)
       (λ y h. E .level .cells y h ∙ sym (N .cells y))
 
@@ -127,7 +140,8 @@ module _
   pub assign-block : Block mark n D w d (assigned s d (W .first) (map (start n) (gs d)) a (eval (readIn (s .cells) (W .first .own)) x)) gs
   assign-block =
       let e : eval (readIn (s .cells) (W .first .own)) x ≡ result =
-      eval-same n (heldAt n rd d k) (readIn (s .cells) (W .first .own)) (wordIn n rd d) (λ y c. reads-alike mark n D w s gs E d dl W y) x (W .valid .operands k a x (W .below) o) (expr-range n (rd (step d k)) a x (W .valid .ranges k (W .below)) o)
+      eval-same n (heldAt n rd d k) (readIn (s .cells) (W .first .own)) (wordIn n rd d) (λ y c. reads-alike mark n D w s gs E d dl W y) x
+      (W .valid .operands k a x (W .below) o) (expr-range n (rd (step d k)) a x (W .valid .ranges k (W .below)) o)
       in
       subst (λ (v : ℕ). Block mark n D w d (assigned s d (W .first) (map (start n) (gs d)) a v) gs) (sym e)
       (record {

@@ -66,7 +66,8 @@ pub owning-same : (D : ℕ) (rd rd′ : Memory) (locks : ℕ → ℕ) → ((b : 
 owning-same D rd rd′ locks same O = record { locked = λ b d l p h. same b ∙ O .locked b d l p h; owner = λ b d l h. O .owner b d l (sym (same b) ∙ h) }
 
 -- the owner words and what worker d holds stay
-pub owning-kept : (D : ℕ) (rd rd′ : Memory) (locks : ℕ → ℕ) (d m : ℕ) → ((b : ℕ) → rd′ (lock b) ≡ rd (lock b)) → m ≡ locks d → Owning D rd locks → Owning D rd′ (but locks d m)
+pub owning-kept : (D : ℕ) (rd rd′ : Memory) (locks : ℕ → ℕ) (d m : ℕ) → ((b : ℕ) → rd′ (lock b) ≡ rd (lock b)) → m ≡ locks d → Owning D rd locks
+    → Owning D rd′ (but locks d m)
 owning-kept D rd rd′ locks d m same e O =
     rw e (subst (Owning D rd′) (sym (fun-ext (but-self locks d))) (owning-same D rd rd′ locks same O))
 
@@ -139,14 +140,17 @@ module _
     unfolding jump-to
     jump-even =
         let q = eqb (wordIn n rd d a) 0 in
-        even-after mark n D w s gs E d (play mark n (turnsOf 1 d) w) rd (on jump-to 0) (w .trace .taken) gs (s .cells) (job (W .first .code) jump-to (W .first .own) (W .first .held) ∷ map (start n) (gs d))
+        even-after mark n D w s gs E d (play mark n (turnsOf 1 d) w) rd (on jump-to 0) (w .trace .taken) gs (s .cells)
+        (job (W .first .code) jump-to (W .first .own) (W .first .held) ∷ map (start n) (gs d))
         jump-view dl (λ e h. refl) (λ e h. record { fields = λ f. refl; steps = λ i. refl; owns = λ i. refl })
-        (inr (works-on n rd rd d _ _ (gs d) W jump-to (W .first .own) (W .first .held) refl (λ i. refl) refl (jump-below q) (W .size) (W .words) (W .held ∙ jump-held q) (W .owned ∙ sym (W .held)) (W .intent ∙ sym (W .held))))
+        (inr (works-on n rd rd d _ _ (gs d) W jump-to (W .first .own) (W .first .held) refl (λ i. refl) refl (jump-below q) (W .size) (W .words)
+        (W .held ∙ jump-held q) (W .owned ∙ sym (W .held)) (W .intent ∙ sym (W .held))))
         (owning-kept D rd rd (heldsOf (s .queues)) d (W .first .held) (λ b. refl) (sym mine-held) (E .level .owning))
         (E .level .size) (E .level .cells)
 
     pub jump-block :
-        Block mark n D w d (onto s d (job (W .first .code) (cond (eqb (readIn (s .cells) (W .first .own) a) 0) b (suc k)) (W .first .own) (W .first .held)) (map (start n) (gs d))) gs
+        Block mark n D w d (onto s d (job (W .first .code) (cond (eqb (readIn (s .cells) (W .first .own) a) 0) b (suc k)) (W .first .own) (W .first .held))
+        (map (start n) (gs d))) gs
     unfolding jump-to
     jump-block =
         let r = reads-alike a (jump-range n (rd (step d k)) a b (W .valid .ranges k (W .below)) o) in
@@ -183,9 +187,12 @@ module _
         let c1 = codes-same n rd told d k Finish refl (λ i. refl) c in
         let c2 = codes-same n told undone d k Finish refl (λ i. refl) c1 in
         let cur = cursorAt (w .world .cursors) in
-        let v1 = turn-stored mark n D w rd d (on k 0) cur (w .trace .taken) start-view dl (field Finished d) (rd (field Number d)) (on k 1) (turn-op n rd d k 0 Finish (c .valid) (c .below) (c .op) (omega arith)) (lt-ltb d D dl) (λ q. omega arith) in
-        let v2 = turn-stored mark n D _ told d (on k 1) cur (w .trace .taken) v1 dl (field Pc d) 0 (on k 2) (turn-op n told d k 1 Finish (c1 .valid) (c1 .below) (c1 .op) (omega arith)) (lt-ltb d D dl) (λ q. omega arith) in
-        turn-stored mark n D _ undone d (on k 2) cur (w .trace .taken) v2 dl (field Count d) 0 idle (turn-op n undone d k 2 Finish (c2 .valid) (c2 .below) (c2 .op) (omega arith)) (lt-ltb d D dl) tt
+        let v1 = turn-stored mark n D w rd d (on k 0) cur (w .trace .taken) start-view dl (field Finished d) (rd (field Number d)) (on k 1)
+        (turn-op n rd d k 0 Finish (c .valid) (c .below) (c .op) (omega arith)) (lt-ltb d D dl) (λ q. omega arith) in
+        let v2 = turn-stored mark n D _ told d (on k 1) cur (w .trace .taken) v1 dl (field Pc d) 0 (on k 2)
+        (turn-op n told d k 1 Finish (c1 .valid) (c1 .below) (c1 .op) (omega arith)) (lt-ltb d D dl) (λ q. omega arith) in
+        turn-stored mark n D _ undone d (on k 2) cur (w .trace .taken) v2 dl (field Count d) 0 idle
+        (turn-op n undone d k 2 Finish (c2 .valid) (c2 .below) (c2 .op) (omega arith)) (lt-ltb d D dl) tt
 
     finish-even : Even mark n D (play mark n (turnsOf 3 d) w) (state (s .cells) (set (s .queues) d (map (start n) (gs d)))) gs
     finish-even =
@@ -206,7 +213,8 @@ module _
           numbers = rw (upd-same rd (field Finished d) (rd (field Number d))) (W .numbers);
           room = rw (upd-same rd (field Finished d) (rd (field Number d))) (W .room);
         }))
-        (owning-kept D rd emptied (heldsOf (s .queues)) d (heldOf (map (start n) (gs d))) (λ b. refl) (waiting-held n (gs d) ∙ sym (mine-held ∙ (W .held ∙ finish-none))) (E .level .owning))
+        (owning-kept D rd emptied (heldsOf (s .queues)) d (heldOf (map (start n) (gs d))) (λ b. refl)
+        (waiting-held n (gs d) ∙ sym (mine-held ∙ (W .held ∙ finish-none))) (E .level .owning))
         (E .level .size) (E .level .cells)
 
     pub finish-block : Block mark n D w d (state (s .cells) (set (s .queues) d (map (start n) (gs d)))) gs

@@ -67,7 +67,8 @@ unfolding advance
 no-queue s t d e h = none-some (rw e at h)
 
 module _
-    (mark n D : ℕ) (w : Traced) (s t : State) (gs : ℕ → List Given) (E : Even mark n D w s gs) (able : (e : ℕ) → e < D → Able n e (gs e)) (least : 8 ≤ n) (most : n ≤ 64) (d : ℕ)
+    (mark n D : ℕ) (w : Traced) (s t : State) (gs : ℕ → List Given) (E : Even mark n D w s gs) (able : (e : ℕ) → e < D → Able n e (gs e)) (least : 8 ≤ n)
+    (most : n ≤ 64) (d : ℕ)
     (goes : advance s d ≡ some t) where
   entry-worker : d < D
   entry-worker = by (decLt d D)
@@ -91,7 +92,8 @@ module _
 
   -- a submit, and the first instruction's turns
   module _
-      (idles : Idles n (at n (w .world .image)) d (cursorAt (w .world .cursors) d) (getD (s .queues) d []) (gs d)) (g : Given) (rest : List Given) (waits : gs d ≡ g ∷ rest) (fits : Able n d (g ∷ rest)) where
+      (idles : Idles n (at n (w .world .image)) d (cursorAt (w .world .cursors) d) (getD (s .queues) d []) (gs d)) (g : Given) (rest : List Given)
+      (waits : gs d ≡ g ∷ rest) (fits : Able n d (g ∷ rest)) where
     abbrev submitting : Move
     submitting = submitNext mark n D w s gs E d entry-worker least most idles g rest waits (fits .0)
 
@@ -110,7 +112,8 @@ module _
     after-others : (e : ℕ) → e ≢ d → cursorAt (after .world .cursors) e ≡ cursorAt (w .world .cursors) e
     after-others = next-view mark n D w s gs E d entry-worker least most idles g rest waits (fits .0) .others
 
-    submit-block : Stand n (at n (after .world .image)) d (cursorAt (after .world .cursors) d) (getD (s .queues) d []) (but gs d rest d) → Block mark n D after d t (but gs d rest)
+    submit-block : Stand n (at n (after .world .image)) d (cursorAt (after .world .cursors) d) (getD (s .queues) d []) (but gs d rest d)
+        → Block mark n D after d t (but gs d rest)
     submit-block (inl i) =
         let a : cursorAt (after .world .cursors) d ≡ on 0 0 = after-mine in
         let b : cursorAt (after .world .cursors) d ≡ idle = i .cursor in
@@ -123,7 +126,14 @@ module _
         let few = view-few mark n D w _ d idle _ _ (even-view mark n D w s gs E d idle (idles .cursor)) entry-worker in
         let dl = entry-worker in
         let r = next-room mark n D w s gs E d entry-worker least most idles g rest waits (fits .0) in
-        rw (lt-ltb d (2 ^ 64) (omega arith), lt-ltb (at n (w .world .image) (field Finished d) + 1) (2 ^ 64) (omega arith), eq-eqb (length (g .args)) 8 (fits .0 .eight), fits .0 .arg-words, fits .0 .code-words)
+        rw (
+          lt-ltb d (2 ^ 64) (omega arith),
+          lt-ltb (at n (w .world .image) (field Finished d) + 1) (2 ^ 64) (omega arith),
+          eq-eqb (length (g .args)) 8
+              (fits .0 .eight),
+          fits .0 .arg-words,
+          fits .0 .code-words,
+        )
 
     submit-entry : EntryHad mark n D w d t gs
     unfolding play machine
@@ -136,11 +146,14 @@ module _
           rests = but gs d rest;
           able = λ e l. changed (λ (x : ℕ) (l : List Given). Able n x l) gs d rest (fits .1) e (λ h. able e l);
           even = b .even;
-          kept = λ e. ap (λ (l : List Given). ofWorker e l ++ but gs d rest e) (b .entered ∙ after-entered) ∙ kept-one d (w .trace .taken) rest g gs (fits .0 .by) waits e;
+          kept =
+              λ e. ap (λ (l : List Given). ofWorker e l ++ but gs d rest e) (b .entered ∙ after-entered) ∙ kept-one d (w .trace .taken) rest g gs (fits .0 .by)
+              waits e;
           begun = λ h. block-begun mark n D after d t (but gs d rest) b (λ e p. rw (after-others e p) (h e));
         }
 
-  private-entry : Stand n (at n (w .world .image)) d (cursorAt (w .world .cursors) d) (getD (s .queues) d []) (gs d) → (l : List Given) → gs d ≡ l → EntryHad mark n D w d t gs
+  private-entry : Stand n (at n (w .world .image)) d (cursorAt (w .world .cursors) d) (getD (s .queues) d []) (gs d) → (l : List Given) → gs d ≡ l
+      → EntryHad mark n D w d t gs
   private-entry (inl i) [] e = absurd (no-queue s t d (i .queue ∙ ap (map (start n)) e) goes)
   private-entry (inl i) (g ∷ rest) e = submit-entry i g rest e (subst (Able n d) e (able d entry-worker))
   private-entry (inr W) l e = from-block (step-block mark n D w s t gs E d entry-worker W goes)

@@ -56,14 +56,23 @@ pub admitted-able : (mark n D d : ℕ) (gs : List Given) → admissible mark n D
 admitted-able mark n D d [] h = tt
 admitted-able mark n D d (g ∷ gs) h = by (admitted-able mark n D d gs) (eqb (g .worker) d) refl
   where
-    tests : (eqb (length (g .args)) 8 ≡ true) × (areWords (g .args) ≡ true) × (areWords (g .code) ≡ true) × (passes (check n (length (g .code)) (codeOf (g .code))) ≡ true) × (admissible mark n D gs ≡ true)
+    tests : (eqb (length (g .args)) 8 ≡ true) × (areWords (g .args) ≡ true) × (areWords (g .code) ≡ true) ×
+        (passes (check n (length (g .code)) (codeOf (g .code))) ≡ true) × (admissible mark n D gs ≡ true)
     tests =
-        private-six (ltb (g .worker) D) (eqb (length (g .args)) 8) (areWords (g .args)) (areWords (g .code)) (passes (check n (length (g .code)) (codeOf (g .code)))) (admissible mark n D gs) h
+        private-six (ltb (g .worker) D) (eqb (length (g .args)) 8) (areWords (g .args)) (areWords (g .code))
+        (passes (check n (length (g .code)) (codeOf (g .code)))) (admissible mark n D gs) h
 
     by : (admissible mark n D gs ≡ true → Able n d (ofWorker d gs)) → (b : Bool) → eqb (g .worker) d ≡ b → Able n d (cond b (g ∷ ofWorker d gs) (ofWorker d gs))
     by more true e =
         let t = tests in (
-          record { by = eqb-true (g .worker) d e; eight = eqb-true (length (g .args)) 8 (t .0); arg-words = t .1; code-words = t .2; passed = passed-is (check n (length (g .code)) (codeOf (g .code))) (t .3) },
+          record {
+            by = eqb-true (g .worker) d e;
+            eight = eqb-true (length (g .args)) 8 (t .0);
+            arg-words = t .1;
+            code-words = t .2;
+            passed = passed-is
+                (check n (length (g .code)) (codeOf (g .code))) (t .3);
+          },
           more (t .4),
         )
     by more false e = more (tests .4)

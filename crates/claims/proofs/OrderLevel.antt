@@ -149,8 +149,10 @@ stand-same n rd rd′ e c q gs b (inr w) =
 
 module _ (n : ℕ) (rd rd′ : Memory) (d : ℕ) (c : Cursor) (q : List Job) (gs : List Given) (w : Works n rd d c q gs) where
   pub works-on :
-      (k : ℕ) (ow : List ℕ) (h : ℕ) → rd′ (field Count d) ≡ rd (field Count d) → ((i : ℕ) → rd′ (step d i) ≡ rd (step d i)) → rd′ (field Number d) ≡ rd (field Number d)
-      → k < rd (field Count d) → length ow ≡ n → ((i : ℕ) → i < n → getD ow i 0 ≡ rd′ (own d i)) → h ≡ heldAt n rd d k → rd′ (field Owned d) ≡ h → rd′ (field Intent d) ≡ h
+      (k : ℕ) (ow : List ℕ) (h : ℕ) → rd′ (field Count d) ≡ rd (field Count d) → ((i : ℕ) → rd′ (step d i) ≡ rd (step d i))
+      → rd′ (field Number d) ≡ rd (field Number d)
+      → k < rd (field Count d) → length ow ≡ n → ((i : ℕ) → i < n → getD ow i 0 ≡ rd′ (own d i)) → h ≡ heldAt n rd d k → rd′ (field Owned d) ≡ h → rd′
+      (field Intent d) ≡ h
       → Works n rd′ d (on k 0) (job (w .first .code) k ow h ∷ map (start n) gs) gs
   works-on k ow h count steps number below size words held owned intent =
       let same = held ∙ sym (held-cong (codeIn n rd′ d) (codeIn n rd d) k (λ j l. steps j)) in
@@ -183,7 +185,8 @@ private-held D qs d q many dl e = by (ℕ-discrete e d)
 pub level-but :
     (n D : ℕ) (rd rd′ : Memory) (cur cur′ : ℕ → Cursor) (s : State) (gs gs′ : ℕ → List Given) (d : ℕ) (cells : List ℕ) (q : List Job)
     → Level n D rd cur s gs → d < D → ((e : ℕ) → e ≢ d → cur′ e ≡ cur e) → ((e : ℕ) → e ≢ d → gs′ e ≡ gs e) → ((e : ℕ) → e ≢ d → Beside rd rd′ e)
-    → Stand n rd′ d (cur′ d) q (gs′ d) → Owning D rd′ (but (heldsOf (s .queues)) d (heldOf q)) → length cells ≡ 512 → ((x : ℕ) → x < 512 → getD cells x 0 ≡ rd′ (cell x))
+    → Stand n rd′ d (cur′ d) q (gs′ d) → Owning D rd′ (but (heldsOf (s .queues)) d (heldOf q)) → length cells ≡ 512 →
+    ((x : ℕ) → x < 512 → getD cells x 0 ≡ rd′ (cell x))
     → Level n D rd′ cur′ (state cells (set (s .queues) d q)) gs′
 level-but n D rd rd′ cur cur′ s gs gs′ d cells q L dl curs rests beside mine O size same =
     record {
@@ -198,18 +201,23 @@ level-but n D rd rd′ cur cur′ s gs gs′ d cells q L dl curs rests beside mi
     by e l (yes p) =
         subst (λ (f : ℕ). Stand n rd′ f (cur′ f) (getD (set (s .queues) d q) f []) (gs′ f)) (sym p)
         (rw (getD-set-same (s .queues) d q [] (rw (L .many) dl)) mine)
-    by e l (no p) = rw (getD-set-other (s .queues) d e q [] p, curs e p, rests e p) (stand-same n rd rd′ e (cur e) (getD (s .queues) e []) (gs e) (beside e p) (L .stands e l))
+    by e l (no p) =
+        rw (getD-set-other (s .queues) d e q [] p, curs e p, rests e p)
+        (stand-same n rd rd′ e (cur e) (getD (s .queues) e []) (gs e) (beside e p) (L .stands e l))
 
 -- ---- from views to worlds and back
 
 module _ (mark n D : ℕ) (w : Traced) (s : State) (gs : ℕ → List Given) (E : Even mark n D w s gs) (d : ℕ) where
-  pub even-view : (c : Cursor) → cursorAt (w .world .cursors) d ≡ c → View mark n D w (at n (w .world .image)) d c (cursorAt (w .world .cursors)) (w .trace .taken)
+  pub even-view : (c : Cursor) → cursorAt (w .world .cursors) d ≡ c
+      → View mark n D w (at n (w .world .image)) d c (cursorAt (w .world .cursors)) (w .trace .taken)
   even-view c e = record { header = E .header; many = E .many; full = E .full; memory = refl; mine = e; others = λ f h. refl; entered = refl }
 
   pub even-after :
       (v : Traced) (rd′ : Memory) (c : Cursor) (taken : List Given) (gs′ : ℕ → List Given) (cells : List ℕ) (q : List Job)
-      → View mark n D v rd′ d c (cursorAt (w .world .cursors)) taken → d < D → ((e : ℕ) → e ≢ d → gs′ e ≡ gs e) → ((e : ℕ) → e ≢ d → Beside (at n (w .world .image)) rd′ e)
-      → Stand n rd′ d c q (gs′ d) → Owning D rd′ (but (heldsOf (s .queues)) d (heldOf q)) → length cells ≡ 512 → ((x : ℕ) → x < 512 → getD cells x 0 ≡ rd′ (cell x))
+      → View mark n D v rd′ d c (cursorAt (w .world .cursors)) taken → d < D → ((e : ℕ) → e ≢ d → gs′ e ≡ gs e) →
+      ((e : ℕ) → e ≢ d → Beside (at n (w .world .image)) rd′ e)
+      → Stand n rd′ d c q (gs′ d) → Owning D rd′ (but (heldsOf (s .queues)) d (heldOf q)) → length cells ≡ 512 →
+      ((x : ℕ) → x < 512 → getD cells x 0 ≡ rd′ (cell x))
       → Even mark n D v (state cells (set (s .queues) d q)) gs′
   even-after v rd′ c taken gs′ cells q view dl rests beside mine O size same =
       record {
@@ -217,6 +225,7 @@ module _ (mark n D : ℕ) (w : Traced) (s : State) (gs : ℕ → List Given) (E 
         many = view .many;
         full = view .full;
         level = subst (λ (m : Memory). Level n D m (cursorAt (v .world .cursors)) (state cells (set (s .queues) d q)) gs′) (sym (view .memory))
-            (level-but n D (at n (w .world .image)) rd′ (cursorAt (w .world .cursors)) (cursorAt (v .world .cursors)) s gs gs′ d cells q (E .level) dl (view .others) rests beside
+            (level-but n D (at n (w .world .image)) rd′ (cursorAt (w .world .cursors)) (cursorAt (v .world .cursors)) s gs gs′ d cells q (E .level) dl
+            (view .others) rests beside
             (rw (view .mine) mine) O size same);
       }

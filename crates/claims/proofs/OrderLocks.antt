@@ -100,11 +100,14 @@ module _
     unfolding play
     acquire-wrote =
         let c = here mark n D w s gs E d dl W (Acquire a) o in
-        let v1 = turn-stored mark n D w rd d (on k 0) cur (w .trace .taken) (start-view mark n D w s gs E d dl W) dl (field Intent d) (with (rd (field Intent d)) a) (on k 1)
+        let v1 = turn-stored mark n D w rd d (on k 0) cur (w .trace .taken) (start-view mark n D w s gs E d dl W) dl (field Intent d)
+        (with (rd (field Intent d)) a) (on k 1)
         (turn-op n rd d k 0 (Acquire a) (c .valid) (c .below) (c .op) (omega arith)) (lt-ltb d D dl) (λ q. omega arith) in
-        let v2 = turn-stored mark n D _ intended d (on k 1) cur (w .trace .taken) v1 dl (lock a) (d + 1) (on k 2) acquire-second (lt-ltb a 64 acquire-small) (λ q. omega arith) in
+        let v2 = turn-stored mark n D _ intended d (on k 1) cur (w .trace .taken) v1 dl (lock a) (d + 1) (on k 2) acquire-second (lt-ltb a 64 acquire-small)
+        (λ q. omega arith) in
         let c2 = codes-same n intended locked d k (Acquire a) refl (λ i. refl) intended-codes in
-        log-turns mark n D _ locked d cur (w .trace .taken) k 2 (Acquire a) (field Owned d) (λ (m : Memory). with (m (field Owned d)) a) (on (k + 1) 0) v2 dl c2 acquire-logs
+        log-turns mark n D _ locked d cur (w .trace .taken) k 2 (Acquire a) (field Owned d) (λ (m : Memory). with (m (field Owned d)) a) (on (k + 1) 0) v2 dl c2
+        acquire-logs
         (lt-ltb d D dl) (λ q. omega arith) (λ z. ap (λ (m : ℕ). with m a) (spare-addr-other n locked d z Owned refl refl))
 
     abbrev acquired : Memory
@@ -121,7 +124,8 @@ module _
     acquire-works =
         let N = acquire-wrote .noted in
         works-on n rd acquired d _ _ (gs d) W (suc k) (W .first .own) (with (W .first .held) a) (N .count) (N .steps d) (N .number)
-        (step-behind n (rd (field Count d)) (codeIn n rd d) (W .valid) k (Acquire a) (W .below) o refl) (W .size) (λ i l. W .words i l ∙ sym (N .owns d i)) grown
+        (step-behind n (rd (field Count d)) (codeIn n rd d) (W .valid) k (Acquire a) (W .below) o refl) (W .size) (λ i l. W .words i l ∙ sym (N .owns d i))
+        grown
         (upd-same (acquire-wrote .before) (field Owned d) (with (rd (field Owned d)) a) ∙ ap (λ (m : ℕ). with m a) (W .owned ∙ sym (W .held)))
         (N .intent ∙ (upd-same rd (field Intent d) (with (rd (field Intent d)) a) ∙ ap (λ (m : ℕ). with m a) (W .intent ∙ sym (W .held))))
 
@@ -130,14 +134,16 @@ module _
         let N = acquire-wrote .noted in
         record {
           fields = λ f.
-              field-other (acquire-wrote .before) d e Owned f (with (rd (field Owned d)) a) h ∙ (N .fields e h f ∙ field-other rd d e Intent f (with (rd (field Intent d)) a) h);
+              field-other (acquire-wrote .before) d e Owned f (with (rd (field Owned d)) a) h ∙
+              (N .fields e h f ∙ field-other rd d e Intent f (with (rd (field Intent d)) a) h);
           steps = λ i. N .steps e i;
           owns = λ i. N .owns e i;
         }
 
     acquire-owning : Owning D acquired (but (heldsOf (s .queues)) d (with (W .first .held) a))
     acquire-owning =
-        let t = touched-owning n D rd (heldsOf (s .queues)) d (lock a) (d + 1) (with (heldsOf (s .queues) d) a) dl (E .level .owning) (takes a acquire-small zeroed) in
+        let t = touched-owning n D rd (heldsOf (s .queues)) d (lock a) (d + 1) (with (heldsOf (s .queues) d) a) dl (E .level .owning)
+        (takes a acquire-small zeroed) in
         owning-same D (upd rd (lock a) (d + 1)) acquired _ (acquire-wrote .noted .locks)
         (subst (λ (m : ℕ). Owning D (upd rd (lock a) (d + 1)) (but (heldsOf (s .queues)) d (with m a))) (mine-held mark n D w s gs E d dl W) t)
 
@@ -147,7 +153,9 @@ module _
           moves = turnsOf 6 d;
           by-worker = turns-calls 6 d;
           words = turns-words 6 d (small mark n D w s gs E d dl W);
-          even = even-after mark n D w s gs E d (play mark n (turnsOf 6 d) w) acquired (on (suc k) 0) (w .trace .taken) gs (s .cells) _ acquire-view dl (λ e h. refl) acquire-beside (inr acquire-works) acquire-owning
+          even =
+              even-after mark n D w s gs E d (play mark n (turnsOf 6 d) w) acquired (on (suc k) 0) (w .trace .taken) gs (s .cells) _ acquire-view dl
+              (λ e h. refl) acquire-beside (inr acquire-works) acquire-owning
               (E .level .size) (λ x l. E .level .cells x l ∙ sym (acquire-wrote .noted .cells x));
           entered = acquire-view .entered;
           others = acquire-view .others;
@@ -168,8 +176,10 @@ module _
 
     release-wrote : Wrote mark n D w rd d (field Owned d) (without (rd (field Owned d)) a) (on k 4) cur (w .trace .taken)
     release-wrote =
-        log-turns mark n D w rd d cur (w .trace .taken) k 0 (Release a) (field Owned d) (λ (m : Memory). without (m (field Owned d)) a) (on k 4) (start-view mark n D w s gs E d dl W) dl
-        (here mark n D w s gs E d dl W (Release a) o) release-logs (lt-ltb d D dl) (λ q. omega arith) (λ z. ap (λ (m : ℕ). without m a) (spare-addr-other n rd d z Owned refl refl))
+        log-turns mark n D w rd d cur (w .trace .taken) k 0 (Release a) (field Owned d) (λ (m : Memory). without (m (field Owned d)) a) (on k 4)
+        (start-view mark n D w s gs E d dl W) dl
+        (here mark n D w s gs E d dl W (Release a) o) release-logs (lt-ltb d D dl) (λ q. omega arith)
+        (λ z. ap (λ (m : ℕ). without m a) (spare-addr-other n rd d z Owned refl refl))
 
     abbrev disowned : Memory
     disowned = upd (release-wrote .before) (field Owned d) (without (rd (field Owned d)) a)
@@ -181,7 +191,8 @@ module _
     released = upd unlocked (field Intent d) (without (unlocked (field Intent d)) a)
 
     disowned-codes : Codes n disowned d k (Release a)
-    disowned-codes = codes-same n rd disowned d k (Release a) (release-wrote .noted .count) (release-wrote .noted .steps d) (here mark n D w s gs E d dl W (Release a) o)
+    disowned-codes =
+        codes-same n rd disowned d k (Release a) (release-wrote .noted .count) (release-wrote .noted .steps d) (here mark n D w s gs E d dl W (Release a) o)
 
     release-fifth : turnAt n disowned d (on k 4) ≡ stored (lock a) 0 (on k 5)
     release-fifth =
@@ -194,7 +205,8 @@ module _
     unfolding play
     release-view =
         let c = codes-same n disowned unlocked d k (Release a) refl (λ i. refl) disowned-codes in
-        let v5 = turn-stored mark n D _ disowned d (on k 4) cur (w .trace .taken) (release-wrote .view) dl (lock a) 0 (on k 5) release-fifth (lt-ltb a 64 release-small) (λ q. omega arith) in
+        let v5 = turn-stored mark n D _ disowned d (on k 4) cur (w .trace .taken) (release-wrote .view) dl (lock a) 0 (on k 5) release-fifth
+        (lt-ltb a 64 release-small) (λ q. omega arith) in
         rw (add-one k) at
         (turn-stored mark n D _ unlocked d (on k 5) cur (w .trace .taken) v5 dl (field Intent d) (without (unlocked (field Intent d)) a) (on (k + 1) 0)
         (turn-op n unlocked d k 5 (Release a) (c .valid) (c .below) (c .op) (omega arith)) (lt-ltb d D dl) (λ q. omega arith))
@@ -206,7 +218,8 @@ module _
     release-works =
         let N = release-wrote .noted in
         works-on n rd released d _ _ (gs d) W (suc k) (W .first .own) (without (W .first .held) a) (N .count) (N .steps d) (N .number)
-        (step-behind n (rd (field Count d)) (codeIn n rd d) (W .valid) k (Release a) (W .below) o refl) (W .size) (λ i l. W .words i l ∙ sym (N .owns d i)) shrunk
+        (step-behind n (rd (field Count d)) (codeIn n rd d) (W .valid) k (Release a) (W .below) o refl) (W .size) (λ i l. W .words i l ∙ sym (N .owns d i))
+        shrunk
         (upd-same (release-wrote .before) (field Owned d) (without (rd (field Owned d)) a) ∙ ap (λ (m : ℕ). without m a) (W .owned ∙ sym (W .held)))
         (upd-same unlocked (field Intent d) (without (unlocked (field Intent d)) a) ∙ ap (λ (m : ℕ). without m a) (N .intent ∙ (W .intent ∙ sym (W .held))))
 
@@ -226,7 +239,8 @@ module _
 
     release-owning : Owning D released (but (heldsOf (s .queues)) d (without (W .first .held) a))
     release-owning =
-        let t = touched-owning n D rd (heldsOf (s .queues)) d (lock a) 0 (without (heldsOf (s .queues) d) a) dl (E .level .owning) (frees a release-small has-lock) in
+        let t = touched-owning n D rd (heldsOf (s .queues)) d (lock a) 0 (without (heldsOf (s .queues) d) a) dl (E .level .owning)
+        (frees a release-small has-lock) in
         owning-same D (upd rd (lock a) 0) released _ release-locks
         (subst (λ (m : ℕ). Owning D (upd rd (lock a) 0) (but (heldsOf (s .queues)) d (without m a))) (mine-held mark n D w s gs E d dl W) t)
 
@@ -236,7 +250,9 @@ module _
           moves = turnsOf 6 d;
           by-worker = turns-calls 6 d;
           words = turns-words 6 d (small mark n D w s gs E d dl W);
-          even = even-after mark n D w s gs E d (play mark n (turnsOf 6 d) w) released (on (suc k) 0) (w .trace .taken) gs (s .cells) _ release-view dl (λ e h. refl) release-beside (inr release-works) release-owning
+          even =
+              even-after mark n D w s gs E d (play mark n (turnsOf 6 d) w) released (on (suc k) 0) (w .trace .taken) gs (s .cells) _ release-view dl
+              (λ e h. refl) release-beside (inr release-works) release-owning
               (E .level .size) (λ x l. E .level .cells x l ∙ sym (release-wrote .noted .cells x));
           entered = release-view .entered;
           others = release-view .others;

@@ -39,12 +39,14 @@ pub record Codes (n : ℕ) (rd : Memory) (d k : ℕ) (x : Op) : Type 0 where
   pub op : opOf (rd (step d k)) ≡ x
 
 pub valid-same :
-    (n : ℕ) (rd rd′ : Memory) (d : ℕ) → rd′ (field Count d) ≡ rd (field Count d) → ((i : ℕ) → rd′ (step d i) ≡ rd (step d i)) → Valid n (rd (field Count d)) (codeIn n rd d)
+    (n : ℕ) (rd rd′ : Memory) (d : ℕ) → rd′ (field Count d) ≡ rd (field Count d) → ((i : ℕ) → rd′ (step d i) ≡ rd (step d i))
+    → Valid n (rd (field Count d)) (codeIn n rd d)
     → Valid n (rd′ (field Count d)) (codeIn n rd′ d)
 valid-same n rd rd′ d c s v = subst₂ (λ (k : ℕ) (f : Code). Valid n k f) (sym c) (sym (fun-ext s)) v
 
 pub codes-same :
-    (n : ℕ) (rd rd′ : Memory) (d k : ℕ) (x : Op) → rd′ (field Count d) ≡ rd (field Count d) → ((i : ℕ) → rd′ (step d i) ≡ rd (step d i)) → Codes n rd d k x → Codes n rd′ d k x
+    (n : ℕ) (rd rd′ : Memory) (d k : ℕ) (x : Op) → rd′ (field Count d) ≡ rd (field Count d) → ((i : ℕ) → rd′ (step d i) ≡ rd (step d i)) → Codes n rd d k x
+    → Codes n rd′ d k x
 codes-same n rd rd′ d k x c s h = record { valid = valid-same n rd rd′ d c s (h .valid); below = rw c (h .below); op = ap opOf (s k) ∙ h .op }
 
 -- the memories differ at most in words of worker d's log
@@ -71,7 +73,8 @@ module _ (n : ℕ) (rd : Memory) (d x v y : ℕ) where
   abbrev valued : Memory
   valued = upd addressed (field (spareVal n addressed d) d) v
 
-  private-noted : (f : Field) → sameField f Addr0 ≡ false → sameField f Addr1 ≡ false → sameField f Val0 ≡ false → sameField f Val1 ≡ false → valued (field f d) ≡ rd (field f d)
+  private-noted : (f : Field) → sameField f Addr0 ≡ false → sameField f Addr1 ≡ false → sameField f Val0 ≡ false → sameField f Val1 ≡ false
+      → valued (field f d) ≡ rd (field f d)
   private-noted f a b c e = spare-val-other n addressed d v f c e ∙ spare-addr-other n rd d x f a b
 
   noted : LogOnly rd (upd valued (field Pc d) y) d
@@ -82,7 +85,8 @@ module _ (n : ℕ) (rd : Memory) (d x v y : ℕ) where
         owned = private-noted Owned refl refl refl refl;
         number = private-noted Number refl refl refl refl;
         finished = private-noted Finished refl refl refl refl;
-        fields = λ e h f. field-other valued d e Pc f y h ∙ (field-other addressed d e (spareVal n addressed d) f v h ∙ field-other rd d e (spareAddr n rd d) f x h);
+        fields =
+            λ e h f. field-other valued d e Pc f y h ∙ (field-other addressed d e (spareVal n addressed d) f v h ∙ field-other rd d e (spareAddr n rd d) f x h);
         steps = λ e i. refl;
         owns = λ e i. refl;
         cells = λ c. refl;
@@ -124,9 +128,12 @@ log-turns mark n D w rd d cur taken k t x p val next v0 dl c logs ok say same =
     let c3 : Codes n rd3 d k x = codes-same n rd2 rd3 d k x refl (λ i. refl) c2 in
     let ok-field : (f : Field) → valid D n (field f d) ≡ true = λ f. lt-ltb d D dl in
     let t0 = turn-op n rd d k t x (c .valid) (c .below) (c .op) (omega arith) ∙ logs .address rd in
-    let v1 = turn-stored mark n D w rd d (on k t) cur taken v0 dl (field (spareAddr n rd d) d) ix (on k (t + 1)) t0 (ok-field (spareAddr n rd d)) (λ q. omega arith) in
-    let t1 = turn-op n rd1 d k (t + 1) x (c1 .valid) (c1 .below) (c1 .op) (omega arith) ∙ (logs .value rd1 ∙ ap (λ (z : ℕ). stored (field (spareVal n rd1 d) d) z (on k (t + 1 + 1))) (same ix)) in
-    let v2 = turn-stored mark n D _ rd1 d (on k (t + 1)) cur taken v1 dl (field (spareVal n rd1 d) d) (val rd) (on k (t + 1 + 1)) t1 (ok-field (spareVal n rd1 d)) (λ q. omega arith) in
+    let v1 = turn-stored mark n D w rd d (on k t) cur taken v0 dl (field (spareAddr n rd d) d) ix (on k (t + 1)) t0 (ok-field (spareAddr n rd d))
+    (λ q. omega arith) in
+    let t1 = turn-op n rd1 d k (t + 1) x (c1 .valid) (c1 .below) (c1 .op) (omega arith) ∙
+    (logs .value rd1 ∙ ap (λ (z : ℕ). stored (field (spareVal n rd1 d) d) z (on k (t + 1 + 1))) (same ix)) in
+    let v2 = turn-stored mark n D _ rd1 d (on k (t + 1)) cur taken v1 dl (field (spareVal n rd1 d) d) (val rd) (on k (t + 1 + 1)) t1
+    (ok-field (spareVal n rd1 d)) (λ q. omega arith) in
     let t2 = turn-op n rd2 d k (t + 1 + 1) x (c2 .valid) (c2 .below) (c2 .op) (omega arith) ∙ logs .pc rd2 in
     let v3 = turn-stored mark n D _ rd2 d (on k (t + 1 + 1)) cur taken v2 dl (field Pc d) y (on k (t + 1 + 1 + 1)) t2 (ok-field Pc) (λ q. omega arith) in
     let e : rd3 (field (activeVal n rd3 d) d) ≡ val rd = next-value n rd2 d k small ∙ spare-val-now n rd1 d (val rd) in

@@ -33,7 +33,8 @@ module _
   private-front : opOf (getD (W .first .code) (W .first .next) 0) ≡ opOf (at n (w .world .image) (step d (W .first .next)))
   private-front = ap opOf (W .code (W .first .next) (W .below))
 
-  private-block : (x : Op) → opOf (at n (w .world .image) (step d (W .first .next))) ≡ x → whole s d (W .first) (map (start n) (gs d)) x ≡ some t → Block mark n D w d t gs
+  private-block : (x : Op) → opOf (at n (w .world .image) (step d (W .first .next))) ≡ x → whole s d (W .first) (map (start n) (gs d)) x ≡ some t
+      → Block mark n D w d t gs
   private-block (Acquire a) o e = by (taken (s .queues) a) refl
     where
       by : (b : Bool) → taken (s .queues) a ≡ b → Block mark n D w d t gs
@@ -46,4 +47,6 @@ module _
   private-block Unknown o e = absurd (none-some e)
 
   pub step-block : advance s d ≡ some t → Block mark n D w d t gs
-  step-block e = private-block (opOf (at n (w .world .image) (step d (W .first .next)))) refl (sym (advance-op s d (W .first) (map (start n) (gs d)) (W .queue) (opOf (at n (w .world .image) (step d (W .first .next)))) private-front) ∙ e)
+  step-block e =
+      private-block (opOf (at n (w .world .image) (step d (W .first .next)))) refl
+      (sym (advance-op s d (W .first) (map (start n) (gs d)) (W .queue) (opOf (at n (w .world .image) (step d (W .first .next)))) private-front) ∙ e)

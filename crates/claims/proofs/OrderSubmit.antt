@@ -50,7 +50,8 @@ Able n d [] = Unit {0}
 Able n d (g ∷ gs) = Fit n d g × Able n d gs
 
 module _ (mark n D : ℕ) (w : Traced) (rd : Memory) (d : ℕ) (cur : ℕ → Cursor) (taken : List Given) (view : View mark n D w rd d idle cur taken) (dl : d < D)
-    (k : ℕ) (args ws : List ℕ) (count : rd (field Count d) ≡ 0) (pc : rd (field Pc d) ≡ 0) (later : rd (field Finished d) < k) (passed : check n (length ws) (codeOf ws) ≡ Pass) where
+    (k : ℕ) (args ws : List ℕ) (count : rd (field Count d) ≡ 0) (pc : rd (field Pc d) ≡ 0) (later : rd (field Finished d) < k)
+    (passed : check n (length ws) (codeOf ws) ≡ Pass) where
   submit-free : free n (lent mark n (2 ^ 64 - 1) w .world) d ≡ true
   unfolding free
   submit-free = rw (view .mine, view .memory, eq-eqb (rd (field Count d)) 0 count, eq-eqb (rd (field Pc d)) 0 pc)
@@ -59,7 +60,8 @@ module _ (mark n D : ℕ) (w : Traced) (rd : Memory) (d : ℕ) (cur : ℕ → Cu
   unfolding submitAnswer
   submit-taken = rw (view .header, view .many, lt-ltb d D dl, submit-free, view .memory, lt-ltb (rd (field Finished d)) k later, passed)
 
-  submit-memory : 8 ≤ n → n ≤ 64 → length args ≡ 8 → at n (putAll n (2 ^ 64 - 1) (w .world .image) (submission n d k args ws)) ≡ updAll rd (submission n d k args ws)
+  submit-memory : 8 ≤ n → n ≤ 64 → length args ≡ 8
+      → at n (putAll n (2 ^ 64 - 1) (w .world .image) (submission n d k args ws)) ≡ updAll rd (submission n d k args ws)
   submit-memory least most eight =
       let c = check-parts n (length ws) (codeOf ws) passed .1 in
       let z = submission-length n d k args ws eight least in
@@ -92,7 +94,8 @@ laid-works :
 laid-works n rd rd′ d k g gs least fit laid intent owned numbers room =
     let parts = check-parts n (length (g .code)) (codeOf (g .code)) (fit .passed) in
     let l = parts .0 in
-    let same : check n (length (g .code)) (codeIn n rd′ d) ≡ Pass = check-cong n (length (g .code)) (codeIn n rd′ d) (codeOf (g .code)) (laid .code-words) ∙ fit .passed in
+    let same : check n (length (g .code)) (codeIn n rd′ d) ≡ Pass = check-cong n (length (g .code)) (codeIn n rd′ d) (codeOf (g .code)) (laid .code-words) ∙ fit
+    .passed in
     let z = held-zero (codeIn n rd′ d) in
     let full = own-size n (g .args) least (fit .eight) in
     record {
@@ -113,7 +116,8 @@ laid-works n rd rd′ d k g gs least fit laid intent owned numbers room =
 
 module _
     (mark n D : ℕ) (w : Traced) (s : State) (gs : ℕ → List Given) (E : Even mark n D w s gs) (d : ℕ) (dl : d < D) (least : 8 ≤ n) (most : n ≤ 64)
-    (idles : Idles n (at n (w .world .image)) d (cursorAt (w .world .cursors) d) (getD (s .queues) d []) (gs d)) (g : Given) (rest : List Given) (waits : gs d ≡ g ∷ rest) (fit : Fit n d g) where
+    (idles : Idles n (at n (w .world .image)) d (cursorAt (w .world .cursors) d) (getD (s .queues) d []) (gs d)) (g : Given) (rest : List Given)
+    (waits : gs d ≡ g ∷ rest) (fit : Fit n d g) where
   abbrev rd : Memory
   rd = at n (w .world .image)
 
@@ -143,7 +147,8 @@ module _
   next-view =
       let same : given d nextNumber (g .args) (g .code) ≡ g = ap (λ (e : ℕ). given e nextNumber (g .args) (g .code)) (sym (fit .by)) ∙ next-numbers .0 in
       subst (λ (x : Given). View mark n D (move mark n submitNext w) laid-in d (on 0 0) (cursorAt (w .world .cursors)) (w .trace .taken ++ (x ∷ []))) same
-      (submit-view mark n D w rd d (cursorAt (w .world .cursors)) (w .trace .taken) (even-view mark n D w s gs E d idle (idles .cursor)) dl nextNumber (g .args) (g .code)
+      (submit-view mark n D w rd d (cursorAt (w .world .cursors)) (w .trace .taken) (even-view mark n D w s gs E d idle (idles .cursor)) dl nextNumber (g .args)
+      (g .code)
       (idles .count) (idles .pc) (omega arith) (fit .passed) least most (fit .eight))
 
   private-queue : getD (s .queues) d [] ≡ map (start n) (g ∷ rest)
@@ -155,7 +160,8 @@ module _
       let works = laid-works n rd laid-in d nextNumber g rest least fit laid (idles .intent) (idles .owned) (sym (next-numbers .1)) next-room in
       let q = getD (s .queues) d [] in
       subst (λ (qs : List (List Job)). Even mark n D (move mark n submitNext w) (state (s .cells) qs) (but gs d rest)) (set-getD (s .queues) d [])
-      (even-after mark n D w s gs E d (move mark n submitNext w) laid-in (on 0 0) (w .trace .taken ++ (g ∷ [])) (but gs d rest) (s .cells) q next-view dl (λ e h. but-other gs d rest e h)
+      (even-after mark n D w s gs E d (move mark n submitNext w) laid-in (on 0 0) (w .trace .taken ++ (g ∷ [])) (but gs d rest) (s .cells) q next-view dl
+      (λ e h. but-other gs d rest e h)
       (λ e h. record { fields = laid .fields e h; steps = laid .steps e h; owns = laid .owns e h })
       (inr (rw (but-same gs d rest, private-queue) works))
       (owning-kept D rd laid-in (heldsOf (s .queues)) d (heldOf q) (laid .locks) refl (E .level .owning))

@@ -37,7 +37,8 @@ private-taken : (b : Bool) (g : Trace) (d : ℕ) (t : Bool) → cond b (recordin
 private-taken true g d t = refl
 private-taken false g d t = refl
 
-module _ (mark n D : ℕ) (w : Traced) (rd : Memory) (d : ℕ) (c : Cursor) (cur : ℕ → Cursor) (taken : List Given) (view : View mark n D w rd d c cur taken) (dl : d < D) where
+module _ (mark n D : ℕ) (w : Traced) (rd : Memory) (d : ℕ) (c : Cursor) (cur : ℕ → Cursor) (taken : List Given) (view : View mark n D w rd d c cur taken)
+    (dl : d < D) where
   pub view-sized : Sized n D (w .world .image)
   view-sized = subst (λ (k : ℕ). Sized n k (w .world .image)) (view .many) (header-sized mark n (w .world .image) (view .header))
 

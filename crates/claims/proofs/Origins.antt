@@ -82,7 +82,8 @@ pub data Origin (n : ℕ) (rd : Memory) (d : ℕ) (g : Given) : ℕ → ℕ → 
   began : Lodged n rd d g → rd (field Pc d) ≡ 0 → Origin n rd d g 0 0
   -- its step s is over
   after :
-      (s k j : ℕ) → Named n rd d s → rd (targetOf d (opAt n rd d s)) ≡ rd (field (activeVal n rd d) d) → Jumps n rd d (suc s) j k → heldAt n rd d k ≡ heldAt n rd d (suc s)
+      (s k j : ℕ) → Named n rd d s → rd (targetOf d (opAt n rd d s)) ≡ rd (field (activeVal n rd d) d) → Jumps n rd d (suc s) j k → heldAt n rd d k ≡ heldAt n
+      rd d (suc s)
       → Origin n rd d g k j
 
 module _ (n : ℕ) (rd rd′ : Memory) (d : ℕ) (q : Quiet n rd rd′ d) where
@@ -122,7 +123,8 @@ pub record Before (n : ℕ) (rd : Memory) (d : ℕ) (g : Given) (k j : ℕ) : Ty
   pub owned : rd (field Owned d) ≡ heldAt n rd d k
 
 pub before-kept :
-    (n : ℕ) (rd rd′ : Memory) (d : ℕ) (g : Given) (k j : ℕ) → Quiet n rd rd′ d → rd′ (field Finished d) ≤ rd′ (field Number d) → Before n rd d g k j → Before n rd′ d g k j
+    (n : ℕ) (rd rd′ : Memory) (d : ℕ) (g : Given) (k j : ℕ) → Quiet n rd rd′ d → rd′ (field Finished d) ≤ rd′ (field Number d) → Before n rd d g k j
+    → Before n rd′ d g k j
 before-kept n rd rd′ d g k j q l b =
     record {
       sectioned = sectioned-kept n rd rd′ d (q .keeps) (q .number) l (b .sectioned);
@@ -141,7 +143,8 @@ module _ (n : ℕ) (rd : Memory) (d : ℕ) (g : Given) where
   private-near t locks s (after i k j m done js e) l o r = between i k t locks j s m done js l o e r
 
   -- the phase at turn t of step k
-  pub near : (k j t locks : ℕ) (x : Op) → Before n rd d g k j → opAt n rd d k ≡ x → Nearing n rd d k t (heldAt n rd d k) locks x → Phase n rd d g (on k t) locks j
+  pub near : (k j t locks : ℕ) (x : Op) → Before n rd d g k j → opAt n rd d k ≡ x → Nearing n rd d k t (heldAt n rd d k) locks x
+      → Phase n rd d g (on k t) locks j
   near k j t locks x b o r =
       private-near t locks (b .sectioned) (b .origin) (b .below) (b .owned) (subst (λ (y : Op). Nearing n rd d k t (heldAt n rd d k) locks y) (sym o) r)
 

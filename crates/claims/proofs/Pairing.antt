@@ -34,33 +34,39 @@ use Rattle.claims.proofs.Pending.{pend, Passes, Pends, pends-turn}
 unfoldable pub PairedAt : ℕ → List Given → List Given → ℕ → Cursor → Given → Type 0
 PairedAt e taken begun pc c g = ofWorker e taken ≡ ofWorker e begun ++ cond (pend pc c) (g ∷ []) []
 
-pub paired-as : (e : ℕ) (taken begun : List Given) (pc pc′ : ℕ) (c c′ : Cursor) (g : Given) → PairedAt e taken begun pc c g → pc ≡ pc′ → c ≡ c′ → PairedAt e taken begun pc′ c′ g
+pub paired-as : (e : ℕ) (taken begun : List Given) (pc pc′ : ℕ) (c c′ : Cursor) (g : Given) → PairedAt e taken begun pc c g → pc ≡ pc′ → c ≡ c′
+    → PairedAt e taken begun pc′ c′ g
 paired-as e taken begun pc pc′ c c′ g x p q = subst (λ (y : Cursor). PairedAt e taken begun pc′ y g) q (subst (λ (y : ℕ). PairedAt e taken begun y c g) p x)
 
 -- what is pending stays so
-paired-still : (e : ℕ) (taken begun : List Given) (pc : ℕ) (c c′ : Cursor) (g : Given) → PairedAt e taken begun pc c g → pend pc c ≡ pend pc c′ → PairedAt e taken begun pc c′ g
+paired-still : (e : ℕ) (taken begun : List Given) (pc : ℕ) (c c′ : Cursor) (g : Given) → PairedAt e taken begun pc c g → pend pc c ≡ pend pc c′
+    → PairedAt e taken begun pc c′ g
 unfolding PairedAt
 paired-still e taken begun pc c c′ g x p = rw (← p) x
 
 -- nothing is pending
-pub paired-none : (e : ℕ) (taken begun : List Given) (pc : ℕ) (c : Cursor) (g : Given) → PairedAt e taken begun pc c g → pend pc c ≡ false → ofWorker e taken ≡ ofWorker e begun
+pub paired-none : (e : ℕ) (taken begun : List Given) (pc : ℕ) (c : Cursor) (g : Given) → PairedAt e taken begun pc c g → pend pc c ≡ false
+    → ofWorker e taken ≡ ofWorker e begun
 unfolding PairedAt
 paired-none e taken begun pc c g x p = x ∙ rw p (append-nil (ofWorker e begun))
 
 -- the pc is stored: what was pending is begun
 paired-begins :
-    (e : ℕ) (taken begun : List Given) (pc : ℕ) (c : Cursor) (g : Given) (v : ℕ) (c′ : Cursor) → PairedAt e taken begun pc c g → Passes pc c v c′ true → (pc ≡ 0 → g .worker ≡ e)
+    (e : ℕ) (taken begun : List Given) (pc : ℕ) (c : Cursor) (g : Given) (v : ℕ) (c′ : Cursor) → PairedAt e taken begun pc c g → Passes pc c v c′ true
+    → (pc ≡ 0 → g .worker ≡ e)
     → PairedAt e taken (cond (eqb pc 0) (begun ++ (g ∷ [])) begun) v c′ g
 unfolding PairedAt
 paired-begins e taken begun pc c g v c′ x (p, q) own = by (eqb pc 0) refl (rw p at x)
   where
-    by : (b : Bool) → eqb pc 0 ≡ b → ofWorker e taken ≡ ofWorker e begun ++ cond b (g ∷ []) [] → ofWorker e taken ≡ ofWorker e (cond b (begun ++ (g ∷ [])) begun) ++ cond (pend v c′) (g ∷ []) []
+    by : (b : Bool) → eqb pc 0 ≡ b → ofWorker e taken ≡ ofWorker e begun ++ cond b (g ∷ []) []
+        → ofWorker e taken ≡ ofWorker e (cond b (begun ++ (g ∷ [])) begun) ++ cond (pend v c′) (g ∷ []) []
     by true h y = rw (q, append-nil, of-snoc-same e begun g (own (eqb-true pc 0 h))) y
     by false h y = rw q y
 
 -- a section of another worker is begun, or none
 paired-other :
-    (e : ℕ) (taken begun : List Given) (pc : ℕ) (c : Cursor) (g h : Given) (d : ℕ) (b : Bool) → e ≢ d → (b ≡ true → h .worker ≡ d) → PairedAt e taken begun pc c g
+    (e : ℕ) (taken begun : List Given) (pc : ℕ) (c : Cursor) (g h : Given) (d : ℕ) (b : Bool) → e ≢ d → (b ≡ true → h .worker ≡ d)
+    → PairedAt e taken begun pc c g
     → PairedAt e taken (cond b (begun ++ (h ∷ [])) begun) pc c g
 unfolding PairedAt
 paired-other e taken begun pc c g h d true i own x = rw (of-snoc-other e begun h (λ q. i (sym q ∙ own refl))) x
@@ -70,7 +76,8 @@ paired-other e taken begun pc c g h d false i own x = x
 
 module _ (mark n D : ℕ) (cells : List ℕ) where
   abbrev pub Paired : Traced → Type 0
-  Paired w = (e : ℕ) → e < D → PairedAt e (w .trace .taken) (w .trace .begun) (at n (w .world .image) (field Pc e)) (cursorAt (w .world .cursors) e) (w .trace .last e)
+  Paired w = (e : ℕ) → e < D → PairedAt e (w .trace .taken) (w .trace .begun) (at n (w .world .image) (field Pc e)) (cursorAt (w .world .cursors) e)
+      (w .trace .last e)
 
   module _ (w : Traced) (d : ℕ) (r : Running mark n D cells w) (dl : d < D) (some-left : 0 < w .world .left) (paired : Paired w) where
     abbrev rd : Memory
@@ -97,23 +104,28 @@ module _ (mark n D : ℕ) (cells : List ℕ) where
 
     -- a store of the pc
     begins-paired :
-        (v : ℕ) (c : Cursor) → c ≡ cursorAt (placed (w .world .cursors) d c) d → Passes (rd (field Pc d)) cursor v c true → (rd (field Pc d) ≡ 0 → w .trace .last d .worker ≡ d) → (e : ℕ) → e < D
-        → PairedAt e (w .trace .taken) (cond (eqb (rd (field Pc d)) 0) (w .trace .begun ++ (w .trace .last d ∷ [])) (w .trace .begun)) (upd rd (field Pc d) v (field Pc e))
+        (v : ℕ) (c : Cursor) → c ≡ cursorAt (placed (w .world .cursors) d c) d → Passes (rd (field Pc d)) cursor v c true
+        → (rd (field Pc d) ≡ 0 → w .trace .last d .worker ≡ d) → (e : ℕ) → e < D
+        → PairedAt e (w .trace .taken) (cond (eqb (rd (field Pc d)) 0) (w .trace .begun ++ (w .trace .last d ∷ [])) (w .trace .begun))
+        (upd rd (field Pc d) v (field Pc e))
         (cursorAt (placed (w .world .cursors) d c) e) (w .trace .last e)
     begins-paired v c now p own e l = by (ℕ-discrete e d)
       where
         by : Dec (e ≡ d)
-            → PairedAt e (w .trace .taken) (cond (eqb (rd (field Pc d)) 0) (w .trace .begun ++ (w .trace .last d ∷ [])) (w .trace .begun)) (upd rd (field Pc d) v (field Pc e))
+            → PairedAt e (w .trace .taken) (cond (eqb (rd (field Pc d)) 0) (w .trace .begun ++ (w .trace .last d ∷ [])) (w .trace .begun))
+            (upd rd (field Pc d) v (field Pc e))
             (cursorAt (placed (w .world .cursors) d c) e) (w .trace .last e)
         by (yes i) =
             let x = paired-begins d (w .trace .taken) (w .trace .begun) (rd (field Pc d)) cursor (w .trace .last d) v c (paired d dl) p own in
             rw i (paired-as d _ _ _ _ _ _ _ x (rw (eq-eqb d d refl)) now)
         by (no i) =
-            let x = paired-other e (w .trace .taken) (w .trace .begun) _ _ _ (w .trace .last d) d (eqb (rd (field Pc d)) 0) i (λ h. own (eqb-true (rd (field Pc d)) 0 h)) (paired e l) in
+            let x = paired-other e (w .trace .taken) (w .trace .begun) _ _ _ (w .trace .last d) d (eqb (rd (field Pc d)) 0) i
+            (λ h. own (eqb-true (rd (field Pc d)) 0 h)) (paired e l) in
             paired-as e _ _ _ _ _ _ _ x (rw (ne-eqb e d i)) (sym (placed-other (w .world .cursors) d e c i))
 
     outcome-paired :
-        (o : Outcome) → Stepped n rd d (w .trace .last d) (r .locks d) (w .trace .jumps d) o → Mirrored n D rd (r .reached .state) (w .trace .jumps d) (w .trace .last d) d o
+        (o : Outcome) → Stepped n rd d (w .trace .last d) (r .locks d) (w .trace .jumps d) o
+        → Mirrored n D rd (r .reached .state) (w .trace .jumps d) (w .trace .last d) d o
         → Pends (rd (field Pc d)) cursor o → Paired (turnBy mark n w d o)
     outcome-paired (stored p v c) (locks′, t, ph) mi x = by (isPc p) refl x
       where
@@ -124,7 +136,9 @@ module _ (mark n D : ℕ) (cells : List ℕ) where
         now = cursor-now (upd rd p v) c locks′ (cond (isPc p) 0 (w .trace .jumps d)) ph
 
         memory : at n (put (w .world .left) (w .world .image) (indexOf n p) v) ≡ upd rd p v
-        memory = memory-store n D (w .world .image) (running-sized mark n D cells w (r .reached)) (w .world .left) p v (touches-valid n D rd d (r .locks d) p v locks′ dl t) some-left
+        memory =
+            memory-store n D (w .world .image) (running-sized mark n D cells w (r .reached)) (w .world .left) p v
+            (touches-valid n D rd d (r .locks d) p v locks′ dl t) some-left
 
         by : (b : Bool) → isPc p ≡ b → Passes (rd (field Pc d)) cursor v c b → Paired (turnBy mark n w d (stored p v c))
         by true h y e l =
@@ -142,6 +156,8 @@ module _ (mark n D : ℕ) (cells : List ℕ) where
     pub paired-turn : Paired (turnBy mark n w d (turnAt n rd d cursor))
     paired-turn =
         outcome-paired (turnAt n rd d cursor)
-        (own-turn n rd d (w .trace .last d) cursor (r .locks d) (w .trace .jumps d) (r .live .phase d dl) (λ b l h. r .live .locked b d l dl h) (λ b l h. r .live .owner b d l h .1))
-        (mirror-turn n D rd (cursorAt (w .world .cursors)) (r .locks) (w .trace .jumps) (w .trace .last) (r .live) d dl (r .reached .state) (r .reached .mirrors))
+        (own-turn n rd d (w .trace .last d) cursor (r .locks d) (w .trace .jumps d) (r .live .phase d dl) (λ b l h. r .live .locked b d l dl h)
+        (λ b l h. r .live .owner b d l h .1))
+        (mirror-turn n D rd (cursorAt (w .world .cursors)) (r .locks) (w .trace .jumps) (w .trace .last) (r .live) d dl (r .reached .state)
+        (r .reached .mirrors))
         (pends-turn n rd d (w .trace .last d) cursor (r .locks d) (w .trace .jumps d) (r .live .phase d dl))

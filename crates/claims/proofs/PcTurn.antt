@@ -65,7 +65,8 @@ module _ (n D : ℕ) (rd : Memory) (cursor : ℕ → Cursor) (locks jumps : ℕ 
   fresh-counted H p o a x h v =
       let c : 3 ≤ rd (field Count d) = sec .valid .least in
       let (S′, e, m) =
-      counts-acquire n D rd cursor locks jumps given L d l 0 (omega arith) (freed-resting n D rd d p) S M (start n (given d)) (poised-fresh H p o) (omega arith) a x
+      counts-acquire n D rd cursor locks jumps given L d l 0 (omega arith) (freed-resting n D rd d p) S M (start n (given d)) (poised-fresh H p o) (omega arith)
+      a x
       (acquire-range n (codeIn n rd d 0) a (sec .valid .ranges 0 (omega arith)) x) h (has-none a) v
       in
       (S′, rw (began-fresh H p) (follow-one (onto S d (start n (given d)) []) S′ d e), m)
@@ -123,7 +124,8 @@ module _ (n D : ℕ) (rd : Memory) (cursor : ℕ → Cursor) (locks jumps : ℕ 
         counted (switched n rd d k) (counts-release n D rd cursor locks jumps given L d l k few freed S M here poised-here below a x (rw held-here v))
 
     pub counted-assign :
-        (a : ℕ) (e : Expr) → opAt n rd d k ≡ Assign a e → rd (field (spareVal n rd d) d) ≡ eval (wordIn n rd d) e → Counted n D rd S i (given d) d (switched n rd d k)
+        (a : ℕ) (e : Expr) → opAt n rd d k ≡ Assign a e → rd (field (spareVal n rd d) d) ≡ eval (wordIn n rd d) e
+        → Counted n D rd S i (given d) d (switched n rd d k)
     counted-assign a e x v =
         let w = codeIn n rd d k in
         let r = sec .valid .ranges k below in
@@ -133,7 +135,8 @@ module _ (n D : ℕ) (rd : Memory) (cursor : ℕ → Cursor) (locks jumps : ℕ 
         (covered-guarded d (heldAt n rd d (suc s)) (locks d) a (B .within) c)
         (v
         ∙ sym
-        (eval-same n (heldAt n rd d (suc s)) (readIn (S .cells) (j .own)) (wordIn n rd d) reads e (rw (← level) (sec .valid .operands k a e below x)) (expr-range n w a e r x))))
+        (eval-same n (heldAt n rd d (suc s)) (readIn (S .cells) (j .own)) (wordIn n rd d) reads e (rw (← level) (sec .valid .operands k a e below x))
+        (expr-range n w a e r x))))
 
     pub counted-finish : opAt n rd d k ≡ Finish → Counted n D rd S i (given d) d 0
     counted-finish x = counted 0 (counts-finish n D rd cursor locks jumps given L d l k few freed S M here poised-here below x)

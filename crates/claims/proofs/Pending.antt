@@ -15,7 +15,8 @@ use Rattle.code.specs.declared.Op.the-variants.{Acquire, Release, Assign, Jump,
 use Rattle.code.specs.Op.{opOf}
 use Rattle.working.specs.Cursor.{Cursor, idle, on}
 use Rattle.working.specs.declared.Refusal.the-variants.{Cursor as CursorRefused}
-use Rattle.plan.specs.Turn.{Outcome, stored, jumped, unheld, waiting, resting, refused, operand, codeIn, logged, lockTurn, unlockTurn, acquireTurn, releaseTurn, finishTurn, opTurn, ready, turnAt}
+use Rattle.plan.specs.Turn.{Outcome, stored, jumped, unheld, waiting, resting, refused, operand, codeIn, logged, lockTurn, unlockTurn, acquireTurn, releaseTurn}
+use Rattle.plan.specs.Turn.{finishTurn, opTurn, ready, turnAt}
 use Rattle.repair.specs.Plan.{targetTurn}
 use Rattle.claims.specs.Reference.{Given}
 use Rattle.claims.specs.Calls.{isPc}
@@ -190,7 +191,8 @@ module _ (n : ℕ) (rd : Memory) (d : ℕ) (pc : ℕ) (z : pc ≡ 0) where
 -- ---- all phases
 
 module _ (n : ℕ) (rd : Memory) (d : ℕ) (g : Given) where
-  fresh-pends : (t locks : ℕ) → Sectioned n rd d → rd (field Pc d) ≡ 0 → Nearing n rd d 0 t 0 locks (opAt n rd d 0) → Pends (rd (field Pc d)) (on 0 t) (turnAt n rd d (on 0 t))
+  fresh-pends : (t locks : ℕ) → Sectioned n rd d → rd (field Pc d) ≡ 0 → Nearing n rd d 0 t 0 locks (opAt n rd d 0)
+      → Pends (rd (field Pc d)) (on 0 t) (turnAt n rd d (on 0 t))
   fresh-pends t locks sec p N =
       let (a, x) = sec .valid .first in
       let c : 3 ≤ rd (field Count d) = sec .valid .least in
@@ -198,9 +200,11 @@ module _ (n : ℕ) (rd : Memory) (d : ℕ) (g : Given) where
       let r : t ≤ 4 = K .0 in
       rw (turn-op n rd d 0 t (Acquire a) (sec .valid) (omega arith) x (omega arith)) (first-acquire n rd d (rd (field Pc d)) p a t r)
 
-  ended-pends : (s : ℕ) → Sectioned n rd d → rd (field Pc d) ≡ 0 → s < rd (field Count d) → opAt n rd d s ≡ Finish → Pends (rd (field Pc d)) (on s 2) (turnAt n rd d (on s 2))
+  ended-pends : (s : ℕ) → Sectioned n rd d → rd (field Pc d) ≡ 0 → s < rd (field Count d) → opAt n rd d s ≡ Finish
+      → Pends (rd (field Pc d)) (on s 2) (turnAt n rd d (on s 2))
   ended-pends s sec p below f =
-      rw (turn-op n rd d s 2 Finish (sec .valid) below f (omega arith)) (pend-later (rd (field Pc d)) s 2 (finish-later n rd d sec s f) ∙ sym (pend-idle (rd (field Pc d))))
+      rw (turn-op n rd d s 2 Finish (sec .valid) below f (omega arith))
+      (pend-later (rd (field Pc d)) s 2 (finish-later n rd d sec s f) ∙ sym (pend-idle (rd (field Pc d))))
 
   named-pends : (s : ℕ) (c : Cursor) → Sectioned n rd d → rd (field Pc d) % 2 ^ 63 ≡ suc s → Pends (rd (field Pc d)) c (turnAt n rd d c)
   named-pends s c sec p = begun-pends (rd (field Pc d)) c (turnAt n rd d c) (named-pc n rd d s p) (turn-ends n rd d sec c)

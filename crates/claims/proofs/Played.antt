@@ -20,7 +20,8 @@ use Rattle.turn.specs.Call.{outcomeAt, outcome}
 use Rattle.intake.specs.Submit.{submitAnswer, submitLeaves}
 use Rattle.recovery.specs.Recovery.{recovery}
 use Rattle.claims.specs.Reference.{given}
-use Rattle.claims.specs.Calls.{Traced, traced, turnBy, ranBy, rounds, submitTrace, recoveredBy, Call, submits, turns, runs, recovers, Move, whole, cut, call, lent, move, play, recovering, legal, endsCut, callable, machine}
+use Rattle.claims.specs.Calls.{Traced, traced, turnBy, ranBy, rounds, submitTrace, recoveredBy, Call, submits, turns, runs, recovers, Move, whole, cut}
+use Rattle.claims.specs.Calls.{call, lent, move, play, recovering, legal, endsCut, callable, machine}
 use Rattle.claims.proofs.LiveCrashed.{live-crashed}
 use Rattle.claims.proofs.Progress.{rankSum-most}
 use Rattle.claims.proofs.Worlds.{Reached, Running, Frozen, few, running-turn}
@@ -55,7 +56,8 @@ module _ (mark n D : ℕ) (cells : List ℕ) where
   unfolding outcome outcomeAt
   outcome-below w d r l = let e : ltb d (workers (w .world .image)) ≡ true = rw (r .many) (lt-ltb d D l) in rw (r .header, e)
 
-  pub outcome-above : (w : Traced) (d : ℕ) → Reached mark n D cells (w .world .image) (w .trace .begun) (w .trace .order) → ltb d D ≡ false → outcome mark n (w .world) d ≡ refused Worker
+  pub outcome-above : (w : Traced) (d : ℕ) → Reached mark n D cells (w .world .image) (w .trace .begun) (w .trace .order) → ltb d D ≡ false
+      → outcome mark n (w .world) d ≡ refused Worker
   unfolding outcome
   outcome-above w d r l = rw (r .header, r .many, l)
 
@@ -87,7 +89,9 @@ module _ (mark n D : ℕ) (cells : List ℕ) where
   ran-is w r h = rw (h .header, h .many)
 
   run-cut : (w : Traced) (r : ℕ) → Running mark n D cells w → Worth (ranBy mark n w r)
-  run-cut w r h = rw (ran-is w r (h .reached)) (cutting-worth _ (rounds-keep mark n D cells (Cutting mark n D cells) (λ v d l c. cutting-turned mark n D cells v d l c) r w (inl h)))
+  run-cut w r h =
+      rw (ran-is w r (h .reached)) (cutting-worth _
+      (rounds-keep mark n D cells (Cutting mark n D cells) (λ v d l c. cutting-turned mark n D cells v d l c) r w (inl h)))
 
   -- ---- each call, uncut
 
@@ -95,18 +99,22 @@ module _ (mark n D : ℕ) (cells : List ℕ) where
   plenty = 2 ^ 64 - 1
 
   submit-call : (w : Traced) (d k : ℕ) (args ws : List ℕ) → 8 ≤ n → n ≤ 64 → length args ≡ 8 → plenty ≤ w .world .left → Running mark n D cells w
-      → Running mark n D cells (traced (submitLeaves n (w .world) d k args ws (submitAnswer mark n (w .world) d k ws)) (submitTrace mark n (w .trace) (given d k args ws) (submitAnswer mark n (w .world) d k ws)))
+      → Running mark n D cells (traced (submitLeaves n (w .world) d k args ws (submitAnswer mark n (w .world) d k ws))
+      (submitTrace mark n (w .trace) (given d k args ws) (submitAnswer mark n (w .world) d k ws)))
   submit-call w d k args ws wide narrow full l r = by (submitAnswer mark n (w .world) d k ws) refl
     where
-      by : (a : Submitted) → submitAnswer mark n (w .world) d k ws ≡ a → Running mark n D cells (traced (submitLeaves n (w .world) d k args ws a) (submitTrace mark n (w .trace) (given d k args ws) a))
+      by : (a : Submitted) → submitAnswer mark n (w .world) d k ws ≡ a
+          → Running mark n D cells (traced (submitLeaves n (w .world) d k args ws a) (submitTrace mark n (w .trace) (given d k args ws) a))
       by Taken e = submit-whole mark n D cells w d k args ws wide full r (taken-as mark n (w .world) d k ws e) (w .world .left) (omega arith)
       by (Refused x) e = r
 
   submit-cut-call : (w : Traced) (d k : ℕ) (args ws : List ℕ) → 8 ≤ n → length args ≡ 8 → Running mark n D cells w
-      → Worth (traced (submitLeaves n (w .world) d k args ws (submitAnswer mark n (w .world) d k ws)) (submitTrace mark n (w .trace) (given d k args ws) (submitAnswer mark n (w .world) d k ws)))
+      → Worth (traced (submitLeaves n (w .world) d k args ws (submitAnswer mark n (w .world) d k ws))
+      (submitTrace mark n (w .trace) (given d k args ws) (submitAnswer mark n (w .world) d k ws)))
   submit-cut-call w d k args ws wide full r = by (submitAnswer mark n (w .world) d k ws) refl
     where
-      by : (a : Submitted) → submitAnswer mark n (w .world) d k ws ≡ a → Worth (traced (submitLeaves n (w .world) d k args ws a) (submitTrace mark n (w .trace) (given d k args ws) a))
+      by : (a : Submitted) → submitAnswer mark n (w .world) d k ws ≡ a
+          → Worth (traced (submitLeaves n (w .world) d k args ws a) (submitTrace mark n (w .trace) (given d k args ws) a))
       by Taken e = submit-cut mark n D cells w d k args ws wide full r (taken-as mark n (w .world) d k ws e) (w .world .left)
       by (Refused x) e = running-worth w r
 
@@ -121,7 +129,8 @@ module _ (mark n D : ℕ) (cells : List ℕ) where
       (recover-cut mark n D cells (w .world .image) (w .trace .begun) (w .trace .order) k (w .world .left))
 
   -- a call of a world that runs
-  pub whole-call : (c : Call) (w : Traced) → 8 ≤ n → n ≤ 64 → callable c ≡ true → plenty ≤ w .world .left → Running mark n D cells w → Running mark n D cells (call mark n c w)
+  pub whole-call : (c : Call) (w : Traced) → 8 ≤ n → n ≤ 64 → callable c ≡ true → plenty ≤ w .world .left → Running mark n D cells w
+      → Running mark n D cells (call mark n c w)
   unfolding call
   whole-call (submits d k args ws) w wide narrow h l r = submit-call w d k args ws wide narrow (args-full d k args ws h) l r
   whole-call (turns d) w wide narrow h l r = turn-whole w d r (omega arith)
@@ -158,20 +167,24 @@ module _ (mark n D : ℕ) (cells : List ℕ) where
   unfolding call
   recovered-cut w k = recover-cut-call w k
 
-  pub whole-good : (b : Bool) (c : Call) (w : Traced) → 8 ≤ n → n ≤ 64 → callable c ≡ true → (not b || recovering c) ≡ true → Good b w → Running mark n D cells (move mark n (whole c) w)
+  pub whole-good : (b : Bool) (c : Call) (w : Traced) → 8 ≤ n → n ≤ 64 → callable c ≡ true → (not b || recovering c) ≡ true → Good b w
+      → Running mark n D cells (move mark n (whole c) w)
   unfolding move
   whole-good false c w wide narrow h l g = whole-call c (lent mark n plenty w) wide narrow h (omega arith) (running-lent plenty w g)
-  whole-good true c w wide narrow h l g = rw (recovers-only true c l refl) (recovered (lent mark n plenty w) (record { reached = g .reached; crashed = g .crashed }) (omega arith))
+  whole-good true c w wide narrow h l g =
+      rw (recovers-only true c l refl) (recovered (lent mark n plenty w) (record { reached = g .reached; crashed = g .crashed }) (omega arith))
 
   -- what a cut leaves is worth what the image is
-  pub cut-good : (b : Bool) (k : ℕ) (c : Call) (w : Traced) → 8 ≤ n → callable c ≡ true → (not b || recovering c) ≡ true → Good b w → Worth (move mark n (cut k c) w)
+  pub cut-good : (b : Bool) (k : ℕ) (c : Call) (w : Traced) → 8 ≤ n → callable c ≡ true → (not b || recovering c) ≡ true → Good b w
+      → Worth (move mark n (cut k c) w)
   unfolding move
   cut-good false k c w wide h l g = let x = cut-call c (lent mark n k w) wide h (running-lent k w g) in record { reached = x .reached; crashed = x .crashed }
   cut-good true k c w wide h l g =
       let x = recovered-cut (lent mark n k w) (record { reached = g .reached; crashed = g .crashed }) in
       rw (recovers-only true c l refl) (record { reached = x .reached; crashed = x .crashed })
 
-  pub play-good : (b : Bool) (xs : List Move) (w : Traced) → 8 ≤ n → n ≤ 64 → machine xs ≡ true → legal b xs ≡ true → Good b w → Good (endsCut b xs) (play mark n xs w)
+  pub play-good : (b : Bool) (xs : List Move) (w : Traced) → 8 ≤ n → n ≤ 64 → machine xs ≡ true → legal b xs ≡ true → Good b w
+      → Good (endsCut b xs) (play mark n xs w)
   unfolding play legal endsCut machine
   play-good b [] w wide narrow h l g = g
   play-good b (whole c ∷ xs) w wide narrow h l g =

@@ -91,7 +91,8 @@ SumFalls n D rd cursor d resting = Unit {0}
 SumFalls n D rd cursor d (refused r) = Unit {0}
 
 private-falls :
-    (n D : ℕ) (rd : Memory) (cursor : ℕ → Cursor) (locks jumps : ℕ → ℕ) (given : ℕ → Given) (d : ℕ) (o : Outcome) → d < D → Falls n rd d (rank n rd d (cursor d)) o
+    (n D : ℕ) (rd : Memory) (cursor : ℕ → Cursor) (locks jumps : ℕ → ℕ) (given : ℕ → Given) (d : ℕ) (o : Outcome) → d < D → Falls n rd d
+    (rank n rd d (cursor d)) o
     → Went n D rd cursor locks jumps given d o → SumFalls n D rd cursor d o
 private-falls n D rd cursor locks jumps given d (stored p v c) l f (m, t, L) =
     sum-less n D rd (upd rd p v) cursor d c l f (λ e ne. rank-other n rd d (locks d) p v m t e ne (cursor e))
@@ -116,7 +117,8 @@ phase-most n rd d g c locks j (unlocked s a l k m o w i q) = rank-most n rd d _ 
 phase-most n rd d g c locks j (between s k t l jj q m f u z o h y) = rank-most n rd d _ (q .valid .most)
 phase-most n rd d g c locks j (ended s k p o i b q) = rank-most n rd d _ (k .valid .most)
 
-pub rankSum-most : (n D : ℕ) (rd : Memory) (cursor : ℕ → Cursor) (locks jumps : ℕ → ℕ) (given : ℕ → Given) → Live n D rd cursor locks jumps given → rankSum n rd cursor D ≤ 384 * D
+pub rankSum-most : (n D : ℕ) (rd : Memory) (cursor : ℕ → Cursor) (locks jumps : ℕ → ℕ) (given : ℕ → Given) → Live n D rd cursor locks jumps given
+    → rankSum n rd cursor D ≤ 384 * D
 unfolding rankSum
 rankSum-most n D rd cursor locks jumps given L =
     total-most (λ d. rank n rd d (cursor d)) 384 D (λ e l. phase-most n rd e (given e) (cursor e) (locks e) (jumps e) (L .phase e l))
@@ -176,7 +178,8 @@ module _ (n D : ℕ) (rd : Memory) (cursor : ℕ → Cursor) (locks jumps : ℕ 
         by more resting x s = (e, l, q, ap isWaiting x)
         by more (refused r) x s = absurd s
 
-    pub progress : (d : ℕ) → d < D → isIdle (cursor d) ≡ false → (e : ℕ) × (e < D) × (isIdle (cursor e) ≡ false) × (isWaiting (turnAt n rd e (cursor e)) ≡ false)
+    pub progress : (d : ℕ) → d < D → isIdle (cursor d) ≡ false
+        → (e : ℕ) × (e < D) × (isIdle (cursor e) ≡ false) × (isWaiting (turnAt n rd e (cursor e)) ≡ false)
     progress d l q = by (turnAt n rd d (cursor d)) refl (stepped d l)
       where
         by : (o : Outcome) → turnAt n rd d (cursor d) ≡ o → Stepped n rd d (given d) (locks d) (jumps d) o → Moving
@@ -221,7 +224,8 @@ private-finish n rd d s (suc (suc t)) = refl
 private-op : (n : ℕ) (rd : Memory) (d s t : ℕ) (x : Op) → isResting (opTurn n rd d s t x) ≡ false
 private-op n rd d s t (Acquire a) = private-acquire n rd d a s t
 private-op n rd d s t (Release a) =
-    private-either (ltb t 4) _ _ (private-logged n rd d s t _ _ _ t) (private-either (eqb t 4) _ _ (private-either (eqb (rd (lock a)) (d + 1)) _ _ refl refl) refl)
+    private-either (ltb t 4) _ _ (private-logged n rd d s t _ _ _ t)
+    (private-either (eqb t 4) _ _ (private-either (eqb (rd (lock a)) (d + 1)) _ _ refl refl) refl)
 private-op n rd d s t (Assign a e) = private-logged n rd d s t _ _ _ t
 private-op n rd d s t (Jump a b) = refl
 private-op n rd d s t Finish = private-finish n rd d s t
@@ -233,7 +237,8 @@ unfolding turnAt
 open-acts n rd d idle = refl
 open-acts n rd d (on s t) = private-either (ready n rd d s t) _ _ (private-op n rd d s t (opOf (codeIn n rd d s))) refl
 
-private-moves : (n : ℕ) (rd : Memory) (d : ℕ) (g : Given) (locks j : ℕ) (o : Outcome) → isResting o ≡ false → isWaiting o ≡ false → Stepped n rd d g locks j o → isMoving o ≡ true
+private-moves : (n : ℕ) (rd : Memory) (d : ℕ) (g : Given) (locks j : ℕ) (o : Outcome) → isResting o ≡ false → isWaiting o ≡ false → Stepped n rd d g locks j o
+    → isMoving o ≡ true
 private-moves n rd d g locks j (stored p v c) r w s = refl
 private-moves n rd d g locks j (jumped c) r w s = refl
 private-moves n rd d g locks j (unheld c) r w s = refl

@@ -22,7 +22,8 @@ use Rattle.code.proofs.Ranges.{turns-most}
 use Rattle.section.proofs.Steps.{place-jump}
 use Rattle.working.specs.declared.Refusal.the-variants.{Cursor as CursorRefused}
 use Rattle.working.specs.Cursor.{Cursor, idle, on}
-use Rattle.plan.specs.Turn.{Outcome, stored, jumped, unheld, waiting, resting, refused, operand, codeIn, wordIn, second, spareAddr, spareVal, logged, acquireTurn, releaseTurn, finishTurn, opTurn, ready, turnAt}
+use Rattle.plan.specs.Turn.{Outcome, stored, jumped, unheld, waiting, resting, refused, operand, codeIn, wordIn, second, spareAddr, spareVal, logged}
+use Rattle.plan.specs.Turn.{acquireTurn, releaseTurn, finishTurn, opTurn, ready, turnAt}
 
 -- ---- the turns of steps
 
@@ -230,7 +231,8 @@ finish-falls n rd d s (suc zero) I = stored-falls n rd d s 1 I _ _ _ (unranked-p
 finish-falls n rd d s (suc (suc t)) I =
     let l = later-falls n rd d s (suc (suc t)) idle I over in rw (rank-idle n (upd rd (field Count d) 0) d) (rw (rank-idle n rd d) at l)
 
-op-falls : (n : ℕ) (rd : Memory) (d s t : ℕ) (x : Op) → AtTurn n rd d s t → inPlace (rd (field Count d)) s x ≡ true → Falls n rd d (rank n rd d (on s t)) (opTurn n rd d s t x)
+op-falls : (n : ℕ) (rd : Memory) (d s t : ℕ) (x : Op) → AtTurn n rd d s t → inPlace (rd (field Count d)) s x ≡ true
+    → Falls n rd d (rank n rd d (on s t)) (opTurn n rd d s t x)
 op-falls n rd d s t (Acquire a) I i = acquire-falls n rd d s t a I
 op-falls n rd d s t (Release a) I i = release-falls n rd d s t I a
 op-falls n rd d s t (Assign a e) I i = assign-falls n rd d s t I a (eval (wordIn n rd d) e)
@@ -246,7 +248,10 @@ ready-inside n rd d s t r =
     let k = rd (field Count d) in
     let w = codeIn n rd d s in
     record {
-      below = ltb-true s k (and-right (leb 3 k && leb k 64) (ltb s k) (and-left (leb 3 k && leb k 64 && ltb s k) (wellFormed n k s w) (and-left (leb 3 k && leb k 64 && ltb s k && wellFormed n k s w) (ltb t (turnsOf w)) r)));
+      below =
+          ltb-true s k (and-right (leb 3 k && leb k 64) (ltb s k)
+          (and-left (leb 3 k && leb k 64 && ltb s k) (wellFormed n k s w)
+          (and-left (leb 3 k && leb k 64 && ltb s k && wellFormed n k s w) (ltb t (turnsOf w)) r)));
       turn = ltb-true t (turnsOf w) (and-right (leb 3 k && leb k 64 && ltb s k && wellFormed n k s w) (ltb t (turnsOf w)) r);
     }
 
@@ -255,7 +260,9 @@ unfolding ready wellFormed
 ready-placed n rd d s t r =
     let k = rd (field Count d) in
     let w = codeIn n rd d s in
-    and-right (inRange n w) (inPlace k s (opOf w)) (and-right (leb 3 k && leb k 64 && ltb s k) (wellFormed n k s w) (and-left (leb 3 k && leb k 64 && ltb s k && wellFormed n k s w) (ltb t (turnsOf w)) r))
+    and-right (inRange n w) (inPlace k s (opOf w))
+    (and-right (leb 3 k && leb k 64 && ltb s k) (wellFormed n k s w)
+    (and-left (leb 3 k && leb k 64 && ltb s k && wellFormed n k s w) (ltb t (turnsOf w)) r))
 
 -- every turn that stores or moves makes the rank smaller
 pub turn-falls : (n : ℕ) (rd : Memory) (d : ℕ) (c : Cursor) → Falls n rd d (rank n rd d c) (turnAt n rd d c)
@@ -263,7 +270,8 @@ unfolding turnAt
 turn-falls n rd d idle = tt
 turn-falls n rd d (on s t) = by (ready n rd d s t) refl
   where
-    by : (b : Bool) → ready n rd d s t ≡ b → Falls n rd d (rank n rd d (on s t)) (cond b (opTurn n rd d s t (opOf (codeIn n rd d s))) (refused (CursorRefused d)))
+    by : (b : Bool) → ready n rd d s t ≡ b
+        → Falls n rd d (rank n rd d (on s t)) (cond b (opTurn n rd d s t (opOf (codeIn n rd d s))) (refused (CursorRefused d)))
     by true e = op-falls n rd d s t (opOf (codeIn n rd d s)) (ready-inside n rd d s t e) (ready-placed n rd d s t e)
     by false e = tt
 

@@ -24,7 +24,8 @@ use Rattle.plan.specs.Turn.{codeIn, opTurn, ready, turnAt}
 
 -- ---- the tests before a turn
 
-module _ (n : ℕ) (rd : Memory) (d s t : ℕ) (x : Op) (v : Valid n (rd (field Count d)) (codeIn n rd d)) (l : s < rd (field Count d)) (o : opOf (codeIn n rd d s) ≡ x) (m : t < opTurns x) where
+module _ (n : ℕ) (rd : Memory) (d s t : ℕ) (x : Op) (v : Valid n (rd (field Count d)) (codeIn n rd d)) (l : s < rd (field Count d))
+    (o : opOf (codeIn n rd d s) ≡ x) (m : t < opTurns x) where
   ready-at : ready n rd d s t ≡ true
   unfolding ready
   ready-at =

@@ -38,8 +38,26 @@ module _ (n : ℕ) (rd rd′ : Memory) (d : ℕ) (f : Framed n rd rd′ d) where
   owed-frame = rw (f .pc, frame-op, named-cong n rd rd′ d (f .pc), frame-held (suc (namedStep n rd d)), f .owned)
 
   private-entry : (x : Op) → entryOk n rd′ d x ≡ entryOk n rd d x
-  private-entry (Acquire a) = rw (active-addr-kept n rd rd′ d (f .pc), active-val-kept n rd rd′ d (f .pc), f .addr, f .val, named-cong n rd rd′ d (f .pc), frame-held (suc (namedStep n rd d)))
-  private-entry (Release a) = rw (active-addr-kept n rd rd′ d (f .pc), active-val-kept n rd rd′ d (f .pc), f .addr, f .val, named-cong n rd rd′ d (f .pc), frame-held (suc (namedStep n rd d)))
+  private-entry (Acquire a) =
+      rw (
+        active-addr-kept n rd rd′ d (f .pc),
+        active-val-kept n rd rd′ d (f .pc),
+        f .addr,
+        f .val,
+        named-cong n rd rd′ d (f .pc),
+        frame-held
+            (suc (namedStep n rd d)),
+      )
+  private-entry (Release a) =
+      rw (
+        active-addr-kept n rd rd′ d (f .pc),
+        active-val-kept n rd rd′ d (f .pc),
+        f .addr,
+        f .val,
+        named-cong n rd rd′ d (f .pc),
+        frame-held
+            (suc (namedStep n rd d)),
+      )
   private-entry (Assign a e) = rw (active-addr-kept n rd rd′ d (f .pc), f .addr)
   private-entry (Jump a b) = refl
   private-entry Finish = refl
@@ -49,12 +67,23 @@ module _ (n : ℕ) (rd rd′ : Memory) (d : ℕ) (f : Framed n rd rd′ d) where
   pub pc-frame : (rd′ (field Count d) ≡ rd (field Count d)) ⊎ (rd (field Pc d) ≡ 0) → pcOk n rd′ d ≡ pcOk n rd d
   unfolding pcOk
   pc-frame (inl e) =
-      rw (f .pc, f .owned, e, named-cong n rd rd′ d (f .pc), frame-op, private-entry (namedOp n rd d), frame-held (namedStep n rd d), frame-held (suc (namedStep n rd d)))
+      rw (
+        f .pc,
+        f .owned,
+        e,
+        named-cong n rd rd′ d (f .pc),
+        frame-op,
+        private-entry (namedOp n rd d),
+        frame-held (namedStep n rd d),
+        frame-held
+            (suc (namedStep n rd d)),
+      )
   pc-frame (inr e) = rw (f .pc, e, f .owned)
 
   -- whether the section is right
   pub section-frame :
-      rd′ (field Count d) ≡ rd (field Count d) → rd′ (field Number d) ≡ rd (field Number d) → rd′ (field Finished d) ≡ rd (field Finished d) → sectionOk n rd′ d ≡ sectionOk n rd d
+      rd′ (field Count d) ≡ rd (field Count d) → rd′ (field Number d) ≡ rd (field Number d) → rd′ (field Finished d) ≡ rd (field Finished d) → sectionOk n rd′ d
+      ≡ sectionOk n rd d
   unfolding sectionOk
   section-frame c k g =
       rw (c, k, g, f .pc, check-cong n (rd (field Count d)) (codeIn n rd′ d) (codeIn n rd d) (λ j l. f .code j))

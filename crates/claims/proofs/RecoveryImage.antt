@@ -116,11 +116,13 @@ module _ (mark n : ℕ) (m : Image) (h : headerOk mark n m ≡ true) where
 
   -- and one that is not
   pub recovery-whole : Crashed n (workers m) (at n m) → (left : ℕ) → 592 ≤ left → (given : ℕ → Given)
-      → Live n (workers m) (at n (putAll n left m (plan n (at n m) (workers m)))) (cursorAt (resumedAll n (at n m) (workers m))) (owed n (at n m)) (λ d. 0) given
+      → Live n (workers m) (at n (putAll n left m (plan n (at n m) (workers m)))) (cursorAt (resumedAll n (at n m) (workers m))) (owed n (at n m)) (λ d. 0)
+      given
   recovery-whole c left l given =
       let few = header-workers mark n m h .1 in
       let short = plan-length n (at n m) (workers m) few in
       rw (recovery-at left, take-all left (plan n (at n m) (workers m)) (omega arith))
-      (live-cursors n (workers m) (updAll (at n m) (plan n (at n m) (workers m))) (resumed n (at n m)) (cursorAt (resumedAll n (at n m) (workers m))) (owed n (at n m)) (λ d. 0) given
+      (live-cursors n (workers m) (updAll (at n m) (plan n (at n m) (workers m))) (resumed n (at n m)) (cursorAt (resumedAll n (at n m) (workers m)))
+      (owed n (at n m)) (λ d. 0) given
       (λ d u. sym (resumed-cursor n (at n m) (workers m) d u few))
       (recovered-live n (at n m) (workers m) c given))

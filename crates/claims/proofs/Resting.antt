@@ -29,13 +29,15 @@ use Rattle.claims.proofs.Cursors.{idle-at, full-idle}
 
 -- where nothing is under way, what stands is what will
 virtual-rested : (n D : ℕ) (rd : Memory) (q : Place) → ((d : ℕ) → d < D → rd (field Pc d) ≡ 0) → virtual n rd D q ≡ rd q
-virtual-rested n D rd q h = virtual-none n rd D q (λ d l. subst (λ (e : Rattle.claims.proofs.Virtual.Entry). misses e q) (sym (entry-none n rd d (h d l))) tt)
+virtual-rested n D rd q h =
+    virtual-none n rd D q (λ d l. subst (λ (e : Rattle.claims.proofs.Virtual.Entry). misses e q) (sym (entry-none n rd d (h d l))) tt)
 
 module _ (mark n : ℕ) (m : Image) (r : Rested mark n m) where
   rested-live : (given : ℕ → Given) → Live n (workers m) (at n m) (cursorAt allIdle) (λ d. 0) (λ d. 0) given
   rested-live given =
       record {
-        phase = λ d l. let e = r .empty d l in subst (λ (c : Cursor). Phase n (at n m) d (given d) c 0 0) (sym (idle-at d)) (resting (e .0) (e .1) (e .2) (e .3));
+        phase = λ d l. let e = r .empty d l in subst (λ (c : Cursor). Phase n (at n m) d (given d) c 0 0) (sym (idle-at d))
+            (resting (e .0) (e .1) (e .2) (e .3));
         locked = λ b d l k h. absurd (true≢false (sym h ∙ has-none b));
         owner = λ b d l h. let z = r .free b l in absurd (omega arith);
       }
@@ -55,7 +57,14 @@ module _ (mark n : ℕ) (m : Image) (r : Rested mark n m) where
   unfolding initial feed
   rested-running =
       record {
-        reached = record { header = r .header; many = refl; state = state (cellsOf m) (replicate (workers m) []); followed = follow-none _; mirrors = rested-mirrors };
+        reached =
+            record {
+              header = r .header;
+              many = refl;
+              state = state (cellsOf m) (replicate (workers m) []);
+              followed = follow-none _;
+              mirrors = rested-mirrors;
+            };
         full = full-idle;
         locks = λ d. 0;
         live = rested-live _;
@@ -63,7 +72,8 @@ module _ (mark n : ℕ) (m : Image) (r : Rested mark n m) where
 
 module _ (mark n D : ℕ) (cells : List ℕ) (w : Traced) (r : Running mark n D cells w) (i : Idle mark n D (w .world .cursors)) where
   rests-at : (d : ℕ) (l : d < D) → Resting (at n (w .world .image)) d (r .locks d) (w .trace .jumps d)
-  rests-at d l = idle-rests n (at n (w .world .image)) d (w .trace .last d) (cursorAt (w .world .cursors) d) (r .locks d) (w .trace .jumps d) (r .live .phase d l) (i d l)
+  rests-at d l =
+      idle-rests n (at n (w .world .image)) d (w .trace .last d) (cursorAt (w .world .cursors) d) (r .locks d) (w .trace .jumps d) (r .live .phase d l) (i d l)
 
   -- a lock that is not free has an owner, and an idle worker has none
   free-at : (b : ℕ) → b < 64 → at n (w .world .image) (lock b) ≡ 0
@@ -93,5 +103,6 @@ module _ (mark n D : ℕ) (cells : List ℕ) (w : Traced) (r : Running mark n D 
         followed = r .reached .followed;
         ended = noneLeft-all (r .reached .state .queues) (λ d l. let k : d < D = omega (arith, M .workers) in M .none d k (rests-at d k .pc));
         same = ext-getD 0 _ _ (M .size ∙ sym (cells-length n D (w .world .image) (running-sized mark n D cells w (r .reached))))
-            (λ x l. let k : x < 512 = omega (arith, M .size) in M .cells x k ∙ (virtual-rested n D (at n (w .world .image)) (cell x) (λ d q. rests-at d q .pc) ∙ sym (cells-at n (w .world .image) x k)));
+            (λ x l. let k : x < 512 = omega (arith, M .size) in M .cells x k ∙
+            (virtual-rested n D (at n (w .world .image)) (cell x) (λ d q. rests-at d q .pc) ∙ sym (cells-at n (w .world .image) x k)));
       }

@@ -77,7 +77,8 @@ module _ (mark n D : ℕ) (cells : List ℕ) where
 
     pub steps : Stepped n rd d (w .trace .last d) (r .locks d) (w .trace .jumps d) turn
     steps =
-        own-turn n rd d (w .trace .last d) (cursorAt (w .world .cursors) d) (r .locks d) (w .trace .jumps d) (r .live .phase d dl) (λ b l h. r .live .locked b d l dl h)
+        own-turn n rd d (w .trace .last d) (cursorAt (w .world .cursors) d) (r .locks d) (w .trace .jumps d) (r .live .phase d dl)
+        (λ b l h. r .live .locked b d l dl h)
         (λ b l h. r .live .owner b d l h .1)
 
     -- the sum after worker d's cursor was placed
@@ -85,18 +86,23 @@ module _ (mark n D : ℕ) (cells : List ℕ) where
         (rd′ : Memory) (c : Cursor) (locks jumps : ℕ → ℕ) (last : ℕ → Given) → Live n D rd′ (but (cursorAt (w .world .cursors)) d c) locks jumps last
         → rankSum n rd′ (cursorAt (placed (w .world .cursors) d c)) D ≡ rankSum n rd′ (but (cursorAt (w .world .cursors)) d c) D
     placed-sum rd′ c locks jumps last L =
-        let say = subst (λ (x : Cursor). sayable x) (but-same (cursorAt (w .world .cursors)) d c) (phase-sayable n rd′ d (last d) _ (locks d) (jumps d) (L .phase d dl)) in
+        let say = subst (λ (x : Cursor). sayable x) (but-same (cursorAt (w .world .cursors)) d c)
+        (phase-sayable n rd′ d (last d) _ (locks d) (jumps d) (L .phase d dl)) in
         sum-cursors n D rd′ _ _ (λ e l. sym (cursors-placed D (w .world .cursors) d c (r .full) (few mark n D cells w (r .reached)) dl say e l))
 
     -- a turn that moves lowers the sum
-    moved : (o : Outcome) → turn ≡ o → Went n D rd (cursorAt (w .world .cursors)) (r .locks) (w .trace .jumps) (w .trace .last) d o → 0 < w .world .left → isMoving o ≡ true → sum n D (turnBy mark n w d o) < sum n D w
+    moved : (o : Outcome) → turn ≡ o → Went n D rd (cursorAt (w .world .cursors)) (r .locks) (w .trace .jumps) (w .trace .last) d o → 0 < w .world .left
+        → isMoving o ≡ true → sum n D (turnBy mark n w d o) < sum n D w
     unfolding sum
     moved (stored p v c) e g left m =
-        let q = memory-store n D (w .world .image) (running-sized mark n D cells w (r .reached)) (w .world .left) p v (touches-valid n D rd d (r .locks d) p v (g .0) dl (g .1)) left in
+        let q = memory-store n D (w .world .image) (running-sized mark n D cells w (r .reached)) (w .world .left) p v
+        (touches-valid n D rd d (r .locks d) p v (g .0) dl (g .1)) left in
         let f = sum-falls n D rd (cursorAt (w .world .cursors)) (r .locks) (w .trace .jumps) (w .trace .last) d (stored p v c) dl e g in
         rw (q, placed-sum (upd rd p v) c _ _ _ (g .2)) f
-    moved (jumped c) e g left m = rw (placed-sum rd c _ _ _ g) (sum-falls n D rd (cursorAt (w .world .cursors)) (r .locks) (w .trace .jumps) (w .trace .last) d (jumped c) dl e g)
-    moved (unheld c) e g left m = rw (placed-sum rd c _ _ _ g) (sum-falls n D rd (cursorAt (w .world .cursors)) (r .locks) (w .trace .jumps) (w .trace .last) d (unheld c) dl e g)
+    moved (jumped c) e g left m =
+        rw (placed-sum rd c _ _ _ g) (sum-falls n D rd (cursorAt (w .world .cursors)) (r .locks) (w .trace .jumps) (w .trace .last) d (jumped c) dl e g)
+    moved (unheld c) e g left m =
+        rw (placed-sum rd c _ _ _ g) (sum-falls n D rd (cursorAt (w .world .cursors)) (r .locks) (w .trace .jumps) (w .trace .last) d (unheld c) dl e g)
     moved (waiting b) e g left m = absurd (false≢true m)
     moved resting e g left m = absurd (false≢true m)
     moved (refused x) e g left m = absurd (false≢true m)
@@ -149,7 +155,12 @@ module _ (mark n D : ℕ) (cells : List ℕ) where
           let f = moving-turn w d (s .running) dl l m in
           let t = turned-left mark n D cells w d in
           let k = s .stores in
-          record { spare = record { running = running-turned mark n D cells w d dl l (s .running); stores = omega arith }; falls = λ x. f; same = λ x. absurd (true≢false (sym m ∙ x)) }
+          record {
+            spare = record { running = running-turned mark n D cells w d dl l (s .running); stores = omega arith };
+            falls = λ x. f;
+            same = λ x. absurd
+                (true≢false (sym m ∙ x));
+          }
       by true m (no l) = absurd (no-rank w d s dl m l)
       by false m l =
           let e = still-turn w d (s .running) dl m in
@@ -205,7 +216,8 @@ module _ (mark n D : ℕ) (cells : List ℕ) where
 
   -- and where one of the workers would move, it falls
   sum-falls-swept :
-      (k d : ℕ) (w : Traced) → d + k ≤ D → Spare w → (e : ℕ) → d ≤ e → e < d + k → isMoving (turnAt n (at n (w .world .image)) e (cursorAt (w .world .cursors) e)) ≡ true
+      (k d : ℕ) (w : Traced) → d + k ≤ D → Spare w → (e : ℕ) → d ≤ e → e < d + k → isMoving
+      (turnAt n (at n (w .world .image)) e (cursorAt (w .world .cursors) e)) ≡ true
       → sum n D (swept k d w) < sum n D w
   unfolding swept
   sum-falls-swept zero d w l s e x y m = absurd (omega arith)
@@ -217,32 +229,42 @@ module _ (mark n D : ℕ) (cells : List ℕ) where
       t = spare-turn w d s (omega arith)
 
       by : (d + 1 ≤ e → Noted w (turnedAt mark n w d) → sum n D (swept k (d + 1) (turnedAt mark n w d)) < sum n D (turnedAt mark n w d)) → (b : Bool)
-          → isMoving (turnAt n (at n (w .world .image)) d (cursorAt (w .world .cursors) d)) ≡ b → Dec (e ≡ d) → sum n D (swept k (d + 1) (turnedAt mark n w d)) < sum n D w
+          → isMoving (turnAt n (at n (w .world .image)) d (cursorAt (w .world .cursors) d)) ≡ b → Dec (e ≡ d) → sum n D (swept k (d + 1) (turnedAt mark n w d))
+          < sum n D w
       by more true q i = let a = sum-swept k (d + 1) (turnedAt mark n w d) (omega arith) (t .spare) in let f = t .falls q in omega arith
-      by more false q (yes i) = absurd (true≢false (sym m ∙ (ap (λ (z : ℕ). isMoving (turnAt n (at n (w .world .image)) z (cursorAt (w .world .cursors) z))) i ∙ q)))
+      by more false q (yes i) =
+          absurd (true≢false (sym m ∙ (ap (λ (z : ℕ). isMoving (turnAt n (at n (w .world .image)) z (cursorAt (w .world .cursors) z))) i ∙ q)))
       by more false q (no i) = let a = more (omega arith) (t .same q) in let b = sum-noted w (turnedAt mark n w d) (t .same q) in omega arith
 
   -- ---- a run
 
   -- an open worker: some worker moves
-  open-some : (k d : ℕ) (w : Traced) → anyOpen k d (w .world .cursors) ≡ true → (e : ℕ) × (d ≤ e) × (e < d + k) × (isIdle (cursorAt (w .world .cursors) e) ≡ false)
+  open-some : (k d : ℕ) (w : Traced) → anyOpen k d (w .world .cursors) ≡ true
+      → (e : ℕ) × (d ≤ e) × (e < d + k) × (isIdle (cursorAt (w .world .cursors) e) ≡ false)
   unfolding anyOpen
   open-some zero d w h = absurd (false≢true h)
   open-some (suc k) d w h = by (λ g. open-some k (d + 1) w g) (isIdle (cursorAt (w .world .cursors) d)) refl
     where
       by :
-          (anyOpen k (d + 1) (w .world .cursors) ≡ true → (e : ℕ) × (d + 1 ≤ e) × (e < d + 1 + k) × (isIdle (cursorAt (w .world .cursors) e) ≡ false)) → (b : Bool)
+          (anyOpen k (d + 1) (w .world .cursors) ≡ true → (e : ℕ) × (d + 1 ≤ e) × (e < d + 1 + k) × (isIdle (cursorAt (w .world .cursors) e) ≡ false)) →
+          (b : Bool)
           → isIdle (cursorAt (w .world .cursors) d) ≡ b → (e : ℕ) × (d ≤ e) × (e < d + suc k) × (isIdle (cursorAt (w .world .cursors) e) ≡ false)
       by more true q = let o = more (rw q at h) in (o .0, omega (arith, o .1), omega (arith, o .2), o .3)
       by more false q = (d, omega arith, omega arith, q)
 
-  some-moves : (w : Traced) → Running mark n D cells w → anyOpen D 0 (w .world .cursors) ≡ true → (e : ℕ) × (e < D) × (isMoving (turnAt n (at n (w .world .image)) e (cursorAt (w .world .cursors) e)) ≡ true)
+  some-moves : (w : Traced) → Running mark n D cells w → anyOpen D 0 (w .world .cursors) ≡ true
+      → (e : ℕ) × (e < D) × (isMoving (turnAt n (at n (w .world .image)) e (cursorAt (w .world .cursors) e)) ≡ true)
   some-moves w r h =
       let o = open-some D 0 w h in
       let p =
-      progress n D (at n (w .world .image)) (cursorAt (w .world .cursors)) (r .locks) (w .trace .jumps) (w .trace .last) (r .live) (λ e l. steps w e r l) (o .0) (omega (arith, o .2)) (o .3)
-      in
-      (p .0, p .1, open-moves n (at n (w .world .image)) (p .0) (w .trace .last (p .0)) (cursorAt (w .world .cursors) (p .0)) (r .locks (p .0)) (w .trace .jumps (p .0)) (p .2) (p .3) (steps w (p .0) r (p .1)))
+      progress n D (at n (w .world .image)) (cursorAt (w .world .cursors)) (r .locks) (w .trace .jumps) (w .trace .last) (r .live) (λ e l. steps w e r l) (o .0)
+      (omega (arith, o .2)) (o .3)
+      in (
+        p .0,
+        p .1,
+        open-moves n (at n (w .world .image)) (p .0) (w .trace .last (p .0)) (cursorAt (w .world .cursors) (p .0)) (r .locks (p .0))
+            (w .trace .jumps (p .0)) (p .2) (p .3) (steps w (p .0) r (p .1)),
+      )
 
   -- what a run of r rounds comes to: the sum is less by r, or nobody is open
   pub record Rounded (r : ℕ) (w v : Traced) : Type 0 where
@@ -254,13 +276,16 @@ module _ (mark n D : ℕ) (cells : List ℕ) where
   settles zero w s = record { spare = s; gone = inl (omega arith) }
   settles (suc r) w s = by (settles r (swept D 0 w) (spare-swept D 0 w (omega arith) s)) (anyOpen D 0 (w .world .cursors)) refl
     where
-      further : sum n D (swept D 0 w) < sum n D w → Rounded r (swept D 0 w) (rounds mark n r D (swept D 0 w)) → Rounded (suc r) w (rounds mark n r D (swept D 0 w))
+      further : sum n D (swept D 0 w) < sum n D w → Rounded r (swept D 0 w) (rounds mark n r D (swept D 0 w))
+          → Rounded (suc r) w (rounds mark n r D (swept D 0 w))
       further f x = record { spare = x .spare; gone = ⊎-elim (λ g. inl (omega arith)) (λ g. inr g) (x .gone) }
 
-      by : Rounded r (swept D 0 w) (rounds mark n r D (swept D 0 w)) → (b : Bool) → anyOpen D 0 (w .world .cursors) ≡ b → Rounded (suc r) w (cond (anyOpen D 0 (w .world .cursors)) (round mark n (rounds mark n r D) w 0 D) w)
+      by : Rounded r (swept D 0 w) (rounds mark n r D (swept D 0 w)) → (b : Bool) → anyOpen D 0 (w .world .cursors) ≡ b
+          → Rounded (suc r) w (cond (anyOpen D 0 (w .world .cursors)) (round mark n (rounds mark n r D) w 0 D) w)
       by x true q =
           let m = some-moves w (s .running) q in
-          rw (q, round-swept (rounds mark n r D) D 0 w (omega arith) s) (further (sum-falls-swept D 0 w (omega arith) s (m .0) (omega arith) (omega (arith, m .1)) (m .2)) x)
+          rw (q, round-swept (rounds mark n r D) D 0 w (omega arith) s)
+          (further (sum-falls-swept D 0 w (omega arith) s (m .0) (omega arith) (omega (arith, m .1)) (m .2)) x)
       by x false q = rw q (record { spare = s; gone = inr q })
 
   -- where no rank is left nobody is open
@@ -274,6 +299,7 @@ module _ (mark n D : ℕ) (cells : List ℕ) where
           let m = some-moves w r q in
           let p =
           some-rank n D (rd w (m .0) r (m .1)) (cursorAt (w .world .cursors)) (m .0) (turn w (m .0) r (m .1)) (m .2)
-          (sum-falls n D (rd w (m .0) r (m .1)) (cursorAt (w .world .cursors)) (r .locks) (w .trace .jumps) (w .trace .last) (m .0) (turn w (m .0) r (m .1)) (m .1) refl (went w (m .0) r (m .1)))
+          (sum-falls n D (rd w (m .0) r (m .1)) (cursorAt (w .world .cursors)) (r .locks) (w .trace .jumps) (w .trace .last) (m .0) (turn w (m .0) r (m .1))
+          (m .1) refl (went w (m .0) r (m .1)))
           in
           absurd (omega arith)

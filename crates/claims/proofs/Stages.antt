@@ -127,10 +127,12 @@ module _ (n D : ℕ) (rd : Memory) where
       by c u false e d i = k .names c u d i
 
   private-intent : (rd′ : Memory) (d e : ℕ) → Kept rd′
-      → (upd rd′ (field Intent d) (owed n rd d) (field Intent e) ≡ rd (field Intent e)) ⊎ (upd rd′ (field Intent d) (owed n rd d) (field Intent e) ≡ owed n rd e)
+      → (upd rd′ (field Intent d) (owed n rd d) (field Intent e) ≡ rd (field Intent e)) ⊎
+      (upd rd′ (field Intent d) (owed n rd d) (field Intent e) ≡ owed n rd e)
   private-intent rd′ d e k = by (eqb e d) refl
     where
-      by : (t : Bool) → eqb e d ≡ t → (cond t (owed n rd d) (rd′ (field Intent e)) ≡ rd (field Intent e)) ⊎ (cond t (owed n rd d) (rd′ (field Intent e)) ≡ owed n rd e)
+      by : (t : Bool) → eqb e d ≡ t
+          → (cond t (owed n rd d) (rd′ (field Intent e)) ≡ rd (field Intent e)) ⊎ (cond t (owed n rd d) (rd′ (field Intent e)) ≡ owed n rd e)
       by true i = inr (ap (owed n rd) (sym (eqb-true e d i)))
       by false i = k .intent e
 

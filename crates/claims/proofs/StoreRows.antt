@@ -57,7 +57,8 @@ module _ (P : Memory → Type 0) where
   prefix-one s rd p q (suc (suc k)) = q
 
   -- a list after another; the second may start from what holds once the first is done
-  pub prefix-append : (xs ys : List Store) (rd : Memory) → ((j : ℕ) → P (updAll rd (take j xs))) → ((j : ℕ) → P (updAll (updAll rd xs) (take j ys))) → (k : ℕ) → P (updAll rd (take k (xs ++ ys)))
+  pub prefix-append : (xs ys : List Store) (rd : Memory) → ((j : ℕ) → P (updAll rd (take j xs))) → ((j : ℕ) → P (updAll (updAll rd xs) (take j ys))) → (k : ℕ)
+      → P (updAll rd (take k (xs ++ ys)))
   prefix-append xs ys rd a b k = cut-append (λ l. P (updAll rd l)) k xs ys a (λ j. rw (updAll-append rd xs (take j ys)) (b j))
 
   pub keeps-append : (xs ys : List Store) → KeptBy P xs → KeptBy P ys → KeptBy P (xs ++ ys)
@@ -110,7 +111,8 @@ module _ (q : Place) where
         (sets-rows f (i + 1) k (λ j l m. h j (omega arith) (omega arith)) (updAll rd (f i)) (h i (omega arith) (omega arith) rd e))
 
     -- a number of the range writes it, and no other writes anything else
-    pub writes-rows : (f : ℕ → List Store) (i k : ℕ) → ((j : ℕ) → i ≤ j → j < i + k → Sets q v (f j)) → (c : ℕ) → i ≤ c → c < i + k → Writes q v (f c) → Writes q v (rows f i k)
+    pub writes-rows : (f : ℕ → List Store) (i k : ℕ) → ((j : ℕ) → i ≤ j → j < i + k → Sets q v (f j)) → (c : ℕ) → i ≤ c → c < i + k → Writes q v (f c)
+        → Writes q v (rows f i k)
     unfolding rows
     writes-rows f i zero h c l m w rd = absurd (omega arith)
     writes-rows f i (suc k) h c l m w rd = by (λ a b. writes-rows f (i + 1) k (λ j l m. h j (omega arith) (omega arith)) c a b w) (ℕ-discrete i c)

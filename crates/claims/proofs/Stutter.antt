@@ -18,7 +18,8 @@ use Rattle.soundness.specs.Sound.{targetOf}
 use Rattle.claims.specs.Reference.{Job, State}
 use Rattle.claims.proofs.Virtual.{Entry, none, due, over, misses, entryOf, virtual, virtual-due, virtual-cong}
 use Rattle.claims.proofs.Invariant.{opAt, Named, JobOf, Mirrors}
-use Rattle.claims.proofs.Entries.{apart-by, apart-of, aimed, target-aimed, belongs, active-apart, active-spare-val, spare-val-apart, spare-addr-apart, active-not-addr, named-cong, entry-named, entry-cong}
+use Rattle.claims.proofs.Entries.{apart-by, apart-of, aimed, target-aimed, belongs, active-apart, active-spare-val, spare-val-apart, spare-addr-apart}
+use Rattle.claims.proofs.Entries.{active-not-addr, named-cong, entry-named, entry-cong}
 
 -- ---- all that the mirror looks at
 
@@ -134,7 +135,8 @@ module _ (n D : ℕ) (rd : Memory) where
 
   pub unmirrored-spare-addr : (e : ℕ) → Unmirrored n D rd (field (spareAddr n rd e) e)
   unmirrored-spare-addr e =
-      unmirrored-field (spareAddr n rd e) e (spare-addr-apart n rd e Pc refl refl) (spare-addr-apart n rd e Count refl refl) (spare-addr-apart n rd e Owned refl refl)
+      unmirrored-field (spareAddr n rd e) e (spare-addr-apart n rd e Pc refl refl) (spare-addr-apart n rd e Count refl refl)
+      (spare-addr-apart n rd e Owned refl refl)
       (λ d. rw (active-not-addr n rd d e))
 
   spare-val-unmirrored : (d e : ℕ) → same (field (activeVal n rd d) d) (field (spareVal n rd e) e) ≡ false
@@ -146,7 +148,8 @@ module _ (n D : ℕ) (rd : Memory) where
 
   pub unmirrored-spare-val : (e : ℕ) → Unmirrored n D rd (field (spareVal n rd e) e)
   unmirrored-spare-val e =
-      unmirrored-field (spareVal n rd e) e (spare-val-apart n rd e Pc refl refl) (spare-val-apart n rd e Count refl refl) (spare-val-apart n rd e Owned refl refl)
+      unmirrored-field (spareVal n rd e) e (spare-val-apart n rd e Pc refl refl) (spare-val-apart n rd e Count refl refl)
+      (spare-val-apart n rd e Owned refl refl)
       (λ d. spare-val-unmirrored d e)
 
   -- where the pc is 0, every word of a record but the pc, and the own words and instructions
@@ -183,7 +186,8 @@ aimed-step d i p a = apart-by aimed (step d i) p refl a
 -- a store at a target changes no entry
 pub aimed-entry : (n : ℕ) (rd : Memory) (p : Place) (v d : ℕ) → aimed p ≡ true → entryOf n (upd rd p v) d ≡ entryOf n rd d
 aimed-entry n rd p v d a =
-    entry-upd n rd p v d (aimed-field Pc d p a refl) (λ z i. aimed-step d i p a) (λ z. aimed-field (activeVal n rd d) d p a (active-apart n rd d Owned refl refl))
+    entry-upd n rd p v d (aimed-field Pc d p a refl) (λ z i. aimed-step d i p a)
+    (λ z. aimed-field (activeVal n rd d) d p a (active-apart n rd d Owned refl refl))
 
 module _ (n D : ℕ) (rd : Memory) (d : ℕ) (p : Place) (v : ℕ) (below : d < D) (here : entryOf n rd d ≡ due p v) (aims : aimed p ≡ true)
     (others : (e : ℕ) → e < D → e ≢ d → misses (entryOf n rd e) p) where

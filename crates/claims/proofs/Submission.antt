@@ -32,10 +32,12 @@ use Rattle.claims.proofs.Entries.{apart-of}
 
 -- ---- a row of assignments
 
-pub assigns-keep : (P : Memory → Type 0) (f : ℕ → Place) → ((i v : ℕ) (rd : Memory) → P rd → P (upd rd (f i) v)) → (i : ℕ) (vs : List ℕ) → KeptBy P (assigns f i vs)
+pub assigns-keep : (P : Memory → Type 0) (f : ℕ → Place) → ((i v : ℕ) (rd : Memory) → P rd → P (upd rd (f i) v)) → (i : ℕ) (vs : List ℕ)
+    → KeptBy P (assigns f i vs)
 unfolding assigns
 assigns-keep P f h i [] = keeps-nil P
-assigns-keep P f h i (v ∷ vs) = keeps-append P ((f i ≔ v) ∷ []) (assigns f (i + 1) vs) (keeps-one P (f i ≔ v) (λ rd p. h i v rd p)) (assigns-keep P f h (i + 1) vs)
+assigns-keep P f h i (v ∷ vs) =
+    keeps-append P ((f i ≔ v) ∷ []) (assigns f (i + 1) vs) (keeps-one P (f i ≔ v) (λ rd p. h i v rd p)) (assigns-keep P f h (i + 1) vs)
 
 -- ---- the words that a submission leaves
 
@@ -94,7 +96,8 @@ module _ (n D d : ℕ) (rd : Memory) where
         by : Dec (e ≡ d) → sectionOk n rd′ e ≡ true
         by (yes i) = rw i g
         by (no i) =
-            section-frame n rd rd′ e (aside-framed rd′ k e i) (k (field Count e) (rw (ne-eqb e d i))) (k (field Number e) (rw (ne-eqb e d i))) (k (field Finished e) refl) ∙ h
+            section-frame n rd rd′ e (aside-framed rd′ k e i) (k (field Count e) (rw (ne-eqb e d i))) (k (field Number e) (rw (ne-eqb e d i)))
+            (k (field Finished e) refl) ∙ h
 
     private-pc : (e : ℕ) → pcOk n rd e ≡ true → pcOk n rd′ e ≡ true
     private-pc e h = by (ℕ-discrete e d)
@@ -172,7 +175,8 @@ module _ (n d k : ℕ) (args ws : List ℕ) (rd : Memory) where
       let start : Unbegun rd = ((λ p h. refl), c) in
       rw private-split
       (prefix-append (Aside d rd) before ((field Count d ≔ length ws) ∷ []) rd (λ j. private-before rd start j .0)
-      (prefix-one (Aside d rd) (field Count d ≔ length ws) (updAll rd before) (keeps-whole Unbegun before private-before rd start .0) (rw private-last at (submitted-aside c)))
+      (prefix-one (Aside d rd) (field Count d ≔ length ws) (updAll rd before) (keeps-whole Unbegun before private-before rd start .0)
+      (rw private-last at (submitted-aside c)))
       i)
 
   pub submitted-check : check n (length ws) (codeOf ws) ≡ Pass → check n (length ws) (codeIn n submitted d) ≡ Pass
@@ -184,7 +188,16 @@ module _ (n d k : ℕ) (args ws : List ℕ) (rd : Memory) where
   submitted-section c h l =
       let some = check-parts n (length ws) (codeOf ws) h .0 in
       let f : submitted (field Finished d) ≡ rd (field Finished d) = submitted-aside c (field Finished d) refl in
-      rw (laid .count, ne-eqb (length ws) 0 (λ e. omega arith), submitted-check h, laid .number, f, le-leb 1 k (omega arith), le-leb (rd (field Finished d)) k (omega arith))
+      rw (
+        laid .count,
+        ne-eqb (length ws) 0 (λ e. omega arith),
+        submitted-check h,
+        laid .number,
+        f,
+        le-leb 1 k (omega arith),
+        le-leb (rd (field Finished d)) k
+            (omega arith),
+      )
 
   pub submission-parts :
       (D : ℕ) → Parts n D rd → rd (field Count d) ≡ 0 → rd (field Pc d) ≡ 0 → check n (length ws) (codeOf ws) ≡ Pass → rd (field Finished d) < k

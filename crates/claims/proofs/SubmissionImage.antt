@@ -19,7 +19,8 @@ use Rattle.intake.proofs.Submission.{submission-valid}
 use Rattle.claims.proofs.Invariant.{Crashed}
 use Rattle.claims.proofs.Submission.{submission-prefix}
 
-module _ (mark n : ℕ) (m : Image) (h : headerOk mark n m ≡ true) (d k : ℕ) (args ws : List ℕ) (l : d < workers m) (wide : 8 ≤ n) (eight : length args ≡ 8) (c : check n (length ws) (codeOf ws) ≡ Pass) where
+module _ (mark n : ℕ) (m : Image) (h : headerOk mark n m ≡ true) (d k : ℕ) (args ws : List ℕ) (l : d < workers m) (wide : 8 ≤ n) (eight : length args ≡ 8)
+    (c : check n (length ws) (codeOf ws) ≡ Pass) where
   pub submission-at : (left : ℕ) → at n (putAll n left m (submission n d k args ws)) ≡ updAll (at n m) (take left (submission n d k args ws))
   submission-at left =
       let few = check-parts n (length ws) (codeOf ws) c .1 in

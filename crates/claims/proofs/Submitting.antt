@@ -43,7 +43,8 @@ module _ (n : ℕ) (rd : Memory) (d k : ℕ) (args ws : List ℕ) where
 
   -- the first turn of a section that is taken
   pub submit-phase :
-      8 ≤ n → length args ≡ 8 → check n (length ws) (codeOf ws) ≡ Pass → rd (field Finished d) < k → rd (field Pc d) ≡ 0 → rd (field Intent d) ≡ 0 → rd (field Owned d) ≡ 0
+      8 ≤ n → length args ≡ 8 → check n (length ws) (codeOf ws) ≡ Pass → rd (field Finished d) < k → rd (field Pc d) ≡ 0 → rd (field Intent d) ≡ 0 → rd
+      (field Owned d) ≡ 0
       → Phase n after d (given d k args ws) (on 0 0) 0 0
   submit-phase wide full h numbers p i o =
       let valid = submit-code h in
@@ -65,7 +66,8 @@ module _ (n : ℕ) (rd : Memory) (d k : ℕ) (args ws : List ℕ) where
         args = λ j l. sym (laid .own-words j (rw size l));
       })
       (laid .singles Pc refl refl ∙ p) (laid .singles Owned refl refl ∙ o)
-      (subst (Nearing n after d 0 0 0 0) (sym (first .1)) (omega arith, laid .singles Intent refl refl ∙ i, refl, λ l. absurd (omega arith), λ l. absurd (omega arith)))
+      (subst (Nearing n after d 0 0 0 0) (sym (first .1))
+      (omega arith, laid .singles Intent refl refl ∙ i, refl, λ l. absurd (omega arith), λ l. absurd (omega arith)))
 
 -- what an idle worker has
 pub record Resting (rd : Memory) (d l j : ℕ) : Type 0 where
@@ -90,14 +92,17 @@ idle-rests n rd d g c locks j (ended s k p o i b q) e = absurd (on-not-idle _ _ 
 
 -- all workers after a section of worker d is taken
 pub submit-live :
-    (n D : ℕ) (rd : Memory) (cursor : ℕ → Cursor) (locks jumps : ℕ → ℕ) (last : ℕ → Given) (d k : ℕ) (args ws : List ℕ) → Live n D rd cursor locks jumps last → d < D → cursor d ≡ idle
+    (n D : ℕ) (rd : Memory) (cursor : ℕ → Cursor) (locks jumps : ℕ → ℕ) (last : ℕ → Given) (d k : ℕ) (args ws : List ℕ) → Live n D rd cursor locks jumps last →
+    d < D → cursor d ≡ idle
     → 8 ≤ n → length args ≡ 8 → check n (length ws) (codeOf ws) ≡ Pass → rd (field Finished d) < k
     → Live n D (submittedTo n d k args ws rd) (but cursor d (on 0 0)) (but locks d 0) (but jumps d 0) (but last d (given d k args ws))
 submit-live n D rd cursor locks jumps last d k args ws L dl i wide full h numbers =
     let R = idle-rests n rd d (last d) (cursor d) (locks d) (jumps d) (L .phase d dl) i in
     let same : but locks d 0 ≡ locks = subst (λ (z : ℕ). but locks d z ≡ locks) (R .locks) (fun-ext (but-self locks d)) in
     live-but n D rd (submittedTo n d k args ws rd) cursor locks jumps (but last d (given d k args ws)) d (on 0 0) 0 0
-    (λ e l r. rw (but-other last d (given d k args ws) e r) (phase-same n rd (submittedTo n d k args ws rd) e (last e) (cursor e) (locks e) (jumps e) (L .phase e l) (submit-agrees n rd d k args ws e (locks e) r)))
+    (λ e l r. rw (but-other last d (given d k args ws) e r)
+    (phase-same n rd (submittedTo n d k args ws rd) e (last e) (cursor e) (locks e) (jumps e) (L .phase e l)
+    (submit-agrees n rd d k args ws e (locks e) r)))
     (rw (but-same last d (given d k args ws)) (submit-phase n rd d k args ws wide full h numbers (R .pc) (R .intent) (R .owned)))
     (rw same (record {
       locked = λ b e l p x. submission-laid n rd d k args ws .locks b ∙ L .locked b e l p x;

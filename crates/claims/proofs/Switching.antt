@@ -79,7 +79,8 @@ module _ (n : ℕ) (rd : Memory) (d k : ℕ) (short : k < 64) where
 
   pub switched-entry : entryOf n (after n rd d k) d ≡ due (targetOf d (opAt n rd d k)) (rd (field (spareVal n rd d) d))
   switched-entry =
-      entry-named n (after n rd d k) d k switched-pc ∙ ap (due (targetOf d (opAt n rd d k))) (ap (λ (f : Field). after n rd d k (field f d)) switched-active ∙ spare-stays)
+      entry-named n (after n rd d k) d k switched-pc ∙ ap (due (targetOf d (opAt n rd d k)))
+      (ap (λ (f : Field). after n rd d k (field f d)) switched-active ∙ spare-stays)
 
 -- ---- the entries after any pc of worker d
 
@@ -108,46 +109,50 @@ freed-at n D rd d q f h = virtual-cong n rd (upd rd (field Pc d) 0) D q (upd-oth
 pub freed-resting : (n D : ℕ) (rd : Memory) (d : ℕ) → rd (field Pc d) ≡ 0 → Freed n D rd d
 freed-resting n D rd d z q f = freed-at n D rd d q f (λ x. rw (entry-none n rd d z))
 
-module _ (n D : ℕ) (rd : Memory) (cursor : ℕ → Cursor) (locks jumps : ℕ → ℕ) (given : ℕ → Given) (L : Live n D rd cursor locks jumps given) (d : ℕ) (l : d < D) where
-  -- with a pc of 0, what worker d guards is as it stands
-  freed-guarded : (q : Place) → same q (field Pc d) ≡ false → Guarded d (locks d) q → virtual n (upd rd (field Pc d) 0) D q ≡ rd q
-  freed-guarded q f g = virtual-none n (upd rd (field Pc d) 0) D q (λ e m. by e m (ℕ-discrete e d)) ∙ upd-other rd (field Pc d) 0 q f
-    where
-      by : (e : ℕ) → e < D → Dec (e ≡ d) → misses (entryOf n (upd rd (field Pc d) 0) e) q
-      by e m (yes i) = rw (i, zero-entry n rd d) tt
-      by e m (no i) = rw (entry-others n rd d 0 e i) (misses-guarded n D rd cursor locks jumps given L d e l m i q g)
-
-  pub freed-settled : (s : ℕ) → Busy n rd d (locks d) s → rd (targetOf d (opAt n rd d s)) ≡ rd (field (activeVal n rd d) d) → Freed n D rd d
-  freed-settled s B made q f = by (same q (targetOf d (opAt n rd d s))) refl
-    where
-      by : (t : Bool) → same q (targetOf d (opAt n rd d s)) ≡ t → virtual n (upd rd (field Pc d) 0) D q ≡ virtual n rd D q
-      by true e =
-          let g : Guarded d (locks d) q = subst (Guarded d (locks d)) (sym (same-place q (targetOf d (opAt n rd d s)) e)) (target-guarded n rd d (locks d) s B) in
-          freed-guarded q f g ∙ sym (virtual-settled n D rd cursor locks jumps given L d s l B made q g)
-      by false e = freed-at n D rd d q f (λ x. rw (entry-named n rd d s (B .named .pc), e))
-
-  -- ---- after the switch
-
-  module _ (k : ℕ) (short : k < 64) where
-    -- at the new target stands the value that was spare
-    pub virtual-new : Guarded d (locks d) (targetOf d (opAt n rd d k)) → virtual n (after n rd d k) D (targetOf d (opAt n rd d k)) ≡ rd (field (spareVal n rd d) d)
-    virtual-new g =
-        let p = targetOf d (opAt n rd d k) in
-        virtual-due n (after n rd d k) D d p p (rd (field (spareVal n rd d) d)) l (switched-entry n rd d k short) (same-refl p)
-        (λ e m h. rw (entry-others n rd d (switched n rd d k) e h) (misses-guarded n D rd cursor locks jumps given L d e l m h p g))
-
-    -- and everywhere else what stood there
-    pub virtual-old :
-        Freed n D rd d → (q : Place) → same q (field Pc d) ≡ false → same q (targetOf d (opAt n rd d k)) ≡ false
-        → virtual n (after n rd d k) D q ≡ virtual n rd D q
-    virtual-old F q f h =
-        virtual-cong n (upd rd (field Pc d) 0) (after n rd d k) D q
-        (upd-other rd (field Pc d) (switched n rd d k) q f ∙ sym (upd-other rd (field Pc d) 0 q f)) (λ e m x. by e x (ℕ-discrete e d))
-        ∙ F q f
+module _ (n D : ℕ) (rd : Memory) (cursor : ℕ → Cursor) (locks jumps : ℕ → ℕ) (given : ℕ → Given) (L : Live n D rd cursor locks jumps given) (d : ℕ) (l : d < D)
+  where
+    -- with a pc of 0, what worker d guards is as it stands
+    freed-guarded : (q : Place) → same q (field Pc d) ≡ false → Guarded d (locks d) q → virtual n (upd rd (field Pc d) 0) D q ≡ rd q
+    freed-guarded q f g = virtual-none n (upd rd (field Pc d) 0) D q (λ e m. by e m (ℕ-discrete e d)) ∙ upd-other rd (field Pc d) 0 q f
       where
-        by : (e x : ℕ) → Dec (e ≡ d) → over (entryOf n (after n rd d k) e) q x ≡ over (entryOf n (upd rd (field Pc d) 0) e) q x
-        by e x (yes i) = rw (i, switched-entry n rd d k short, zero-entry n rd d, h)
-        by e x (no i) = rw (entry-others n rd d (switched n rd d k) e i, entry-others n rd d 0 e i)
+        by : (e : ℕ) → e < D → Dec (e ≡ d) → misses (entryOf n (upd rd (field Pc d) 0) e) q
+        by e m (yes i) = rw (i, zero-entry n rd d) tt
+        by e m (no i) = rw (entry-others n rd d 0 e i) (misses-guarded n D rd cursor locks jumps given L d e l m i q g)
+
+    pub freed-settled : (s : ℕ) → Busy n rd d (locks d) s → rd (targetOf d (opAt n rd d s)) ≡ rd (field (activeVal n rd d) d) → Freed n D rd d
+    freed-settled s B made q f = by (same q (targetOf d (opAt n rd d s))) refl
+      where
+        by : (t : Bool) → same q (targetOf d (opAt n rd d s)) ≡ t → virtual n (upd rd (field Pc d) 0) D q ≡ virtual n rd D q
+        by true e =
+            let g : Guarded d (locks d) q = subst (Guarded d (locks d)) (sym (same-place q (targetOf d (opAt n rd d s)) e))
+            (target-guarded n rd d (locks d) s B)
+            in
+            freed-guarded q f g ∙ sym (virtual-settled n D rd cursor locks jumps given L d s l B made q g)
+        by false e = freed-at n D rd d q f (λ x. rw (entry-named n rd d s (B .named .pc), e))
+
+    -- ---- after the switch
+
+    module _ (k : ℕ) (short : k < 64) where
+      -- at the new target stands the value that was spare
+      pub virtual-new : Guarded d (locks d) (targetOf d (opAt n rd d k))
+          → virtual n (after n rd d k) D (targetOf d (opAt n rd d k)) ≡ rd (field (spareVal n rd d) d)
+      virtual-new g =
+          let p = targetOf d (opAt n rd d k) in
+          virtual-due n (after n rd d k) D d p p (rd (field (spareVal n rd d) d)) l (switched-entry n rd d k short) (same-refl p)
+          (λ e m h. rw (entry-others n rd d (switched n rd d k) e h) (misses-guarded n D rd cursor locks jumps given L d e l m h p g))
+
+      -- and everywhere else what stood there
+      pub virtual-old :
+          Freed n D rd d → (q : Place) → same q (field Pc d) ≡ false → same q (targetOf d (opAt n rd d k)) ≡ false
+          → virtual n (after n rd d k) D q ≡ virtual n rd D q
+      virtual-old F q f h =
+          virtual-cong n (upd rd (field Pc d) 0) (after n rd d k) D q
+          (upd-other rd (field Pc d) (switched n rd d k) q f ∙ sym (upd-other rd (field Pc d) 0 q f)) (λ e m x. by e x (ℕ-discrete e d))
+          ∙ F q f
+        where
+          by : (e x : ℕ) → Dec (e ≡ d) → over (entryOf n (after n rd d k) e) q x ≡ over (entryOf n (upd rd (field Pc d) 0) e) q x
+          by e x (yes i) = rw (i, switched-entry n rd d k short, zero-entry n rd d, h)
+          by e x (no i) = rw (entry-others n rd d (switched n rd d k) e i, entry-others n rd d 0 e i)
 
 -- ---- the state then
 
@@ -178,7 +183,8 @@ mirror-set n D rd d v S cs q l M size cells owned owns empty busy =
     absent e m z (yes i) = rw i (here ∙ empty (sym (upd-same rd (field Pc d) v) ∙ (rw i at z)))
     absent e m z (no i) = getD-set-other (S .queues) d e q [] i ∙ M .none e m (sym (pc e i) ∙ z)
 
-    present : (e : ℕ) → e < D → upd rd (field Pc d) v (field Pc e) ≢ 0 → Dec (e ≡ d) → (j : Job) × (getD (set (S .queues) d q) e [] ≡ j ∷ []) × JobOf n D (upd rd (field Pc d) v) e j
+    present : (e : ℕ) → e < D → upd rd (field Pc d) v (field Pc e) ≢ 0 → Dec (e ≡ d)
+        → (j : Job) × (getD (set (S .queues) d q) e [] ≡ j ∷ []) × JobOf n D (upd rd (field Pc d) v) e j
     present e m z (yes i) =
         let (j, r, J) = busy (λ y. z (rw i (upd-same rd (field Pc d) v ∙ y))) in
         subst (λ (f : ℕ). (j : Job) × (getD (set (S .queues) d q) f [] ≡ j ∷ []) × JobOf n D (upd rd (field Pc d) v) f j) (sym i) (j, here ∙ r, J)

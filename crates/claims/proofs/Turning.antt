@@ -27,7 +27,8 @@ module _ (mark n D : ℕ) (cells : List ℕ) where
 
   pub still :
       (w : Traced) (d : ℕ) (p : Place) (v : ℕ) (c : Cursor) → w .world .left ≡ 0
-      → (turnTrace mark n w d (stored p v c) .begun ≡ w .trace .begun) × (turnTrace mark n w d (stored p v c) .order ≡ w .trace .order) × (leaves n (w .world) d (stored p v c) .image ≡ w .world .image)
+      → (turnTrace mark n w d (stored p v c) .begun ≡ w .trace .begun) × (turnTrace mark n w d (stored p v c) .order ≡ w .trace .order) ×
+      (leaves n (w .world) d (stored p v c) .image ≡ w .world .image)
   still w d p v c e =
       let none = eq-eqb (w .world .left) 0 e in
       (rw (none, and-false (isPc p)), rw (none, and-false (isPc p)), rw e (put-none (w .world .image) (indexOf n p) v))
@@ -52,7 +53,8 @@ module _ (mark n D : ℕ) (cells : List ℕ) where
   abbrev pub Cutting : Traced → Type 0
   Cutting w = Running mark n D cells w ⊎ Frozen mark n D cells w
 
-  pub cutting-turn : (w : Traced) (d : ℕ) → d < D → Cutting w → Cutting (turnBy mark n w d (turnAt n (at n (w .world .image)) d (cursorAt (w .world .cursors) d)))
+  pub cutting-turn : (w : Traced) (d : ℕ) → d < D → Cutting w
+      → Cutting (turnBy mark n w d (turnAt n (at n (w .world .image)) d (cursorAt (w .world .cursors) d)))
   cutting-turn w d l (inl r) = by (decLt 0 (w .world .left))
     where
       by : Dec (0 < w .world .left) → Cutting (turnBy mark n w d (turnAt n (at n (w .world .image)) d (cursorAt (w .world .cursors) d)))
@@ -73,9 +75,11 @@ module _ (mark n D : ℕ) (cells : List ℕ) where
   unfolding round
   round-keeps P step rest more zero d w l h = more w h
   round-keeps P step rest more (suc k) d w l h =
-      private-round P (refuses mark n (outcomeAt n (w .world) d)) w _ h (λ e. round-keeps P step rest more k (d + 1) (turnedAt mark n w d) (omega arith) (step w d (omega arith) h))
+      private-round P (refuses mark n (outcomeAt n (w .world) d)) w _ h
+      (λ e. round-keeps P step rest more k (d + 1) (turnedAt mark n w d) (omega arith) (step w d (omega arith) h))
 
-  pub rounds-keep : (P : Traced → Type 0) → ((w : Traced) (d : ℕ) → d < D → P w → P (turnedAt mark n w d)) → (r : ℕ) (w : Traced) → P w → P (rounds mark n r D w)
+  pub rounds-keep : (P : Traced → Type 0) → ((w : Traced) (d : ℕ) → d < D → P w → P (turnedAt mark n w d)) → (r : ℕ) (w : Traced) → P w
+      → P (rounds mark n r D w)
   unfolding rounds
   rounds-keep P step zero w h = h
   rounds-keep P step (suc r) w h = by (anyOpen D 0 (w .world .cursors)) (round-keeps P step (rounds mark n r D) (rounds-keep P step r) D 0 w (omega arith) h)

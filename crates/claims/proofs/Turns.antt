@@ -37,7 +37,8 @@ Stepped n rd d g locks j (refused r) = ⊥
 -- all workers after a turn of worker d
 abbrev pub Went : ℕ → ℕ → Memory → (ℕ → Cursor) → (ℕ → ℕ) → (ℕ → ℕ) → (ℕ → Given) → ℕ → Outcome → Type 0
 Went n D rd cursor locks jumps given d (stored p v c) =
-    (locks′ : ℕ) × Touches n rd d (locks d) p v locks′ × Live n D (upd rd p v) (but cursor d c) (but locks d locks′) (but jumps d (cond (isPc p) 0 (jumps d))) given
+    (locks′ : ℕ) × Touches n rd d (locks d) p v locks′ × Live n D (upd rd p v) (but cursor d c) (but locks d locks′) (but jumps d (cond (isPc p) 0 (jumps d)))
+    given
 Went n D rd cursor locks jumps given d (jumped c) = Live n D rd (but cursor d c) locks (but jumps d (suc (jumps d))) given
 Went n D rd cursor locks jumps given d (unheld c) = Live n D rd (but cursor d c) locks jumps given
 Went n D rd cursor locks jumps given d (waiting b) = (b < 64) × (rd (lock b) ≢ 0) × ((a : ℕ) → has (locks d) a ≡ true → a < b)

@@ -111,5 +111,6 @@ module _ (n D d : ℕ) (rd : Memory) (z : rd (field Pc d) ≡ 0) (rd′ : Memory
       }
 
 pub submission-unseen :
-    (n D d k : ℕ) (args ws : List ℕ) (rd : Memory) → rd (field Count d) ≡ 0 → rd (field Pc d) ≡ 0 → (i : ℕ) → Unseen n D rd (updAll rd (take i (submission n d k args ws)))
+    (n D d k : ℕ) (args ws : List ℕ) (rd : Memory) → rd (field Count d) ≡ 0 → rd (field Pc d) ≡ 0 → (i : ℕ) → Unseen n D rd
+    (updAll rd (take i (submission n d k args ws)))
 submission-unseen n D d k args ws rd c z i = aside-unseen n D d rd z _ (submission-aside n d k args ws rd c i)

@@ -50,7 +50,8 @@ module _ (n : ℕ) where
 
   -- where worker d's entry is for q, and no other's is, it is that entry's value that will
   pub virtual-due :
-      (rd : Memory) (k d : ℕ) (p q : Place) (v : ℕ) → d < k → entryOf rd d ≡ due p v → same q p ≡ true → ((e : ℕ) → e < k → e ≢ d → misses (entryOf rd e) q) → virtual rd k q ≡ v
+      (rd : Memory) (k d : ℕ) (p q : Place) (v : ℕ) → d < k → entryOf rd d ≡ due p v → same q p ≡ true → ((e : ℕ) → e < k → e ≢ d → misses (entryOf rd e) q)
+      → virtual rd k q ≡ v
   unfolding virtual
   virtual-due rd zero d p q v l e s h = absurd (omega arith)
   virtual-due rd (suc k) d p q v l e s h = by (λ m. virtual-due rd k d p q v m e s (λ f i. h f (omega arith))) (ℕ-discrete d k)
@@ -61,7 +62,8 @@ module _ (n : ℕ) where
 
   -- two memories whose entries do the same at q, and which have the same there, look the same there
   pub virtual-cong :
-      (rd rd′ : Memory) (k : ℕ) (q : Place) → rd′ q ≡ rd q → ((d : ℕ) → d < k → (x : ℕ) → over (entryOf rd′ d) q x ≡ over (entryOf rd d) q x) → virtual rd′ k q ≡ virtual rd k q
+      (rd rd′ : Memory) (k : ℕ) (q : Place) → rd′ q ≡ rd q → ((d : ℕ) → d < k → (x : ℕ) → over (entryOf rd′ d) q x ≡ over (entryOf rd d) q x) → virtual rd′ k q
+      ≡ virtual rd k q
   unfolding virtual
   virtual-cong rd rd′ zero q e h = e
   virtual-cong rd rd′ (suc k) q e h = h k (omega arith) _ ∙ ap (over (entryOf rd k) q) (virtual-cong rd rd′ k q e (λ d l. h d (omega arith)))

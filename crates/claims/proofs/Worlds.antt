@@ -94,7 +94,8 @@ phase-sayable n rd d g c locks j (fresh t l s h p o m) = let e = nearing-early n
 phase-sayable n rd d g c locks j (due s l k m q) = let e = target-early (opAt n rd d s) in λ r. omega arith
 phase-sayable n rd d g c locks j (unlocking s a l k m o w i q) = λ r. omega arith
 phase-sayable n rd d g c locks j (unlocked s a l k m o w i q) = λ r. omega arith
-phase-sayable n rd d g c locks j (between s k t l jj q m f u z o h y) = let e = nearing-early n rd d k t (heldAt n rd d k) l (opAt n rd d k) y in λ r. omega arith
+phase-sayable n rd d g c locks j (between s k t l jj q m f u z o h y) = let e = nearing-early n rd d k t (heldAt n rd d k) l (opAt n rd d k) y in λ r. omega
+    arith
 phase-sayable n rd d g c locks j (ended s k p o i b q) = λ r. omega arith
 
 -- ---- a turn for which a store is left
@@ -105,7 +106,8 @@ module _ (mark n D : ℕ) (cells : List ℕ) (w : Traced) (d : ℕ) (r : Running
 
   -- an image after a store of worker d, with the state it stands for
   stored-reached :
-      (p : Place) (v locks′ : ℕ) (begun : List Given) (order : List ℕ) (s : State) → Touches n rd d (r .locks d) p v locks′ → follow (initial n D cells begun) order ≡ some s
+      (p : Place) (v locks′ : ℕ) (begun : List Given) (order : List ℕ) (s : State) → Touches n rd d (r .locks d) p v locks′
+      → follow (initial n D cells begun) order ≡ some s
       → Mirrors n D (upd rd p v) s → Reached mark n D cells (put (w .world .left) (w .world .image) (indexOf n p) v) begun order
   stored-reached p v locks′ begun order s t f m =
       record {
@@ -113,12 +115,16 @@ module _ (mark n D : ℕ) (cells : List ℕ) (w : Traced) (d : ℕ) (r : Running
         many = workers-store n (w .world .left) (w .world .image) p v ∙ r .reached .many;
         state = s;
         followed = f;
-        mirrors = subst (λ (x : Memory). Mirrors n D x s) (sym (memory-store n D (w .world .image) (running-sized mark n D cells w (r .reached)) (w .world .left) p v (touches-valid n D rd d (r .locks d) p v locks′ dl t) some-left)) m;
+        mirrors =
+            subst (λ (x : Memory). Mirrors n D x s)
+            (sym (memory-store n D (w .world .image) (running-sized mark n D cells w (r .reached)) (w .world .left) p v
+            (touches-valid n D rd d (r .locks d) p v locks′ dl t) some-left)) m;
       }
 
   -- what a turn leaves of the state that the image stands for
   turn-reached :
-      (o : Outcome) → Stepped n rd d (w .trace .last d) (r .locks d) (w .trace .jumps d) o → Mirrored n D rd (r .reached .state) (w .trace .jumps d) (w .trace .last d) d o
+      (o : Outcome) → Stepped n rd d (w .trace .last d) (r .locks d) (w .trace .jumps d) o
+      → Mirrored n D rd (r .reached .state) (w .trace .jumps d) (w .trace .last d) d o
       → Reached mark n D cells (leaves n (w .world) d o .image) (turnTrace mark n w d o .begun) (turnTrace mark n w d o .order)
   turn-reached (stored p v c) (l, t, ph) mi = by (isPc p) refl
     where
@@ -131,7 +137,8 @@ module _ (mark n D : ℕ) (cells : List ℕ) (w : Traced) (d : ℕ) (r : Running
           let k = mirror-counts n D rd (r .reached .state) (w .trace .jumps d) (w .trace .last d) d p v c h mi in
           rw (h, ne)
           (stored-reached p v l (recording (w .trace) d (eqb (rd (field Pc d)) 0) .begun) (recording (w .trace) d (eqb (rd (field Pc d)) 0) .order) (k .2 .0) t
-          (order-grows n D rd (r .reached .state) (k .2 .0) (w .trace .jumps d) (w .trace .last d) d cells (w .trace .begun) (w .trace .order) dl (k .1) (r .reached .followed) (k .2 .1))
+          (order-grows n D rd (r .reached .state) (k .2 .0) (w .trace .jumps d) (w .trace .last d) d cells (w .trace .begun) (w .trace .order) dl (k .1)
+          (r .reached .followed) (k .2 .1))
           (k .2 .2))
       by false h =
           rw h
@@ -148,17 +155,21 @@ module _ (mark n D : ℕ) (cells : List ℕ) (w : Traced) (d : ℕ) (r : Running
       (rd′ : Memory) (c : Cursor) (locks jumps : ℕ → ℕ) (last : ℕ → Given) → Live n D rd′ (but (cursorAt (w .world .cursors)) d c) locks jumps last
       → Live n D rd′ (cursorAt (placed (w .world .cursors) d c)) locks jumps last
   placed-live rd′ c locks jumps last L =
-      let say = subst (λ (x : Cursor). sayable x) (but-same (cursorAt (w .world .cursors)) d c) (phase-sayable n rd′ d (last d) _ (locks d) (jumps d) (L .phase d dl)) in
+      let say = subst (λ (x : Cursor). sayable x) (but-same (cursorAt (w .world .cursors)) d c)
+      (phase-sayable n rd′ d (last d) _ (locks d) (jumps d) (L .phase d dl)) in
       live-cursors n D rd′ _ (cursorAt (placed (w .world .cursors) d c)) locks jumps last
       (cursors-placed D (w .world .cursors) d c (r .full) (few mark n D cells w (r .reached)) dl say) L
 
   -- and what a turn leaves of them
   turn-live :
       (o : Outcome) → Went n D rd (cursorAt (w .world .cursors)) (r .locks) (w .trace .jumps) (w .trace .last) d o
-      → (locks′ : ℕ → ℕ) × Live n D (at n (leaves n (w .world) d o .image)) (cursorAt (leaves n (w .world) d o .cursors)) locks′ (turnTrace mark n w d o .jumps) (turnTrace mark n w d o .last)
+      → (locks′ : ℕ → ℕ) × Live n D (at n (leaves n (w .world) d o .image)) (cursorAt (leaves n (w .world) d o .cursors)) locks′ (turnTrace mark n w d o .jumps)
+      (turnTrace mark n w d o .last)
   turn-live (stored p v c) (l, t, L) =
-      let e = memory-store n D (w .world .image) (running-sized mark n D cells w (r .reached)) (w .world .left) p v (touches-valid n D rd d (r .locks d) p v l dl t) some-left in
-      let L′ = subst (λ (x : Memory). Live n D x (cursorAt (placed (w .world .cursors) d c)) (but (r .locks) d l) (but (w .trace .jumps) d (cond (isPc p) 0 (w .trace .jumps d))) (w .trace .last)) (sym e)
+      let e = memory-store n D (w .world .image) (running-sized mark n D cells w (r .reached)) (w .world .left) p v
+      (touches-valid n D rd d (r .locks d) p v l dl t) some-left in
+      let L′ = subst (λ (x : Memory). Live n D x (cursorAt (placed (w .world .cursors) d c)) (but (r .locks) d l)
+      (but (w .trace .jumps) d (cond (isPc p) 0 (w .trace .jumps d))) (w .trace .last)) (sym e)
       (placed-live (upd rd p v) c (but (r .locks) d l) (but (w .trace .jumps) d (cond (isPc p) 0 (w .trace .jumps d))) (w .trace .last) L)
       in
       (but (r .locks) d l, by (isPc p) L′)
@@ -167,13 +178,15 @@ module _ (mark n D : ℕ) (cells : List ℕ) (w : Traced) (d : ℕ) (r : Running
       left-over = ne-eqb (w .world .left) 0 (λ q. omega arith)
 
       by : (b : Bool)
-          → Live n D (at n (put (w .world .left) (w .world .image) (indexOf n p) v)) (cursorAt (placed (w .world .cursors) d c)) (but (r .locks) d l) (but (w .trace .jumps) d (cond b 0 (w .trace .jumps d))) (w .trace .last)
+          → Live n D (at n (put (w .world .left) (w .world .image) (indexOf n p) v)) (cursorAt (placed (w .world .cursors) d c)) (but (r .locks) d l)
+          (but (w .trace .jumps) d (cond b 0 (w .trace .jumps d))) (w .trace .last)
           → Live n D (at n (put (w .world .left) (w .world .image) (indexOf n p) v)) (cursorAt (placed (w .world .cursors) d c)) (but (r .locks) d l)
           (cond (b && not (eqb (w .world .left) 0)) (recording (w .trace) d (eqb (rd (field Pc d)) 0)) (w .trace) .jumps)
           (cond (b && not (eqb (w .world .left) 0)) (recording (w .trace) d (eqb (rd (field Pc d)) 0)) (w .trace) .last)
       by true x = rw left-over x
       by false x =
-          subst (λ (f : ℕ → ℕ). Live n D (at n (put (w .world .left) (w .world .image) (indexOf n p) v)) (cursorAt (placed (w .world .cursors) d c)) (but (r .locks) d l) f (w .trace .last))
+          subst (λ (f : ℕ → ℕ). Live n D (at n (put (w .world .left) (w .world .image) (indexOf n p) v)) (cursorAt (placed (w .world .cursors) d c))
+          (but (r .locks) d l) f (w .trace .last))
           (fun-ext (but-self (w .trace .jumps) d)) x
   turn-live (jumped c) L = (r .locks, placed-live rd c (r .locks) (but (w .trace .jumps) d (suc (w .trace .jumps d))) (w .trace .last) L)
   turn-live (unheld c) L = (r .locks, placed-live rd c (r .locks) (w .trace .jumps) (w .trace .last) L)
@@ -194,12 +207,15 @@ module _ (mark n D : ℕ) (cells : List ℕ) (w : Traced) (d : ℕ) (r : Running
   running-turn =
       let o = turnAt n rd d (cursorAt (w .world .cursors) d) in
       let st =
-      own-turn n rd d (w .trace .last d) (cursorAt (w .world .cursors) d) (r .locks d) (w .trace .jumps d) (r .live .phase d dl) (λ b l h. r .live .locked b d l dl h)
+      own-turn n rd d (w .trace .last d) (cursorAt (w .world .cursors) d) (r .locks d) (w .trace .jumps d) (r .live .phase d dl)
+      (λ b l h. r .live .locked b d l dl h)
       (λ b l h. r .live .owner b d l h .1)
       in
       let L = turn-live o (live-turn n D rd (cursorAt (w .world .cursors)) (r .locks) (w .trace .jumps) (w .trace .last) d o (r .live) dl st) in
       record {
-        reached = turn-reached o st (mirror-turn n D rd (cursorAt (w .world .cursors)) (r .locks) (w .trace .jumps) (w .trace .last) (r .live) d dl (r .reached .state) (r .reached .mirrors));
+        reached =
+            turn-reached o st (mirror-turn n D rd (cursorAt (w .world .cursors)) (r .locks) (w .trace .jumps) (w .trace .last) (r .live) d dl
+            (r .reached .state) (r .reached .mirrors));
         full = turn-full o;
         locks = L .0;
         live = L .1;

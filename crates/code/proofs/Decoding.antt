@@ -12,7 +12,8 @@ use Rattle.code.specs.declared.Op.the-variants.{Unknown}
 use Rattle.code.specs.Op.{byKind, opOf}
 use Rattle.code.specs.Form.{inPlace, heldAfter}
 
-pub no-kind : (k a b c : ℕ) → (k ≡ 1 → ⊥) → (k ≡ 2 → ⊥) → (k ≡ 3 → ⊥) → (k ≡ 4 → ⊥) → (k ≡ 5 → ⊥) → (k ≡ 6 → ⊥) → (k ≡ 7 → ⊥) → (k ≡ 8 → ⊥) → Unknown ≡ byKind k a b c
+pub no-kind : (k a b c : ℕ) → (k ≡ 1 → ⊥) → (k ≡ 2 → ⊥) → (k ≡ 3 → ⊥) → (k ≡ 4 → ⊥) → (k ≡ 5 → ⊥) → (k ≡ 6 → ⊥) → (k ≡ 7 → ⊥) → (k ≡ 8 → ⊥)
+    → Unknown ≡ byKind k a b c
 no-kind zero a b c n1 n2 n3 n4 n5 n6 n7 n8 = refl
 no-kind (suc zero) a b c n1 n2 n3 n4 n5 n6 n7 n8 = absurd (n1 refl)
 no-kind (suc (suc zero)) a b c n1 n2 n3 n4 n5 n6 n7 n8 = absurd (n2 refl)
@@ -37,7 +38,8 @@ private-zeros (suc (suc (suc zero))) = refl
 private-zeros (suc (suc (suc (suc j)))) = refl
 
 -- a number that is none of the eight kinds has no row
-pub no-row : (k j : ℕ) → (k ≡ 1 → ⊥) → (k ≡ 2 → ⊥) → (k ≡ 3 → ⊥) → (k ≡ 4 → ⊥) → (k ≡ 5 → ⊥) → (k ≡ 6 → ⊥) → (k ≡ 7 → ⊥) → (k ≡ 8 → ⊥) → getD zeros j 0 ≡ entry k j
+pub no-row : (k j : ℕ) → (k ≡ 1 → ⊥) → (k ≡ 2 → ⊥) → (k ≡ 3 → ⊥) → (k ≡ 4 → ⊥) → (k ≡ 5 → ⊥) → (k ≡ 6 → ⊥) → (k ≡ 7 → ⊥) → (k ≡ 8 → ⊥)
+    → getD zeros j 0 ≡ entry k j
 unfolding entry
 no-row zero j n1 n2 n3 n4 n5 n6 n7 n8 = private-zeros j
 no-row (suc zero) j n1 n2 n3 n4 n5 n6 n7 n8 = absurd (n1 refl)

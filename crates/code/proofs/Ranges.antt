@@ -45,15 +45,18 @@ private-tests p q r s t e =
 pub range-kind : (own w : ℕ) → inRange own w ≡ true → (1 ≤ kindOf w) × (kindOf w ≤ 8)
 unfolding inRange
 range-kind own w e =
-    let t = private-tests (leb 1 (kindOf w)) (leb (kindOf w) 8) (leb (fieldA w) (highest own (kindOf w) 0)) (leb (fieldB w) (highest own (kindOf w) 1)) (leb (fieldC w) (highest own (kindOf w) 2)) e in
+    let t = private-tests (leb 1 (kindOf w)) (leb (kindOf w) 8) (leb (fieldA w) (highest own (kindOf w) 0)) (leb (fieldB w) (highest own (kindOf w) 1))
+    (leb (fieldC w) (highest own (kindOf w) 2)) e in
     (leb-true _ _ (t .0), leb-true _ _ (t .1))
 
 -- a word in its ranges says an instruction in its ranges
 pub in-range : (own w : ℕ) → inRange own w ≡ true → fits own (opOf w)
 unfolding inRange opOf
 in-range own w e =
-    let t = private-tests (leb 1 (kindOf w)) (leb (kindOf w) 8) (leb (fieldA w) (highest own (kindOf w) 0)) (leb (fieldB w) (highest own (kindOf w) 1)) (leb (fieldC w) (highest own (kindOf w) 2)) e in
-    private-fits own (kindOf w) (fieldA w) (fieldB w) (fieldC w) (leb-true _ _ (t .0)) (leb-true _ _ (t .1)) (leb-true _ _ (t .2)) (leb-true _ _ (t .3)) (leb-true _ _ (t .4))
+    let t = private-tests (leb 1 (kindOf w)) (leb (kindOf w) 8) (leb (fieldA w) (highest own (kindOf w) 0)) (leb (fieldB w) (highest own (kindOf w) 1))
+    (leb (fieldC w) (highest own (kindOf w) 2)) e in
+    private-fits own (kindOf w) (fieldA w) (fieldB w) (fieldC w) (leb-true _ _ (t .0)) (leb-true _ _ (t .1)) (leb-true _ _ (t .2)) (leb-true _ _ (t .3))
+    (leb-true _ _ (t .4))
 
 -- the same where the instruction is told
 pub op-range : (own w : ℕ) (x : Op) → inRange own w ≡ true → opOf w ≡ x → fits own x

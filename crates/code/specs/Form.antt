@@ -4,7 +4,6 @@ use Prim.Native.Nat.{ℕ, _+_}
 use mathlib.Core.Bool.{Bool, true, false, _&&_}
 use lib.Dec.{leb, ltb, eqb}
 use Rattle.mask.specs.Mask.{with, without}
-use Rattle.code.specs.declared.Expr.{Expr}
 use Rattle.code.specs.declared.Op.{Op}
 use Rattle.code.specs.declared.Op.the-variants.{Acquire, Release, Assign, Jump, Finish, Unknown}
 use Rattle.code.specs.Table.{highest, kindOf, fieldA, fieldB, fieldC}
@@ -13,7 +12,8 @@ use Rattle.code.specs.Op.{opOf}
 -- the kind is one of the eight and each field in its range
 unfoldable pub inRange : ℕ → ℕ → Bool
 inRange own w =
-    leb 1 (kindOf w) && leb (kindOf w) 8 && leb (fieldA w) (highest own (kindOf w) 0) && leb (fieldB w) (highest own (kindOf w) 1) && leb (fieldC w) (highest own (kindOf w) 2)
+    leb 1 (kindOf w) && leb (kindOf w) 8 && leb (fieldA w) (highest own (kindOf w) 0) && leb (fieldB w) (highest own (kindOf w) 1) && leb (fieldC w)
+    (highest own (kindOf w) 2)
 
 -- step i of n is a position that the instruction may have; a jump goes forward and inside
 abbrev pub inPlace : ℕ → ℕ → Op → Bool

@@ -1,2 +1,6 @@
-pub mod Held
-pub mod Jobs
+pub mod Input
+pub mod Pieces
+pub mod Core
+pub mod Wants
+pub mod Days
+pub mod Printout

@@ -1,58 +1,112 @@
-// A day: frame lines from a descriptor, played one after the other on one image, and what they print written to another.
-// Input and output go in large pieces; what is to be printed is written before the next piece of input is waited for.
-use working::Cursors;
+// A day of frame lines, without input and output of its own: the complete lines of an input buffer are played on an image buffer, and
+// what they print is put into an output buffer. Whoever calls it reads, writes and calls again.
+use lines::Job;
+use lines::Played;
 
 mod input;
 mod playing;
 mod printing;
 
 pub use input::line_end;
-ghost use Rattle.day.specs.Held.{Within};
+pub use playing::dawn;
+ghost use mathlib.Core.Path.{_≡_};
+ghost use lib.ListN.{length};
+ghost use Rattle.day.specs.Pieces.{whole};
+ghost use Rattle.day.specs.Core.{pointOf, Holds, Advanced};
+ghost use Rattle.day.specs.Wants.{wantOf};
 
 // Where a day stands.
-struct Day {
-    // The bytes of the input's buffer that are not played yet.
-    pub from: usize,
-    pub to: usize,
-    // Whether more input may come.
-    pub more: bool,
-    // The bytes of the output's buffer that are not written yet.
-    pub used: usize,
+pub struct Day {
     // The words of the image; 0 before the first line.
     pub words: usize,
-    pub cursors: Cursors,
-    // Whether nothing is left to do.
-    pub over: bool,
+    // Where the playing of a line stands; its job is `Stop` where the day is over.
+    pub played: Played,
 }
 
-// One line played, or the next piece of input read.
-fn step(input: i32, output: i32, image: &mut [u64], buf: &mut [u8], out: &mut [u8], s: Day) -> Day
-    requires { ⌜ Within (now image) (now buf) (now out) s ⌝ }
-    ensures { λ r. ⌜ Within (now (image .exit)) (now (buf .exit)) (now (out .exit)) r ⌝ }
+// A piece of a day: whether there was one to be made, where the day then stands, and where its input goes on.
+pub struct Piece {
+    pub done: bool,
+    pub day: Day,
+    pub from: usize,
+}
+
+// A line gone on with: where the day then stands, and the bytes of output used.
+pub struct Run {
+    pub day: Day,
+    pub used: usize,
+}
+
+// What the core has done: where the day stands, the bytes of input taken, and the bytes of output used.
+pub struct Stretch {
+    pub day: Day,
+    pub taken: usize,
+    pub used: usize,
+}
+
+// What a day needs to go on.
+pub enum Want {
+    // Room in the output.
+    Room,
+    // More input.
+    Input,
+    // Nothing: it is over, or its input is.
+    Nothing,
+}
+
+// Goes on with a day until it is over, the input has no complete line, or the output has no room for a line. `more` says that more
+// input may come.
+pub fn advance(image: &mut [u64], d: Day, input: &[u8], more: bool, out: &mut [u8]) -> Stretch
+    requires { ⌜ Holds (now image) d ⌝ }
+    ensures { λ r. ⌜ Advanced (now (image .entry)) (now (image .exit)) (now (input .entry)) (now (out .entry)) (now (out .exit)) d r
+        (whole more (length (now (out .entry))) (pointOf (now (input .entry)) (now (image .entry)) d)) ⌝ }
 {
-    let from = s.from;
-    let to = s.to;
-    let end = input::line_end(buf, from, to);
-    if input::unfinished(end, from, to, s.more) {
-        return input::more(input, output, buf, out, s);
+    let mut s = d;
+    let mut from: usize = 0;
+    let mut used: usize = 0;
+    while 22 <= out.len() - used {
+        let p = playing::piece(image, s, input, from, more);
+        s = p.day;
+        from = p.from;
+        if !p.done {
+            return Stretch {
+                day: s,
+                taken: from,
+                used: used,
+            };
+        }
+        let played = s.played;
+        let printed = played.printed;
+        used = printing::print(out, used, printed);
+        let r = playing::run_on(image, s, out, used);
+        s = r.day;
+        used = r.used;
     }
-    if from == to {
-        return playing::over(s);
+    Stretch {
+        day: s,
+        taken: from,
+        used: used,
     }
-    let p = playing::line(output, image, out, s, &buf[from..end]);
-    playing::past(p, end)
 }
 
-// Plays the day that comes from one descriptor, and prints to another.
-pub fn play(input: i32, output: i32) {
-    let mut image = [0u64; edition::LARGEST];
-    let mut buf = io::large_buffer();
-    let mut out = io::large_buffer();
-    let mut s = playing::dawn();
-    let mut turns = u64::MAX;
-    while turns > 0 && !s.over {
-        s = step(input, output, &mut image, &mut buf, &mut out, s);
-        turns -= 1;
+// What is to be done after the core has come to its end, with so much room left.
+pub fn wants(d: Day, more: bool, room: usize) -> Want
+    ensures { λ r. ⌜ r ≡ wantOf more room (d .played .job) ⌝ }
+{
+    if room < 22 {
+        return Want::Room;
     }
-    printing::flush(output, &out, s.used);
+    if !more {
+        return Want::Nothing;
+    }
+    let p = d.played;
+    let job = p.job;
+    match job {
+        Job::Turns {
+            worker: _,
+            turns: _,
+        } => Want::Input,
+        Job::Stores(_) => Want::Input,
+        Job::Next => Want::Input,
+        Job::Stop => Want::Nothing,
+    }
 }

@@ -11,7 +11,6 @@ use run::Ran;
 use section::Verdict;
 use turn::Turned;
 use working::Cursors;
-
 ghost use mathlib.Core.Path.{_≡_};
 ghost use lib.ListN.{length};
 ghost use Rattle.section.specs.Check.{codeOf, check};

@@ -20,7 +20,8 @@ isSubmit Malformed = false
 
 private-tests : (long hex short k1 k2 k3 few even turns whole : Bool) (d k e j : ℕ)
     → isSubmit (cond long Malformed (cond hex (cond short Malformed
-    (cond k1 (cond few Malformed (cond even (Submit d k) Malformed)) (cond k2 (cond turns (Turns e j) Malformed) (cond k3 (cond whole Recover Malformed) Malformed)))) Malformed)) ≡ true
+    (cond k1 (cond few Malformed (cond even (Submit d k) Malformed))
+    (cond k2 (cond turns (Turns e j) Malformed) (cond k3 (cond whole Recover Malformed) Malformed)))) Malformed)) ≡ true
     → (long ≡ false) × (few ≡ false)
 private-tests true hex short k1 k2 k3 few even turns whole d k e j h = absurd (false≢true h)
 private-tests false false short k1 k2 k3 few even turns whole d k e j h = absurd (false≢true h)
@@ -37,5 +38,6 @@ private-tests false true false false false false few even turns whole d k e j h 
 pub submit-long : (l : List ℕ) (d k : ℕ) → frameOf l ≡ Submit d k → (148 ≤ length l) × (length l ≤ 4096)
 unfolding frameOf byKind submitFrame turnsFrame recoverFrame
 submit-long l d k e =
-    let t = private-tests (ltb 4096 (length l)) (allHex l) (ltb (length l) 2) (eqb (hexAt l 0 2) 1) (eqb (hexAt l 0 2) 2) (eqb (hexAt l 0 2) 3) (ltb (length l) 148) (eqb ((length l - 148) % 16) 0) (eqb (length l) 8) (eqb (length l) 2) _ _ _ _ (ap isSubmit e) in
+    let t = private-tests (ltb 4096 (length l)) (allHex l) (ltb (length l) 2) (eqb (hexAt l 0 2) 1) (eqb (hexAt l 0 2) 2) (eqb (hexAt l 0 2) 3)
+    (ltb (length l) 148) (eqb ((length l - 148) % 16) 0) (eqb (length l) 8) (eqb (length l) 2) _ _ _ _ (ap isSubmit e) in
     (ltb-false _ _ (t .1), ltb-false _ _ (t .0))

@@ -4,7 +4,6 @@ use mathlib.Core.List.{List, [], _∷_}
 use mathlib.Core.Bool.{cond}
 use lib.ListN.{length, drop}
 use lib.Dec.{ltb, eqb}
-use Rattle.soundness.specs.Sound.{eight}
 use Rattle.frames.specs.declared.Opening.{Opening}
 use Rattle.frames.specs.declared.Opening.the-variants.{Workers, Malformed as OpeningMalformed}
 use Rattle.frames.specs.declared.Frame.{Frame}
@@ -39,7 +38,8 @@ frameOf l = cond (ltb 4096 (length l)) Malformed (cond (allHex l) (cond (ltb (le
 -- ---- the rest of a submit
 
 abbrev pub argumentsOf : List ℕ → List ℕ
-argumentsOf l = eight (λ i. hexAt l (20 + 16 * i) 16)
+argumentsOf l =
+    hexAt l 20 16 ∷ hexAt l 36 16 ∷ hexAt l 52 16 ∷ hexAt l 68 16 ∷ hexAt l 84 16 ∷ hexAt l 100 16 ∷ hexAt l 116 16 ∷ hexAt l 132 16 ∷ []
 
 -- the digits after the arguments; none where the line is shorter
 abbrev pub stepsPart : List ℕ → List ℕ

@@ -1,17 +1,13 @@
-// Frame lines: what a line of bytes says, and one line played on an image and cursors, with what is to be printed. A line is
-// begun, and then gone on with, a turn or a printed store at a time, so that nothing here needs a large buffer.
-use working::Cursors;
-use repair::Repair;
-
+// Frame lines: what a line of any bytes says, and how a line is printed.
 mod digits;
-mod playing;
 mod reading;
 mod saying;
 
 ghost use mathlib.Core.Path.{_≡_};
-ghost use Rattle.frames.specs.Line.{firstOf, frameOf, stepsPart};
+ghost use Prim.Native.Nat.{_≤_, _/_};
+ghost use lib.ListN.{length, take};
+ghost use Rattle.frames.specs.Line.{firstOf, frameOf, stepsPart, argumentsOf, wordsOf};
 ghost use Rattle.frames.specs.Print.{refusal, textOf};
-ghost use Rattle.frames.specs.Play.{day, begin, goOn};
 
 // The number of a malformed line.
 pub const MALFORMED: u64 = 14;
@@ -37,27 +33,6 @@ pub enum Printed {
     Line { at: usize, value: u64 },
 }
 
-// What is left to do of a line.
-pub enum Job {
-    // So many turns of a worker.
-    Turns { worker: usize, turns: u64 },
-    // The stores of a recovery are to be printed, from this slot on.
-    Stores(usize),
-    // Nothing: the next line.
-    Next,
-    // Nothing, and no line follows.
-    Stop,
-}
-
-// Where the playing of a line stands.
-pub struct Played {
-    pub cursors: Cursors,
-    pub printed: Printed,
-    pub job: Job,
-    // What the recovery of this line stored; of another line nothing.
-    pub repair: Repair,
-}
-
 // The first line: the number of workers in two digits.
 pub fn first(line: &[u8]) -> Opening
     ensures { λ r. ⌜ r ≡ firstOf (now (line .entry)) ⌝ }
@@ -79,6 +54,23 @@ pub fn steps_part(line: &[u8]) -> &[u8]
     reading::steps_part(line)
 }
 
+// The arguments of a submit.
+pub fn arguments(line: &[u8]) -> [u64; 8]
+    requires { ⌜ 148 ≤ length (now line) ⌝ }
+    ensures { λ r. ⌜ r ≡ argumentsOf (now (line .entry)) ⌝ }
+{
+    reading::arguments(line)
+}
+
+// Puts the words of a steps' part at the start of a lent slice, and answers how many they are.
+pub fn words(part: &[u8], out: &mut [u64]) -> usize
+    requires { ⌜ length (now part) / 16 ≤ length (now out) ⌝ }
+    ensures count { λ r. ⌜ r ≡ length (now (part .entry)) / 16 ⌝ }
+    ensures words { λ r. ⌜ take (length (now (part .entry)) / 16) (now (out .exit)) ≡ wordsOf (now (part .entry)) ⌝ }
+{
+    reading::words(part, out)
+}
+
 // A refusal with a cause, as it is printed.
 pub fn refusal(cause: u64) -> Printed
     ensures { λ r. ⌜ r ≡ refusal cause ⌝ }
@@ -91,30 +83,4 @@ pub fn text(at: usize, value: u64) -> [u8; 22]
     ensures { λ r. ⌜ r ≡ textOf at value ⌝ }
 {
     saying::text(at, value)
-}
-
-// Begins a line: a submit and a recovery are made here, and the turns of a worker are left to `go_on`.
-pub fn begin(image: &mut [u64], c: Cursors, line: &[u8]) -> Played
-    ensures { λ r. ⌜ day (now (image .exit)) r ≡ begin (now (image .entry)) c (now (line .entry)) ⌝ }
-{
-    let frame = reading::read(line);
-    match frame {
-        Frame::Submit { worker, number } => playing::submit(image, c, line, worker, number),
-        Frame::Turns { worker, turns } => playing::turns(c, worker, turns),
-        Frame::Recover => playing::recover(image),
-        Frame::Malformed => playing::malformed(c),
-    }
-}
-
-// Goes on with a line: one turn, or one store of a recovery printed.
-pub fn go_on(image: &mut [u64], p: Played) -> Played
-    ensures { λ r. ⌜ day (now (image .exit)) r ≡ goOn (day (now (image .entry)) p) ⌝ }
-{
-    let job = p.job;
-    match job {
-        Job::Turns { worker, turns } => playing::turn(image, p, worker, turns),
-        Job::Stores(slot) => playing::store(p, slot),
-        Job::Next => playing::over(p, Job::Next),
-        Job::Stop => playing::over(p, Job::Stop),
-    }
 }

@@ -43,7 +43,8 @@ module _ (mark n : ℕ) (m : Image) where
   pub header-true : headerOk mark n m ≡ true → Header mark n m
   unfolding headerOk
   header-true h =
-      let p = private-parts (leb 1 (workers m)) (leb (workers m) 8) (eqb (length m) (lengthOf n (workers m))) (eqb (getD m 0 0) mark) (zeros (take 6 (drop 2 m))) h in
+      let p = private-parts (leb 1 (workers m)) (leb (workers m) 8) (eqb (length m) (lengthOf n (workers m))) (eqb (getD m 0 0) mark)
+      (zeros (take 6 (drop 2 m))) h in
       record { some = leb-true _ _ (p .0); few = leb-true _ _ (p .1); size = eqb-true _ _ (p .2); marked = eqb-true _ _ (p .3); spare = p .4 }
 
   pub header-workers : headerOk mark n m ≡ true → (1 ≤ workers m) × (workers m ≤ 8)

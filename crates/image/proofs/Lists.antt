@@ -31,7 +31,8 @@ module _ (n : ℕ) where
   unfolding putAll
   putAll-nil left m = refl
 
-  pub putAll-cons : (left : ℕ) (m : Image) (s : Store) (ss : List Store) → putAll n left m (s ∷ ss) ≡ putAll n (left - 1) (put left m (indexOf n (s .place)) (s .value)) ss
+  pub putAll-cons : (left : ℕ) (m : Image) (s : Store) (ss : List Store)
+      → putAll n left m (s ∷ ss) ≡ putAll n (left - 1) (put left m (indexOf n (s .place)) (s .value)) ss
   unfolding putAll
   putAll-cons left m s ss = refl
 

@@ -108,9 +108,11 @@ module _ (n : ℕ) where
           → cond b (getD (set m (indexOf n p) v) (indexOf n q) 0) 0 ≡ cond c v (cond b (getD m (indexOf n q) 0) 0)
       by true hb true hc = rw (same-place q p hc) (getD-set-same m (indexOf n p) v 0 (rw (z .size) (index-lt n D p ok)))
       by true hb false hc =
-          getD-set-other m (indexOf n p) (indexOf n q) v 0 (λ e. true≢false (sym (same-refl p) ∙ (ap (λ (x : Place). same x p) (sym (index-apart n D q p hb ok e)) ∙ hc)))
+          getD-set-other m (indexOf n p) (indexOf n q) v 0
+          (λ e. true≢false (sym (same-refl p) ∙ (ap (λ (x : Place). same x p) (sym (index-apart n D q p hb ok e)) ∙ hc)))
       by false hb true hc = absurd (true≢false (sym ok ∙ (ap (valid D n) (sym (same-place q p hc)) ∙ hb)))
       by false hb false hc = refl
 
-  pub at-store : (D left : ℕ) (m : Image) (p : Place) (v : ℕ) → Sized n D m → valid D n p ≡ true → 0 < left → (q : Place) → at n (put left m (indexOf n p) v) q ≡ upd (at n m) p v q
+  pub at-store : (D left : ℕ) (m : Image) (p : Place) (v : ℕ) → Sized n D m → valid D n p ≡ true → 0 < left → (q : Place)
+      → at n (put left m (indexOf n p) v) q ≡ upd (at n m) p v q
   at-store D left m p v z ok some q = rw (put-lots left m (indexOf n p) v some) (at-set D m p v z ok q)

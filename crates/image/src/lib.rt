@@ -125,7 +125,7 @@ pub fn lock_index(b: u64) -> usize
 }
 
 // The offset of a single word in its record.
-pub fn offset_of(f: Field) -> usize
+fn offset_of(f: Field) -> usize
     ensures { λ r. ⌜ r ≡ offset f ⌝ }
 {
     match f {

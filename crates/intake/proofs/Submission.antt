@@ -2,7 +2,7 @@
 -- stores: their number, their places, and their order in the code.
 use Prim.Native.Nat.{ℕ, _+_, _-_, _<_, _≤_}
 use borrow.Author.Tests.{ltb-true, lt-ltb}
-use mathlib.Core.Path.{_≡_, refl, _∙_, sym}
+use mathlib.Core.Path.{_≡_, refl, sym}
 use mathlib.Core.Bool.{Bool, true, false, cond, _&&_, and-assoc, false≢true, true≢false}
 use mathlib.Core.List.{List, [], _∷_, _++_}
 use native.Mathlib.Omega.{arith}
@@ -55,7 +55,8 @@ private-parts false b c e v h = absurd (false≢true h)
 pub accepted : (mark n : ℕ) (w : World) (d k : ℕ) (ws : List ℕ) → isTaken (submitAnswer mark n w d k ws) ≡ true → Accepted mark n w d k ws
 unfolding submitAnswer
 accepted mark n w d k ws h =
-    let p = private-parts (headerOk mark n (w .image)) (ltb d (workers (w .image))) (free n w d) (ltb (at n (w .image) (field Finished d)) k) (check n (length ws) (codeOf ws)) h in
+    let p = private-parts (headerOk mark n (w .image)) (ltb d (workers (w .image))) (free n w d) (ltb (at n (w .image) (field Finished d)) k)
+    (check n (length ws) (codeOf ws)) h in
     record { header = p .0; below = ltb-true _ _ (p .1); unused = p .2; newer = ltb-true _ _ (p .3); checked = p .4 }
 
 module _ (n : ℕ) (w : World) (d k : ℕ) (args ws : List ℕ) where

@@ -1,7 +1,7 @@
 // The questions about a worker of an image.
-use working::Refusal;
 use crate::Standing;
 use image::Field;
+use working::Refusal;
 ghost use mathlib.Core.Path.{_≡_};
 ghost use Prim.Native.Nat.{_≤_};
 ghost use Rattle.image.specs.Image.{at};

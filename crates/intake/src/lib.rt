@@ -66,7 +66,8 @@ pub fn format(image: &mut [u64], workers: u64, mark: u64, own: usize, left: &mut
     requires { ⌜ own ≤ 64 ⌝ }
     ensures answer { λ r. ⌜ r .answer ≡ formatAnswer own (now (image .entry)) workers ⌝ }
     ensures cursors { λ r. ⌜ r .cursors ≡ allIdle ⌝ }
-    ensures image { λ r. ⌜ now (image .exit) ≡ formatLeaves mark own (now (left .entry)) (now (image .entry)) workers (formatAnswer own (now (image .entry)) workers) ⌝ }
+    ensures image { λ r. ⌜ now (image .exit)
+        ≡ formatLeaves mark own (now (left .entry)) (now (image .entry)) workers (formatAnswer own (now (image .entry)) workers) ⌝ }
     ensures left { λ r. ⌜ now (left .exit) ≡ formatLeft own (now (left .entry)) workers (formatAnswer own (now (image .entry)) workers) ⌝ }
 {
     let idle = working::all_idle();
@@ -115,4 +116,3 @@ pub fn submit(
         cursors: next,
     }
 }
-

@@ -1,9 +1,9 @@
 // Submitting a section: the causes, and the stores of one that is taken.
-use working::Cursors;
-use working::Refusal;
 use crate::Submitted;
 use crate::storing;
 use image::Field;
+use working::Cursors;
+use working::Refusal;
 ghost use mathlib.Core.Path.{_≡_};
 ghost use Prim.Native.Nat.{ℕ, _+_, _-_, _<_, _≤_};
 ghost use mathlib.Core.List.{_++_};

@@ -29,7 +29,8 @@ same-members zero m n hm hn same = omega arith
 same-members (suc k) m n hm hn same =
     let am : m < 2 * 2 ^ k = rw (← pow-succ' 2 k) hm in
     let an : n < 2 * 2 ^ k = rw (← pow-succ' 2 k) hn in
-    let half : m / 2 ≡ n / 2 = same-members k (m / 2) (n / 2) (omega arith) (omega arith) (λ b l. sym (has-suc m b) ∙ (same (suc b) (omega arith) ∙ has-suc n b)) in
+    let half : m / 2 ≡ n / 2 = same-members k (m / 2) (n / 2) (omega arith) (omega arith)
+    (λ b l. sym (has-suc m b) ∙ (same (suc b) (omega arith) ∙ has-suc n b)) in
     let low : m % 2 ≡ n % 2 = private-digit m n (sym (has-zero m) ∙ (same 0 (omega arith) ∙ has-zero n)) in
     omega arith
 

@@ -1,15 +1,13 @@
 -- What the plan of a turn rests on: the cases of the definitions that go by the number of a turn, for a turn that is known
 -- only by what it is not; and what a cursor that is ready says of its instruction.
-use Prim.Native.Nat.{ℕ, suc, zero, _+_, _-_, _<_, _≤_}
-use mathlib.Core.Path.{_≡_, refl, ap, _∙_}
-use mathlib.Core.Bool.{Bool, true, false, cond, _&&_, false≢true, true≢false}
+use Prim.Native.Nat.{ℕ, suc, zero, _+_, _-_, _<_}
+use mathlib.Core.Path.{_≡_, refl}
+use mathlib.Core.Bool.{Bool, true, false, _&&_, false≢true}
 use mathlib.Core.Logic.{_≢_}
 use native.Mathlib.Omega.{arith}
-use lib.ListN.{length, getD}
-use lib.Dec.{leb, ltb, eqb}
+use lib.Dec.{leb, ltb}
 use borrow.Author.Tests.{leb-true, ltb-true, lt-ltb}
 use Rattle.base.proofs.Bools.{and-left}
-use Rattle.base.proofs.Filling.{getD-inside}
 use Rattle.mask.specs.Mask.{with}
 use Rattle.image.specs.declared.Field.the-variants.{Count, Owned}
 use Rattle.image.specs.Place.{Place, field, Memory}
@@ -19,9 +17,8 @@ use Rattle.code.specs.Op.{opOf}
 use Rattle.code.specs.inner.Fits.{fits}
 use Rattle.code.specs.Form.{inRange, inPlace, wellFormed}
 use Rattle.code.proofs.Ranges.{in-range, turns-most}
-use Rattle.working.specs.declared.Cursors.{Cursors}
 use Rattle.plan.specs.declared.Plan.the-variants.{Store}
-use Rattle.working.specs.Cursor.{Cursor, idle, on, isIdle, cursorAt}
+use Rattle.working.specs.Cursor.{idle, on}
 use Rattle.plan.specs.Turn.{stored, codeIn, activeVal, logged, acquireTurn, finishTurn, ready}
 use Rattle.plan.specs.inner.Plan.{planOf, loggedPlan}
 

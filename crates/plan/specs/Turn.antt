@@ -104,7 +104,8 @@ module _ (n : ℕ) (rd : Memory) (d : ℕ) where
   -- cause 11 does not hold at step s, turn t
   unfoldable pub ready : ℕ → ℕ → Bool
   ready s t =
-      leb 3 (rd (field Count d)) && leb (rd (field Count d)) 64 && ltb s (rd (field Count d)) && wellFormed n (rd (field Count d)) s (codeIn s) && ltb t (turnsOf (codeIn s))
+      leb 3 (rd (field Count d)) && leb (rd (field Count d)) 64 && ltb s (rd (field Count d)) && wellFormed n (rd (field Count d)) s (codeIn s) && ltb t
+      (turnsOf (codeIn s))
 
   -- a turn at a cursor
   unfoldable pub turnAt : Cursor → Outcome

@@ -2,9 +2,9 @@
 use crate::Plan;
 use crate::log;
 use crate::words;
-use image::Field;
 use code::Expr;
 use code::Op;
+use image::Field;
 ghost use mathlib.Core.Path.{_≡_};
 ghost use Prim.Native.Nat.{ℕ, _+_, _<_};
 ghost use Rattle.image.specs.Image.{at};
@@ -29,7 +29,7 @@ fn lock_turn(image: &[u64], d: usize, own: usize, a: u64, s: u8) -> Plan
     }
 }
 
-pub fn acquire_turn(image: &[u64], d: usize, own: usize, a: u64, s: u8, t: u8) -> Plan
+fn acquire_turn(image: &[u64], d: usize, own: usize, a: u64, s: u8, t: u8) -> Plan
     requires { ⌜ (Inside own (now image) d) × (a < 64) × (s < 64) × (t < 6) ⌝ }
     ensures { λ r. ⌜ r ≡ planOf own (acquireTurn own (at own (now (image .entry))) d a s t) ⌝ }
 {
@@ -65,7 +65,7 @@ fn unlock_turn(image: &[u64], d: usize, own: usize, a: u64, s: u8) -> Plan
     }
 }
 
-pub fn release_turn(image: &[u64], d: usize, own: usize, a: u64, s: u8, t: u8) -> Plan
+fn release_turn(image: &[u64], d: usize, own: usize, a: u64, s: u8, t: u8) -> Plan
     requires { ⌜ (Inside own (now image) d) × (a < 64) × (s < 64) × (t < 6) ⌝ }
     ensures { λ r. ⌜ r ≡ planOf own (releaseTurn own (at own (now (image .entry))) d a s t) ⌝ }
 {
@@ -86,7 +86,7 @@ pub fn release_turn(image: &[u64], d: usize, own: usize, a: u64, s: u8, t: u8) -
 }
 
 // The expression is worked out in the turn that stores its value, and in no other.
-pub fn assign_turn(image: &[u64], d: usize, own: usize, a: u64, e: Expr, s: u8, t: u8) -> Plan
+fn assign_turn(image: &[u64], d: usize, own: usize, a: u64, e: Expr, s: u8, t: u8) -> Plan
     requires { ⌜ (Inside own (now image) d) × (a < 512 + own) × ranged own e × (s < 64) × (t < 6) ⌝ }
     ensures { λ r. ⌜ r ≡ planOf own (opTurn own (at own (now (image .entry))) d s t (Op.Assign a e)) ⌝ }
 {
@@ -98,7 +98,7 @@ pub fn assign_turn(image: &[u64], d: usize, own: usize, a: u64, e: Expr, s: u8, 
     log::logged(image, d, own, s, t, target, 0, s + 1, 0, t)
 }
 
-pub fn jump_turn(image: &[u64], d: usize, own: usize, a: u64, b: u64, s: u8) -> Plan
+fn jump_turn(image: &[u64], d: usize, own: usize, a: u64, b: u64, s: u8) -> Plan
     requires { ⌜ (Inside own (now image) d) × (a < 512 + own) × (b < 64) × (s < 64) ⌝ }
     ensures { λ r. ⌜ ((t : ℕ) → r ≡ planOf own (opTurn own (at own (now (image .entry))) d s t (Op.Jump a b))) ⌝ }
 {
@@ -114,7 +114,7 @@ pub fn jump_turn(image: &[u64], d: usize, own: usize, a: u64, b: u64, s: u8) -> 
     }
 }
 
-pub fn finish_turn(image: &[u64], d: usize, own: usize, s: u8, t: u8) -> Plan
+fn finish_turn(image: &[u64], d: usize, own: usize, s: u8, t: u8) -> Plan
     requires { ⌜ Inside own (now image) d ⌝ }
     ensures { λ r. ⌜ r ≡ planOf own (finishTurn own (at own (now (image .entry))) d s t) ⌝ }
 {

@@ -1,7 +1,6 @@
 -- The call: what it answers and leaves, by what the definition of recovery says of the image.
 use Prim.Native.Nat.{ℕ, _-_}
-use mathlib.Core.Bool.{Bool, true, false}
-use mathlib.Core.List.{List, [], _∷_}
+use mathlib.Core.List.{List, []}
 use lib.ListN.{length}
 use Rattle.image.specs.Place.{Store}
 use Rattle.image.specs.Image.{Image, putAll}

@@ -5,7 +5,6 @@ use soundness::Answer;
 use soundness::Judged;
 use soundness::Refusal;
 use working::Cursors;
-
 ghost use mathlib.Core.Path.{_≡_};
 ghost use mathlib.Core.Bool.{true};
 ghost use Prim.Native.Nat.{_≤_};

@@ -1,16 +1,15 @@
 -- What an accepted recovery stores, as the code has it: the sets and owed sets that decide it, worked out before the first
 -- store (`repairOf`), and the 592 slots of a repair, each a store or empty, in document 01's order (`slotAt`).
-use Prim.Native.Nat.{ℕ, suc, zero, _+_, _-_, _/_, _%_, _<_, _≤_}
-use mathlib.Core.Path.{_≡_}
-use mathlib.Core.Bool.{true, cond}
+use Prim.Native.Nat.{ℕ, suc, zero, _+_, _-_, _/_, _%_}
+use mathlib.Core.Bool.{cond}
 use mathlib.Core.List.{List, [], _∷_}
 use lib.Bits.{bitOr}
-use lib.ListN.{length, getD, replicate}
-use lib.Dec.{leb, ltb}
+use lib.ListN.{getD, replicate}
+use lib.Dec.{ltb}
 use Rattle.mask.specs.Mask.{has, with}
-use Rattle.image.specs.declared.Field.the-variants.{Count, Pc, Intent}
+use Rattle.image.specs.declared.Field.the-variants.{Count, Intent}
 use Rattle.image.specs.Place.{lock, field, Memory, Store}
-use Rattle.image.specs.Image.{Image, lengthOf, indexOf, at, workers, put}
+use Rattle.image.specs.Image.{Image, indexOf, at, workers, put}
 use Rattle.repair.specs.declared.Repair.{Repair}
 use Rattle.repair.specs.declared.Slot.{Slot}
 use Rattle.repair.specs.declared.Slot.the-variants.{Empty, Store as Filled}

@@ -12,12 +12,8 @@ use Rattle.base.proofs.Filling.{getD-inside}
 use Rattle.base.proofs.Counting.{left-step}
 use Rattle.working.specs.declared.Cursors.{Cursors}
 use Rattle.working.specs.Cursor.{isIdle, cursorAt}
-use Rattle.plan.specs.Turn.{resting, turnAt}
-use Rattle.working.specs.World.{World}
-use Rattle.turn.specs.Call.{outcomeAt}
 use Rattle.turn.proofs.Turns.{rests}
 use Rattle.run.specs.Run.{anyOpen, openTo, Counting, turned, through, sweep}
-use Rattle.working.proofs.Placed.{idle-is}
 use Rattle.working.proofs.Placed.{idle-by}
 
 -- all of the workers from d to e are idle
@@ -86,7 +82,8 @@ module _ (c : Cursors) where
   to-last zero h = absurd (h to-zero)
   to-last (suc k) h = by (to-last k) (isIdle (cursorAt c k)) refl
     where
-      by : (openTo k c ≢ 0 → isIdle (cursorAt c (openTo k c - 1)) ≡ false) → (b : Bool) → isIdle (cursorAt c k) ≡ b → isIdle (cursorAt c (openTo (suc k) c - 1)) ≡ false
+      by : (openTo k c ≢ 0 → isIdle (cursorAt c (openTo k c - 1)) ≡ false) → (b : Bool) → isIdle (cursorAt c k) ≡ b
+          → isIdle (cursorAt c (openTo (suc k) c - 1)) ≡ false
       by m true e = rw (to-by k true e) (m (λ z. h (to-by k true e ∙ z)))
       by m false e = let q : suc k - 1 ≡ k = omega arith in rw (to-by k false e, q) e
 
@@ -100,7 +97,8 @@ module _ (c : Cursors) where
   any-some zero d i a b e = absurd (omega arith)
   any-some (suc k) d i a b e = by (λ l. any-some k (d + 1) i l (omega arith) e) (ℕ-discrete d i) (isIdle (cursorAt c d)) refl
     where
-      by : (d + 1 ≤ i → anyOpen k (d + 1) c ≡ true) → Dec (d ≡ i) → (x : Bool) → isIdle (cursorAt c d) ≡ x → cond (isIdle (cursorAt c d)) (anyOpen k (d + 1) c) true ≡ true
+      by : (d + 1 ≤ i → anyOpen k (d + 1) c ≡ true) → Dec (d ≡ i) → (x : Bool) → isIdle (cursorAt c d) ≡ x
+          → cond (isIdle (cursorAt c d)) (anyOpen k (d + 1) c) true ≡ true
       by m q false z = rw z
       by m (yes q) true z = absurd (true≢false (sym z ∙ ap (λ (j : ℕ). isIdle (cursorAt c j)) q ∙ e))
       by m (no q) true z = rw z (m (omega arith))

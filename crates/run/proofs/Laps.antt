@@ -6,7 +6,7 @@ use mathlib.Core.Bool.{Bool, true, false, cond}
 use mathlib.Core.Logic.{_≢_}
 use native.Mathlib.Omega.{arith}
 use native.Mathlib.Decide.{ℕ-discrete}
-use lib.ListN.{length, getD}
+use lib.ListN.{getD}
 use lib.Dec.{leb, eqb}
 use borrow.Author.Tests.{leb-true, leb-false}
 use Rattle.base.proofs.Counting.{left-all}
@@ -16,18 +16,15 @@ use Rattle.tally.specs.declared.Tally.{Tally}
 use Rattle.turn.specs.declared.Did.{Did}
 use Rattle.working.specs.declared.Refusal.the-variants.{Cursor as CursorRefused}
 use Rattle.run.specs.declared.End.the-variants.{AllIdle, Spent, Halted}
-use Rattle.working.specs.Cursor.{on, isIdle, cursorAt}
-use Rattle.plan.specs.Turn.{refused, turnAt}
+use Rattle.working.specs.Cursor.{isIdle, cursorAt}
 use Rattle.working.specs.World.{World}
 use Rattle.turn.specs.Call.{answerOf, leaves, outcomeAt}
 use Rattle.plan.specs.inner.Plan.{planOf}
 use Rattle.turn.specs.inner.Acting.{tested, planDid, didAnswer}
 use Rattle.run.specs.Run.{counted, openTo, Counting, counting, ran, through, halted, sweep, roundsOf}
-use Rattle.working.proofs.Placed.{on-is}
-use Rattle.plan.proofs.Planned.{ready-says}
-use Rattle.working.proofs.Placed.{Full, open-turn, idle-says}
+use Rattle.working.proofs.Placed.{Full, idle-says}
 use Rattle.run.proofs.Staying.{Known, known-turn, sized-leaves}
-use Rattle.turn.proofs.Turns.{made-at, refused-at, Made, made-ready, made-goes, did-answers, leaves-other}
+use Rattle.turn.proofs.Turns.{made-at, refused-at, made-goes, did-answers, leaves-other}
 use Rattle.run.proofs.Idling.{Idle, sweep-idle, sweep-rest, to-zero, to-most, to-idle, to-none, to-some, to-cut, to-same, to-below, to-with}
 use Rattle.run.proofs.Rounds.{Most, most-more, most-counted, turned-is, sweep-on, sweep-halts}
 use Rattle.run.proofs.Rounds.{rounds-idle, rounds-spent, rounds-on, after-through, after-halted}
@@ -98,7 +95,9 @@ module _ (own n to round : ℕ) (s₀ s : Counting) (next d : ℕ) (l : Lap own 
         most = rw count (most-more (8 * round + d + 1) (8 * round + (d + 1)) (most-counted (8 * round + d) (didAnswer x) (l .most)) (omega arith));
         last = kept ∙ to-with (w .cursors) d next (rw (f .turns) (omega (arith, l .top, l .few))) below;
         rest = λ i a b. rw (others i (λ r. omega arith)) (l .rest i a b);
-        known = λ i a g. rw left (known-turn n own (s .world) d (l .full) (l .size) (omega (arith, l .top)) few test i (λ q. l .known i a (λ r. omega (arith, g r, q))));
+        known =
+            λ i a g. rw left (known-turn n own (s .world) d (l .full) (l .size) (omega (arith, l .top)) few test i
+            (λ q. l .known i a (λ r. omega (arith, g r, q))));
         same = rw (sweep-on n d (omega (arith, l .top)) own s (made-goes own o made), ← turn) at (l .same);
       }
 
@@ -122,7 +121,8 @@ module _ (own n to round : ℕ) (s₀ s : Counting) (next d : ℕ) (l : Lap own 
       by false e = l .known i a (λ r. omega (arith, leb-false to i e))
 
   -- halted
-  pub lap-halts : d < to → getD (s .world .cursors .turn) d 0 ≢ 255 → tested own (s .world .image) (s .world .cursors) d ≡ false → sweep own n 0 s₀ ≡ halted (CursorRefused d) s
+  pub lap-halts : d < to → getD (s .world .cursors .turn) d 0 ≢ 255 → tested own (s .world .image) (s .world .cursors) d ≡ false
+      → sweep own n 0 s₀ ≡ halted (CursorRefused d) s
   lap-halts h o e =
       sym (l .same)
       ∙ sweep-halts n d (omega (arith, l .top)) own s (CursorRefused d) (refused-at own (s .world) d (l .full) (omega (arith, l .top, l .few)) o e)
@@ -182,5 +182,6 @@ module _ (own n rounds : ℕ) (s₀ s : Counting) (round to : ℕ) (l : Laps own
   pub laps-spent : rounds ≤ round → to ≢ 0 → ran Spent s ≡ roundsOf own rounds n s₀
   laps-spent h o = rw (rounds-spent own n rounds round s h (to-some (s .world .cursors) n (λ q. o (l .last ∙ q)))) at (l .same)
 
-  pub laps-halts : (v : Counting) (d : ℕ) → to ≢ 0 → round < rounds → sweep own n 0 s ≡ halted (CursorRefused d) v → ran (Halted (CursorRefused d)) v ≡ roundsOf own rounds n s₀
+  pub laps-halts : (v : Counting) (d : ℕ) → to ≢ 0 → round < rounds → sweep own n 0 s ≡ halted (CursorRefused d) v
+      → ran (Halted (CursorRefused d)) v ≡ roundsOf own rounds n s₀
   laps-halts v d o r e = rw (rounds-on own n rounds round s r (to-some (s .world .cursors) n (λ q. o (l .last ∙ q))), e, after-halted) at (l .same)

@@ -64,7 +64,8 @@ module _ (n : ℕ) where
 -- ---- the workers from d on, of k
 
 module _ (k d : ℕ) (h : d < k) where
-  pub sweep-on : (n : ℕ) (s : Counting) → isRefused (answerOf n (outcomeAt n (s .world) d)) ≡ false → sweep n (k - d) d s ≡ sweep n (k - (d + 1)) (d + 1) (turned n s d)
+  pub sweep-on : (n : ℕ) (s : Counting) → isRefused (answerOf n (outcomeAt n (s .world) d)) ≡ false
+      → sweep n (k - d) d s ≡ sweep n (k - (d + 1)) (d + 1) (turned n s d)
   unfolding sweep
   sweep-on n s e = rw (left-step k d h) (swept-on n (outcomeAt n (s .world) d) s (sweep n (k - (d + 1)) (d + 1) (turned n s d)) e)
 
@@ -84,7 +85,8 @@ module _ (n D : ℕ) where
   unfolding roundsOf
   rounds-spent k i s h e = rw (left-none k i h, e)
 
-  pub rounds-on : (k i : ℕ) (s : Counting) → i < k → anyOpen D 0 (s .world .cursors) ≡ true → roundsOf n (k - i) D s ≡ afterSweep n (roundsOf n (k - (i + 1)) D) (sweep n D 0 s)
+  pub rounds-on : (k i : ℕ) (s : Counting) → i < k → anyOpen D 0 (s .world .cursors) ≡ true
+      → roundsOf n (k - i) D s ≡ afterSweep n (roundsOf n (k - (i + 1)) D) (sweep n D 0 s)
   unfolding roundsOf
   rounds-on k i s h e = rw (left-step k i h, e)
 

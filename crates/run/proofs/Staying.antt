@@ -25,7 +25,8 @@ use Rattle.code.specs.Op.{opOf}
 use Rattle.code.specs.inner.Fits.{fits}
 use Rattle.code.proofs.Ranges.{opTurns, turns-op}
 use Rattle.working.specs.Cursor.{Cursor, idle, on, stepNo, turnNo, setAt, placed}
-use Rattle.plan.specs.Turn.{Outcome, stored, jumped, unheld, waiting, resting, refused, operand, codeIn, second, spareAddr, spareVal, logged, acquireTurn, finishTurn, opTurn, ready, turnAt}
+use Rattle.plan.specs.Turn.{Outcome, stored, jumped, unheld, waiting, resting, refused, operand, codeIn, second, spareAddr, spareVal, logged, acquireTurn}
+use Rattle.plan.specs.Turn.{finishTurn, opTurn, ready, turnAt}
 use Rattle.working.specs.World.{World, world}
 use Rattle.turn.specs.inner.Acting.{tested}
 use Rattle.turn.specs.Call.{leaves, outcomeAt}
@@ -90,7 +91,8 @@ module _ (D n : ℕ) (rd : Memory) (d : ℕ) (h : d < D) (s : ℕ) where
   goes-cond k true x y p q = p
   goes-cond k false x y p q = q
 
-  goes-logged : (k t : ℕ) (p : Place) (v : ℕ) (next : Cursor) (j : ℕ) → Spares D n p → Turns s k next → (j < 3 → t + 1 < k) → Goes D n d s k (logged n rd d s t p v next j)
+  goes-logged : (k t : ℕ) (p : Place) (v : ℕ) (next : Cursor) (j : ℕ) → Spares D n p → Turns s k next → (j < 3 → t + 1 < k)
+      → Goes D n d s k (logged n rd d s t p v next j)
   unfolding spareAddr spareVal
   goes-logged k t p v next zero q u l =
       stores _ _ _ (quiet-field D n _ d h (spare-field (second n rd d) Addr0 Addr1 refl refl)) (same-turn s k (t + 1) (l (omega arith)))
@@ -109,7 +111,8 @@ module _ (D n : ℕ) (rd : Memory) (d : ℕ) (h : d < D) (s : ℕ) where
       goes-cond 6 (ltb t 4) _ _
       (goes-logged 6 t _ _ _ t (quiet-field D n Owned d h refl) (same-turn s 6 4 (omega arith)) (λ m. omega arith))
       (goes-cond 6 (eqb t 4) _ _
-      (goes-cond 6 (eqb (rd (lock a)) (d + 1)) _ _ (stores _ _ _ (quiet-lock D n a f) (same-turn s 6 5 (omega arith))) (passes _ (same-turn s 6 5 (omega arith))))
+      (goes-cond 6 (eqb (rd (lock a)) (d + 1)) _ _ (stores _ _ _ (quiet-lock D n a f) (same-turn s 6 5 (omega arith)))
+      (passes _ (same-turn s 6 5 (omega arith))))
       (stores _ _ _ (quiet-field D n Intent d h refl) (first-turn s 6 (s + 1))))
 
   goes-finish : (t : ℕ) → t < 3 → Goes D n d s 3 (finishTurn n rd d s t)
@@ -137,7 +140,8 @@ module _ (D n : ℕ) (rd : Memory) (d : ℕ) (h : d < D) (s : ℕ) where
 -- ---- what it leaves of the test
 
 -- the test of another memory with the same count and instruction
-ready-same : (n : ℕ) (rd re : Memory) (d s t : ℕ) → re (field Count d) ≡ rd (field Count d) → re (step d s) ≡ rd (step d s) → ready n re d s t ≡ ready n rd d s t
+ready-same : (n : ℕ) (rd re : Memory) (d s t : ℕ) → re (field Count d) ≡ rd (field Count d) → re (step d s) ≡ rd (step d s)
+    → ready n re d s t ≡ ready n rd d s t
 unfolding ready
 ready-same n rd re d s t p q = rw (p, q)
 
@@ -151,7 +155,8 @@ module _ (D n left : ℕ) (m : Image) (z : Sized n D m) where
 
   quiet-ready : (p : Place) (v d s t : ℕ) → Spares D n p → ready n (at n (put left m (indexOf n p) v)) d s t ≡ ready n (at n m) d s t
   quiet-ready p v d s t q =
-      ready-same n (at n m) (at n (put left m (indexOf n p) v)) d s t (at-other p (field Count d) v (q .there) (q .counts d)) (at-other p (step d s) v (q .there) (q .steps d s))
+      ready-same n (at n m) (at n (put left m (indexOf n p) v)) d s t (at-other p (field Count d) v (q .there) (q .counts d))
+      (at-other p (step d s) v (q .there) (q .steps d s))
 
   ends-ready : (v d e s t : ℕ) → d < D → e ≢ d → ready n (at n (put left m (indexOf n (field Count d)) v)) e s t ≡ ready n (at n m) e s t
   ends-ready v d e s t h o =
@@ -187,7 +192,8 @@ module _ (D n : ℕ) (w : World) (d : ℕ) (f : Full (w .cursors)) (z : Sized n 
       rw (p, q, r (getD (w .cursors .step) e 0) (getD (w .cursors .turn) e 0)) k
 
   -- after the turn of a worker that was ready
-  known-own : (s k : ℕ) (o : Outcome) → Goes D n d s k o → ((t : ℕ) → t < k → ready n (at n (w .image)) d s t ≡ true) → tested n (w .image) (w .cursors) d ≡ true → Known n (leaves n w d o) d
+  known-own : (s k : ℕ) (o : Outcome) → Goes D n d s k o → ((t : ℕ) → t < k → ready n (at n (w .image)) d s t ≡ true)
+      → tested n (w .image) (w .cursors) d ≡ true → Known n (leaves n w d o) d
   known-own s k _ (stores p v x q u) r e = own-known s k _ (w .left) x (λ t g. quiet-ready D n (w .left) (w .image) z p v d s t q ∙ r t g) u
   known-own s k _ (ends v) r e = own-known s 0 _ (w .left) idle (λ t g. absurd (omega arith)) tt
   known-own s k _ (jumps x u) r e = own-known s k _ (w .left) x r u
@@ -214,7 +220,8 @@ module _ (D n : ℕ) (w : World) (d : ℕ) (f : Full (w .cursors)) (z : Sized n 
       rw o (by g (λ i a. ready-turn n rd d s u i t a) (ℕ-discrete e d))
     where
       by : {o : Outcome} → Goes D n d (getD (w .cursors .step) d 0) (turnsOf (codeIn n (at n (w .image)) d (getD (w .cursors .step) d 0))) o
-          → ((i : ℕ) → i < turnsOf (codeIn n (at n (w .image)) d (getD (w .cursors .step) d 0)) → ready n (at n (w .image)) d (getD (w .cursors .step) d 0) i ≡ true)
+          → ((i : ℕ) → i < turnsOf (codeIn n (at n (w .image)) d (getD (w .cursors .step) d 0)) → ready n (at n (w .image)) d (getD (w .cursors .step) d 0) i ≡
+          true)
           → Dec (e ≡ d) → Known n (leaves n w d o) e
       by {o} g r (yes q) = rw q (known-own _ _ o g r t)
       by {o} g r (no q) = known-other _ _ o g e q (k q)

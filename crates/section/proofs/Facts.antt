@@ -15,7 +15,8 @@ use Rattle.code.specs.declared.Op.the-variants.{Acquire, Release, Assign, Jump,
 use Rattle.section.specs.declared.Verdict.{Verdict}
 use Rattle.section.specs.declared.Verdict.the-variants.{Pass, Length, Malformed, Unbracketed, Unordered, Unguarded, Unlevel}
 use Rattle.code.specs.Op.{opOf}
-use Rattle.section.specs.Check.{Code, heldBefore, covered, coveredIn, begins, goesOn, bracketed, ordered, guarded, level, orElse, firstOf, formOf, useOf, check}
+use Rattle.section.specs.Check.{Code, heldBefore, covered, coveredIn, begins, goesOn, bracketed, ordered, guarded, level, orElse, firstOf, formOf, useOf}
+use Rattle.section.specs.Check.{check}
 use Rattle.code.specs.Form.{inRange, inPlace, wellFormed}
 use Rattle.section.specs.Valid.{Valid}
 use Rattle.code.proofs.Ranges.{known}
@@ -50,14 +51,17 @@ private-use i false q r s e = ((cc), (cc), (cc), (cc))
 private-used : (i : ℕ) (p q r s : Bool) → p ≡ true → q ≡ true → r ≡ true → s ≡ true → inTurn i p q r s ≡ Pass
 private-used i p q r s a b c d = rw (a, b, c, d)
 
-pub use-pass : (code : Code) (i : ℕ) → useOf code i ≡ Pass → (bracketed i (heldBefore code i) (opOf (code i)) ≡ true) × (ordered (heldBefore code i) (opOf (code i)) ≡ true) × (guarded (heldBefore code i) (opOf (code i)) ≡ true) × (level code (heldBefore code i) (opOf (code i)) ≡ true)
+pub use-pass : (code : Code) (i : ℕ) → useOf code i ≡ Pass
+    → (bracketed i (heldBefore code i) (opOf (code i)) ≡ true) × (ordered (heldBefore code i) (opOf (code i)) ≡ true) ×
+    (guarded (heldBefore code i) (opOf (code i)) ≡ true) × (level code (heldBefore code i) (opOf (code i)) ≡ true)
 unfolding useOf
 use-pass code i e =
     let h = heldBefore code i in
     let x = opOf (code i) in
     private-use i (bracketed i h x) (ordered h x) (guarded h x) (level code h x) e
 
-pub pass-use : (code : Code) (i : ℕ) → bracketed i (heldBefore code i) (opOf (code i)) ≡ true → ordered (heldBefore code i) (opOf (code i)) ≡ true → guarded (heldBefore code i) (opOf (code i)) ≡ true → level code (heldBefore code i) (opOf (code i)) ≡ true → useOf code i ≡ Pass
+pub pass-use : (code : Code) (i : ℕ) → bracketed i (heldBefore code i) (opOf (code i)) ≡ true → ordered (heldBefore code i) (opOf (code i)) ≡ true
+    → guarded (heldBefore code i) (opOf (code i)) ≡ true → level code (heldBefore code i) (opOf (code i)) ≡ true → useOf code i ≡ Pass
 unfolding useOf
 pass-use code i a b c d =
     let h = heldBefore code i in
@@ -70,7 +74,8 @@ private-length : (b : Bool) (v : Verdict) → cond b v Length ≡ Pass → (b �
 private-length true v e = (refl, e)
 private-length false v e = ((cc), (cc))
 
-pub check-parts : (own n : ℕ) (code : Code) → check own n code ≡ Pass → (3 ≤ n) × (n ≤ 64) × ((i : ℕ) → i < n → wellFormed own n i (code i) ≡ true) × ((i : ℕ) → i < n → useOf code i ≡ Pass)
+pub check-parts : (own n : ℕ) (code : Code) → check own n code ≡ Pass
+    → (3 ≤ n) × (n ≤ 64) × ((i : ℕ) → i < n → wellFormed own n i (code i) ≡ true) × ((i : ℕ) → i < n → useOf code i ≡ Pass)
 unfolding check
 check-parts own n code e =
     let forms = firstOf (formOf own n code) 0 n in
@@ -84,7 +89,8 @@ check-parts own n code e =
       λ i h. first-all (useOf code) 0 n u i (omega arith) (omega arith),
     )
 
-pub parts-check : (own n : ℕ) (code : Code) → 3 ≤ n → n ≤ 64 → ((i : ℕ) → i < n → wellFormed own n i (code i) ≡ true) → ((i : ℕ) → i < n → useOf code i ≡ Pass) → check own n code ≡ Pass
+pub parts-check : (own n : ℕ) (code : Code) → 3 ≤ n → n ≤ 64 → ((i : ℕ) → i < n → wellFormed own n i (code i) ≡ true) → ((i : ℕ) → i < n → useOf code i ≡ Pass)
+    → check own n code ≡ Pass
 unfolding check
 parts-check own n code l m f u =
     let forms : firstOf (formOf own n code) 0 n ≡ Pass = all-first (formOf own n code) 0 n (λ i a b. pass-form own n code i (f i (omega arith))) in
@@ -100,9 +106,12 @@ module _ (own n : ℕ) (code : Code) (p : check own n code ≡ Pass) where
 
   step-place : (i : ℕ) (x : Op) → i < n → opOf (code i) ≡ x → inPlace n i x ≡ true
   unfolding wellFormed
-  step-place i x l o = subst (λ (y : Op). inPlace n i y ≡ true) o (and-eq-true-iff (inRange own (code i)) (inPlace n i (opOf (code i))) .0 (check-parts own n code p .2 i l) .1)
+  step-place i x l o =
+      subst (λ (y : Op). inPlace n i y ≡ true) o (and-eq-true-iff (inRange own (code i)) (inPlace n i (opOf (code i))) .0 (check-parts own n code p .2 i l) .1)
 
-  step-uses : (i : ℕ) (x : Op) → i < n → opOf (code i) ≡ x → (bracketed i (heldBefore code i) x ≡ true) × (ordered (heldBefore code i) x ≡ true) × (guarded (heldBefore code i) x ≡ true) × (level code (heldBefore code i) x ≡ true)
+  step-uses : (i : ℕ) (x : Op) → i < n → opOf (code i) ≡ x
+      → (bracketed i (heldBefore code i) x ≡ true) × (ordered (heldBefore code i) x ≡ true) × (guarded (heldBefore code i) x ≡ true) ×
+      (level code (heldBefore code i) x ≡ true)
   step-uses i x l o =
       let h = heldBefore code i in
       let u = use-pass code i (check-parts own n code p .3 i l) in (
@@ -251,7 +260,8 @@ valid-passed own n code v = parts-check own n code (v .least) (v .most) (valid-f
 pub check-cong : (own n : ℕ) (code code′ : Code) → ((j : ℕ) → j < n → code j ≡ code′ j) → check own n code ≡ check own n code′
 unfolding check
 check-cong own n code code′ s =
-    let forms : firstOf (formOf own n code) 0 n ≡ firstOf (formOf own n code′) 0 n = first-cong (formOf own n code) (formOf own n code′) 0 n (λ i a b. form-cong own n i code code′ (s i (omega arith))) in
+    let forms : firstOf (formOf own n code) 0 n ≡ firstOf (formOf own n code′) 0 n = first-cong (formOf own n code) (formOf own n code′) 0 n
+    (λ i a b. form-cong own n i code code′ (s i (omega arith))) in
     let step : firstOf (formOf own n code) 0 n ≡ Pass → (i : ℕ) → i < n → useOf code i ≡ useOf code′ i =
     λ f i l. use-cong own n i code code′ s l (form-pass own n code i (first-all (formOf own n code) 0 n f i (omega arith) (omega arith)))
     in
@@ -266,7 +276,8 @@ check-cong own n code code′ s =
 -- ---- what a valid section holds
 
 -- an acquire finds nothing held from its lock up
-pub acquire-above : (own n : ℕ) (code : Code) (i a : ℕ) → Valid own n code → i < n → opOf (code i) ≡ Acquire a → (c : ℕ) → a ≤ c → has (heldBefore code i) c ≡ false
+pub acquire-above : (own n : ℕ) (code : Code) (i a : ℕ) → Valid own n code → i < n → opOf (code i) ≡ Acquire a → (c : ℕ) → a ≤ c
+    → has (heldBefore code i) c ≡ false
 acquire-above own n code i a v l o c h = above-none (heldBefore code i) a (v .acquires i a l o) c h
 
 pub acquire-free : (own n : ℕ) (code : Code) (i a : ℕ) → Valid own n code → i < n → opOf (code i) ≡ Acquire a → has (heldBefore code i) a ≡ false

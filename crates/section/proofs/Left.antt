@@ -35,7 +35,8 @@ set-next code before l i v h e below j = by (ℕ-discrete j i) (decLt j i)
     by : Dec (j ≡ i) → Dec (j < i) → getD (set l i v) j 0 ≡ heldTo (i + 1) code before j
     by (yes p) _ = rw p (getD-set-same l i v 0 h ∙ (e ∙ sym (held-to code before i (i + 1) (omega arith))))
     by (no p) (yes q) = getD-set-other l i j v 0 p ∙ (below j ∙ (held-to code before j i q ∙ sym (held-to code before j (i + 1) (omega arith))))
-    by (no p) (no q) = getD-set-other l i j v 0 p ∙ (below j ∙ (held-past-to code before j i (omega arith) ∙ sym (held-past-to code before j (i + 1) (omega arith))))
+    by (no p) (no q) =
+        getD-set-other l i j v 0 p ∙ (below j ∙ (held-past-to code before j i (omega arith) ∙ sym (held-past-to code before j (i + 1) (omega arith))))
 
 -- ---- by the answer
 
@@ -82,6 +83,7 @@ module _ (own n : ℕ) (code before : Code) (j : ℕ) where
   left-passed p h = sym (left-by Pass (sym (passed-is (check own n code) p))) ∙ held-to code before j n h
 
 -- and so has the pass where no step fails cause 5
-pub passed-sets : (own : ℕ) (ws before : List ℕ) (v : Verdict) (held : List ℕ) → Passed own ws before v held → v ≡ Pass → (j : ℕ) → j < length ws → getD held j 0 ≡ heldBefore (codeOf ws) j
+pub passed-sets : (own : ℕ) (ws before : List ℕ) (v : Verdict) (held : List ℕ) → Passed own ws before v held → v ≡ Pass → (j : ℕ) → j < length ws
+    → getD held j 0 ≡ heldBefore (codeOf ws) j
 passed-sets own ws before v held p e j h =
     p .sets j ∙ (ap (λ (u : Verdict). heldTo (reached (length ws) u) (codeOf ws) (codeOf before) j) e ∙ held-to (codeOf ws) (codeOf before) j (length ws) h)

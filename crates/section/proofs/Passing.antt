@@ -52,7 +52,8 @@ lands-wider n k Unknown l h = refl
 -- ---- the held set looked up
 
 pub looked-up :
-    (code : Code) (held : List ℕ) (n h : ℕ) (x : Op) → ((j : ℕ) → j < n → getD held j 0 ≡ heldBefore code j) → lands n x ≡ true → levelIn held h x ≡ level code h x
+    (code : Code) (held : List ℕ) (n h : ℕ) (x : Op) → ((j : ℕ) → j < n → getD held j 0 ≡ heldBefore code j) → lands n x ≡ true
+    → levelIn held h x ≡ level code h x
 looked-up code held n h (Acquire a) s l = refl
 looked-up code held n h (Release a) s l = refl
 looked-up code held n h (Assign a e) s l = refl

@@ -80,7 +80,8 @@ level-cong n i h code code′ s Finish e = refl
 level-cong n i h code code′ s Unknown e = refl
 
 -- the same where the step is in place
-pub use-cong : (own n i : ℕ) (code code′ : Code) → ((j : ℕ) → j < n → code j ≡ code′ j) → i < n → wellFormed own n i (code i) ≡ true → useOf code i ≡ useOf code′ i
+pub use-cong : (own n i : ℕ) (code code′ : Code) → ((j : ℕ) → j < n → code j ≡ code′ j) → i < n → wellFormed own n i (code i) ≡ true
+    → useOf code i ≡ useOf code′ i
 unfolding useOf wellFormed
 use-cong own n i code code′ s l e =
     let h = heldBefore code i in

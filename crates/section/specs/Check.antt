@@ -3,7 +3,7 @@ use Prim.Native.Nat.{ℕ, suc, zero, _+_, _/_, _^_}
 use mathlib.Core.Bool.{Bool, true, false, cond, _&&_, _||_, not}
 use mathlib.Core.List.{List}
 use lib.ListN.{getD}
-use lib.Dec.{leb, ltb, eqb}
+use lib.Dec.{leb, eqb}
 use Rattle.mask.specs.Mask.{has}
 use Rattle.code.specs.declared.Expr.{Expr}
 use Rattle.code.specs.declared.Expr.the-variants.{Literal, Sum, Difference, Less}
@@ -110,7 +110,8 @@ formOf own n code i = cond (wellFormed own n i (code i)) Pass (Malformed i)
 
 -- an instruction at step i, with h held before it, against causes 6 to 9 in this order; evenly: the test of cause 9
 abbrev pub judged : ℕ → ℕ → Op → Bool → Verdict
-judged i h x evenly = cond (bracketed i h x) (cond (ordered h x) (cond (guarded h x) (cond evenly Pass (Unlevel i)) (Unguarded i)) (Unordered i)) (Unbracketed i)
+judged i h x evenly =
+    cond (bracketed i h x) (cond (ordered h x) (cond (guarded h x) (cond evenly Pass (Unlevel i)) (Unguarded i)) (Unordered i)) (Unbracketed i)
 
 unfoldable pub useOf : Code → ℕ → Verdict
 useOf code i = judged i (heldBefore code i) (opOf (code i)) (level code (heldBefore code i) (opOf (code i)))

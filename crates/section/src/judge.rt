@@ -5,9 +5,9 @@ ghost use lib.ListN.{length};
 ghost use Rattle.section.specs.Check.{codeOf, covered, coveredIn, begins, goesOn, bracketed, ordered, guarded, judged, useOf};
 ghost use Rattle.code.specs.Form.{lockOk};
 ghost use Rattle.section.specs.inner.Pass.{lands, levelIn, Judgeable};
+use super::Verdict;
 use code::Expr;
 use code::Op;
-use super::Verdict;
 use code::op_of;
 
 // Whether word number x is an own word or has its lock held. Most words are cells of held locks, so that is asked first, by a

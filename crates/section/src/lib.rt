@@ -83,7 +83,8 @@ fn held_sets(words: &[u64], own: u16, held: &mut [u64]) -> Verdict
 pub fn check_held(words: &[u64], own: u16, held: &mut [u64]) -> Verdict
     requires { ⌜ 64 ≤ length (now held) ⌝ }
     ensures verdict { λ r. ⌜ r ≡ check own (length (now (words .entry))) (codeOf (now (words .entry))) ⌝ }
-    ensures sets { λ r. ⌜ ((j : ℕ) → getD (now (held .exit)) j 0 ≡ heldLeft own (length (now (words .entry))) (codeOf (now (words .entry))) (codeOf (now (held .entry))) j) ⌝ }
+    ensures sets { λ r. ⌜ ((j : ℕ) → getD (now (held .exit)) j 0
+        ≡ heldLeft own (length (now (words .entry))) (codeOf (now (words .entry))) (codeOf (now (held .entry))) j) ⌝ }
 {
     let n = words.len();
     if n < 3 {

@@ -1,6 +1,6 @@
 -- `covers` as the test of an intersection.
 use Prim.Native.Nat.{ℕ, zero, suc, _^_, _<_}
-use borrow.Author.Tests.{eqb-true, eqb-false, eq-eqb, ne-eqb}
+use borrow.Author.Tests.{eq-eqb, ne-eqb}
 use mathlib.Core.Path.{_≡_, refl, sym, ap, _∙_}
 use mathlib.Core.Bool.{Bool, true, false, _&&_, _||_, not, true≢false}
 use native.Mathlib.Omega.{arith}
@@ -13,7 +13,8 @@ use Rattle.mask.proofs.Sets.{ext}
 use Rattle.mask.proofs.Members.{has-and}
 use Rattle.soundness.specs.Sound.{covers}
 
-private-last : (big small k b : ℕ) → (not (has small k) || has big k) ≡ true → b < suc k → (b < k → (not (has small b) || has big b) ≡ true) → (not (has small b) || has big b) ≡ true
+private-last : (big small k b : ℕ) → (not (has small k) || has big k) ≡ true → b < suc k → (b < k → (not (has small b) || has big b) ≡ true)
+    → (not (has small b) || has big b) ≡ true
 private-last big small k b e h rest = by (ℕ-discrete b k)
   where
     by : Dec (b ≡ k) → (not (has small b) || has big b) ≡ true

@@ -2,10 +2,10 @@
 use crate::Answer;
 use crate::Judged;
 use crate::Refusal;
-use image::Field;
 use code::Op;
 use code::held_after;
 use code::op_of;
+use image::Field;
 ghost use mathlib.Core.Path.{_≡_};
 ghost use mathlib.Core.Bool.{true, false, _||_};
 ghost use lib.ListN.{length};

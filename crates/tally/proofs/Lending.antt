@@ -1,4 +1,6 @@
--- Every counting function `fn count_x(t: &mut Tally) { *t = counted_x(*t); }` meets its contract (`holds`): one walk of its code, over the core's name f, what the core asks of the tally, and the tally that it ensures. The borrow is opened, the record is copied out and passed to the core, of which only its contract is known, and what that returns is stored back as the borrow is closed.
+-- Every counting function `fn count_x(t: &mut Tally) { *t = counted_x(*t); }` meets its contract (`holds`): one walk of its code, over the core's name f, what
+-- the core asks of the tally, and the tally that it ensures. The borrow is opened, the record is copied out and passed to the core, of which only its contract
+-- is known, and what that returns is stored back as the borrow is closed.
 -- It names no field of the tally. Assumes nothing.
 use mathlib.Core.Path.{_≡_, refl}
 use Prim.Native.Nat.{ℕ}
@@ -15,8 +17,10 @@ use prog.Wp.{Heap, Calls, Loops, WpFn, Tables, Closed}
 use ghost.Atoms.{Atoms, sem}
 use contract.Monad.{fact}
 use contract.Running.{Running, GhostRules, givenOf, tables, tablesOf}
-use types.Kit.{Given, ‵, raw, _⊛_, some, later, _$_, _∵_, !, qed, by, move, keep, drop, use1, split, join, pick, fsplit, fsplit3, fjoin, fjoin3, feqI, suffices, frame, await, done}
-use types.Run.{look, look-raw, store-raw, init, forget, stop, hop, from, load, unit-lit, of-opd, and-then, no-more, land, assigns, returns, enter, alloc1, alloc0, params1, pass1, pass0, free1, free0}
+use types.Kit.{Given, ‵, raw, _⊛_, some, later, _$_, _∵_, !, qed, by, move, keep, drop, use1, split, join, pick, fsplit, fsplit3, fjoin, fjoin3, feqI, suffices}
+use types.Kit.{frame, await, done}
+use types.Run.{look, look-raw, store-raw, init, forget, stop, hop, from, load, unit-lit, of-opd, and-then, no-more, land, assigns, returns, enter, alloc1}
+use types.Run.{alloc0, params1, pass1, pass0, free1, free0}
 use types.SemTy.{Body}
 use sound.WpLaws.{FmC, fmOf, WpFn-mono}
 use denote.RattleType.{owns}
@@ -46,12 +50,17 @@ lending-fn f = record {
   lifetimes = 1;
   outlives = [];
   params = 1;
-  locals = local tyUnit valueLocal ∷ local (tyRef (named 0) mut (pointee (T.the-row .written))) valueLocal ∷ local T′.mir valueLocal ∷ local T′.mir valueLocal ∷ [];
-  body = seq (assign (place 3 []) (rvOpd (copy (place 1 (deref T′.mir ∷ []))))) (seq (call f (copy (place 3 []) ∷ []) (place 2 [])) (seq (assign (place 1 (deref T′.mir ∷ [])) (rvOpd (copy (place 2 [])))) (seq (assign (place 0 []) (rvOpd opdUnit)) return)));
+  locals =
+      local tyUnit valueLocal ∷ local (tyRef (named 0) mut (pointee (T.the-row .written))) valueLocal ∷ local T′.mir valueLocal ∷ local T′.mir valueLocal ∷ [];
+  body =
+      seq (assign (place 3 []) (rvOpd (copy (place 1 (deref T′.mir ∷ [])))))
+      (seq (call f (copy (place 3 []) ∷ []) (place 2 []))
+      (seq (assign (place 1 (deref T′.mir ∷ [])) (rvOpd (copy (place 2 [])))) (seq (assign (place 0 []) (rvOpd opdUnit)) return)));
 }
 
 abbrev pub lending-signature : Signature
-lending-signature = record { lifetimes = 1; outlives = []; params = RefMutOf (0 ∷ []) tt (plain (λ κs. T.the-row)) (λ κs. tt) ∷ []; result = plain (λ κs. unit) }
+lending-signature =
+    record { lifetimes = 1; outlives = []; params = RefMutOf (0 ∷ []) tt (plain (λ κs. T.the-row)) (λ κs. tt) ∷ []; result = plain (λ κs. unit) }
 
 abbrev pub lending : Ended
 lending = record { signature = lending-signature; kept = (yes, tt) }
@@ -86,10 +95,12 @@ module _ (f : Name) (Asks : Tally → Type 0) (after : Tally → Tally) where
     abbrev Post : Val → SProp 𝓤
     Post = walkOf 𝓤 H A lending stayed (lending-clauses Asks after 𝓤) .post (((κ, tt), (q, tt), tt, x, at), tt)
 
-    exits : (r : Tally) → r ≡ after h → ent 𝓤 (sep 𝓤 (A .obs γ (T.the-row .coded .code r)) (sep 𝓤 (A .bor κ (Body (mem (T.the-row)) b o γ)) (A .lft κ q))) (Post vunit)
+    exits : (r : Tally) → r ≡ after h
+        → ent 𝓤 (sep 𝓤 (A .obs γ (T.the-row .coded .code r)) (sep 𝓤 (A .bor κ (Body (mem (T.the-row)) b o γ)) (A .lft κ q))) (Post vunit)
     exits r e =
         qed W (‵ (fobs γ (T.the-row .coded .code r)) ∷ ‵ (fbor κ (Body (mem (T.the-row)) b o γ)) ∷ ‵ (flft κ q) ∷ []) ∵
-        suffices ! _ (ends-at 𝓤 H A lending stayed (lending-clauses Asks after 𝓤) W (((κ, tt), (q, tt), tt, x, at), tt) vunit tt (r, tt) (tt, tt)) $ says ! e $ nothing ! $ move ! (3 ∷ 0 ∷ []) $ join ! $
+        suffices ! _ (ends-at 𝓤 H A lending stayed (lending-clauses Asks after 𝓤) W (((κ, tt), (q, tt), tt, x, at), tt) vunit tt (r, tt) (tt, tt)) $ says ! e $
+        nothing ! $ move ! (3 ∷ 0 ∷ []) $ join ! $
         frame ! $ feqI ! (List Val) (vptr b o ∷ []) (vptr b o ∷ []) refl $ fjoin3 ! $ nothing ! $ move ! (1 ∷ 0 ∷ []) $ fjoin ! $
         feqI ! (List Val) (vunit ∷ []) (vunit ∷ []) refl $ move ! (1 ∷ 0 ∷ []) $ done !
 
@@ -106,22 +117,28 @@ module _ (f : Name) (Asks : Tally → Type 0) (after : Tally → Tally) where
     module _ (C : Calls 𝓤 H) (Λ : Loops 𝓤 H) (fm : FmC 𝓤 H (W .laws) C) (known : Triple 𝓤 (C f) (Core 𝓤 H A)) where
       walk : ent 𝓤 (onEntry 𝓤 H A lending-signature (κ, tt) (q, tt) x at) (WpFn 𝓤 H C Λ (lending-fn f) (vptr b o ∷ []) Post)
       walk =
-          qed W ((‵ (flft κ q) ⊛ ‵ ftrue) ∷ ‵ (owns (MutRef (named 0) κ (T.the-row) ∷ []) x at) ∷ []) ∵ split ! $ move ! (2 ∷ []) $ fsplit ! $ fsplit3 ! $ drop ! $ move ! (0 ∷ 1 ∷ 3 ∷ []) $
+          qed W ((‵ (flft κ q) ⊛ ‵ ftrue) ∷ ‵ (owns (MutRef (named 0) κ (T.the-row) ∷ []) x at) ∷ []) ∵ split ! $ move ! (2 ∷ []) $ fsplit ! $ fsplit3 ! $ drop
+          ! $ move ! (0 ∷ 1 ∷ 3 ∷ []) $
           -- [obs; the borrow; the token; true; true]
           enter ! C Λ (lending-fn f) (vptr b o ∷ []) _ $
           alloc1 ! (λ l₀. alloc1 ! (λ l₁. alloc1 ! (λ l₂. alloc1 ! (λ l₃. alloc0 ! $ params1 ! $ pass1 ! (init ! 4 refl (tt, tt)) $ pass0 ! $
-          move ! (8 ∷ 9 ∷ 10 ∷ []) $ opens ! tt (T.the-row) {h = h} b o (λ vs. spelt ! (T.the-row) (Is (T.the-row)) (shows 𝓤 H A (T.the-row)) (LL.vals T.the-type T′.the-laws) (LL.tells T.the-type T′.the-laws) fullShare h vs b o $
+          move ! (8 ∷ 9 ∷ 10 ∷ []) $ opens ! tt (T.the-row) {h = h} b o
+          (λ vs. spelt ! (T.the-row) (Is (T.the-row)) (shows 𝓤 H A (T.the-row)) (LL.vals T.the-type T′.the-laws) (LL.tells T.the-type T′.the-laws) fullShare
+          h vs b o $
           -- [the record's cell; what it owns; the open borrow; obs; auth; _3; …; _2; …; _1; …; room for _0; …]
           move ! (1 ∷ []) $ peeks ! T.the-row (Is T.the-row) (shows 𝓤 H A T.the-row) h _ (λ is. move ! (1 ∷ 0 ∷ []) $
-          assigns ! (of-opd ! (load ! (from ! (hop ! (look ! 9 refl) (stop !))) (look-raw ! 0 refl))) (from ! (stop !)) (init ! 5 refl (LL.lawful T.the-type T′.the-laws 𝓤 H A W .typed h _ is .0)) $
+          assigns ! (of-opd ! (load ! (from ! (hop ! (look ! 9 refl) (stop !))) (look-raw ! 0 refl))) (from ! (stop !))
+          (init ! 5 refl (LL.lawful T.the-type T′.the-laws 𝓤 H A W .typed h _ is .0)) $
           move ! (1 ∷ []) $ use1 W (raw (Core 𝓤 H A .pre (to-core _))) (goes-core _) $
           calls-at ! fm (Core 𝓤 H A) known (to-core _) (and-then ! (load ! (from ! (stop !)) (look ! 5 refl)) (no-more !)) (λ v.
-          use1 W (later (some (λ (r : Tally). (‵ ftrue ⊛ ‵ (T.the-row .own r (v ∷ []))) ⊛ raw (ensured 𝓤 H A by-value (by-value-clauses Asks after 𝓤) tt (h, tt) tt r)))) (id⊢ 𝓤 _) $ await ! tt $ pick ! (λ r.
+          use1 W (later (some (λ (r : Tally). (‵ ftrue ⊛ ‵ (T.the-row .own r (v ∷ []))) ⊛ raw
+          (ensured 𝓤 H A by-value (by-value-clauses Asks after 𝓤) tt (h, tt) tt r)))) (id⊢ 𝓤 _) $ await ! tt $ pick ! (λ r.
           split ! $ move ! (1 ∷ []) $ use1 W (raw (fact 𝓤 (r ≡ after h))) (ensured-of r) $ heard ! (r ≡ after h) (λ e. split ! $ drop ! $
           peeks ! T.the-row (Is T.the-row) (shows 𝓤 H A T.the-row) r (v ∷ []) (λ made.
           -- [what the result owns; the record's cell; the open borrow; obs; auth; _3; …]
           land ! (from ! (stop !)) (init ! 7 refl (LL.lawful T.the-type T′.the-laws 𝓤 H A W .typed r _ made .0)) $ move ! (1 ∷ 0 ∷ []) $
-          assigns ! (of-opd ! (load ! (from ! (stop !)) (look ! 7 refl))) (from ! (hop ! (look ! 9 refl) (stop !))) (store-raw ! 0 refl (LL.lawful T.the-type T′.the-laws 𝓤 H A W .typed r _ made .0)) $
+          assigns ! (of-opd ! (load ! (from ! (stop !)) (look ! 7 refl))) (from ! (hop ! (look ! 9 refl) (stop !)))
+          (store-raw ! 0 refl (LL.lawful T.the-type T′.the-laws 𝓤 H A W .typed r _ made .0)) $
           assigns ! (of-opd ! (unit-lit !)) (from ! (stop !)) (init ! 11 refl (tt, tt)) $
           closes ! tt (T.the-row) r (v ∷ []) b o $
           returns ! (look ! 9 refl) $ forget ! 3 refl $ forget ! 5 refl $ forget ! 7 refl $ forget ! 9 refl $
@@ -129,14 +146,19 @@ module _ (f : Name) (Asks : Tally → Type 0) (after : Tally → Tally) where
           keep ! (0 ∷ 1 ∷ 2 ∷ []) $ by ! (exits r e)))))))))))
 
   module _ {M : Type 1} (𝓤 : URA M) (H : Heap 𝓤) (A : Atoms 𝓤) (W : Given 𝓤 H A) where
-    walks : (C : Calls 𝓤 H) (Λ : Loops 𝓤 H) → FmC 𝓤 H (W .laws) C → Triple 𝓤 (C f) (Core 𝓤 H A) → Walks 𝓤 H A lending stayed (WpFn 𝓤 H C Λ (lending-fn f)) (lending-clauses Asks after 𝓤)
-    walks C Λ fm known = walked 𝓤 H A lending stayed (lending-clauses Asks after 𝓤) (WpFn 𝓤 H C Λ (lending-fn f)) (λ κs. (ptr-vals, tt)) (λ κs. (mut-tells (named 0) (κs .0) (T.the-row), tt))
-        (λ κs qs bounds a _ _. needs 𝓤 (Asks (a .0 .now)) _ (λ asked. walk 𝓤 H A W (κs .0) (qs .0) (a .0 .ptr .0) (a .0 .ptr .1) (a .0 .name) (a .0 .now) asked C Λ fm known))
+    walks : (C : Calls 𝓤 H) (Λ : Loops 𝓤 H) → FmC 𝓤 H (W .laws) C → Triple 𝓤 (C f) (Core 𝓤 H A)
+        → Walks 𝓤 H A lending stayed (WpFn 𝓤 H C Λ (lending-fn f)) (lending-clauses Asks after 𝓤)
+    walks C Λ fm known =
+        walked 𝓤 H A lending stayed (lending-clauses Asks after 𝓤) (WpFn 𝓤 H C Λ (lending-fn f)) (λ κs. (ptr-vals, tt))
+        (λ κs. (mut-tells (named 0) (κs .0) (T.the-row), tt))
+        (λ κs qs bounds a _ _. needs 𝓤 (Asks (a .0 .now)) _
+        (λ asked. walk 𝓤 H A W (κs .0) (qs .0) (a .0 .ptr .0) (a .0 .ptr .1) (a .0 .name) (a .0 .now) asked C Λ fm known))
 
   meets : {M : Type 1} (𝓤 : URA M) (H : Heap 𝓤) (A : Atoms 𝓤) → Given 𝓤 H A → (𝓣 : Tables 𝓤 H) → Triple 𝓤 (𝓣 .C f) (Core 𝓤 H A)
       → Meets 𝓤 H A lending-signature (WpFn 𝓤 H (𝓣 .C) (𝓣 .Λ) (lending-fn f)) (closing 𝓤 H A lending (lending-clauses Asks after 𝓤))
   meets 𝓤 H A W 𝓣 known =
-      walk-meets 𝓤 H A lending stayed W (goes-ref 𝓤 H A W 1 0 tt (plain (λ _. T.the-row)), tt) (lending-clauses Asks after 𝓤) (WpFn 𝓤 H (𝓣 .C) (𝓣 .Λ) (lending-fn f)) (WpFn-mono 𝓤 H (W .laws) 𝓣 (lending-fn f))
+      walk-meets 𝓤 H A lending stayed W (goes-ref 𝓤 H A W 1 0 tt (plain (λ _. T.the-row)), tt) (lending-clauses Asks after 𝓤)
+      (WpFn 𝓤 H (𝓣 .C) (𝓣 .Λ) (lending-fn f)) (WpFn-mono 𝓤 H (W .laws) 𝓣 (lending-fn f))
       (walks 𝓤 H A W (𝓣 .C) (𝓣 .Λ) (fmOf 𝓤 H (W .laws) 𝓣) known)
 
   -- the function k, read over γ, where the call means the core's routine r
@@ -146,5 +168,6 @@ module _ (f : Name) (Asks : Tally → Type 0) (after : Tally → Tally) where
       → Meets 𝓤 H (𝓖 .A) lending-signature (𝓡 .run (γ k)) (closing 𝓤 H (𝓖 .A) lending (lending-clauses Asks after 𝓤))
   unfolding tablesOf
   holds k γ r calls 𝓤 H 𝓜 𝓖 𝓡 unfolded core =
-      entered 𝓤 H (tripleOf 𝓤 H (𝓖 .A) lending-signature (closing 𝓤 H (𝓖 .A) lending (lending-clauses Asks after 𝓤))) (tables 𝓤 H 𝓜 𝓡 γ .C) (tables 𝓤 H 𝓜 𝓡 γ .Λ) k (lending-fn f) unfolded
+      entered 𝓤 H (tripleOf 𝓤 H (𝓖 .A) lending-signature (closing 𝓤 H (𝓖 .A) lending (lending-clauses Asks after 𝓤))) (tables 𝓤 H 𝓜 𝓡 γ .C)
+      (tables 𝓤 H 𝓜 𝓡 γ .Λ) k (lending-fn f) unfolded
       (meets 𝓤 H (𝓖 .A) (givenOf 𝓤 H 𝓜 𝓖) (tablesOf 𝓤 H 𝓜 (tables 𝓤 H 𝓜 𝓡 γ)) (cited 𝓤 H (Core 𝓤 H (𝓖 .A)) 𝓜 𝓡 γ f r calls core))

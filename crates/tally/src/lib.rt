@@ -60,7 +60,7 @@ fn counted_waiting(t: Tally) -> Tally
 }
 
 // Counts a turn that stored a word, in the tally lent.
-pub fn count_stored(t: &mut Tally)
+fn count_stored(t: &mut Tally)
     requires { ⌜ Room (now t) ⌝ }
     ensures { λ r. ⌜ now (t .exit) ≡ withStored (now (t .entry)) ⌝ }
 {
@@ -68,7 +68,7 @@ pub fn count_stored(t: &mut Tally)
 }
 
 // Counts a turn that went on and stored nothing, in the tally lent.
-pub fn count_passed(t: &mut Tally)
+fn count_passed(t: &mut Tally)
     requires { ⌜ Room (now t) ⌝ }
     ensures { λ r. ⌜ now (t .exit) ≡ withPassed (now (t .entry)) ⌝ }
 {
@@ -76,7 +76,7 @@ pub fn count_passed(t: &mut Tally)
 }
 
 // Counts a turn that waited, in the tally lent.
-pub fn count_waiting(t: &mut Tally)
+fn count_waiting(t: &mut Tally)
     requires { ⌜ Room (now t) ⌝ }
     ensures { λ r. ⌜ now (t .exit) ≡ withWaiting (now (t .entry)) ⌝ }
 {

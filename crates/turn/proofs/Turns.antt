@@ -61,7 +61,8 @@ module _ (n : ℕ) (rd : Memory) (d s : ℕ) where
 
   made-op : (t : ℕ) (x : Op) → fits n x → Made (opTurn n rd d s t x)
   made-op t (Acquire a) f = made-acquire a t
-  made-op t (Release a) f = made-cond (ltb t 4) _ _ (made-logged n rd d s t _ _ _ t) (made-cond (eqb t 4) _ _ (made-cond (eqb (rd (lock a)) (d + 1)) _ _ tt tt) tt)
+  made-op t (Release a) f =
+      made-cond (ltb t 4) _ _ (made-logged n rd d s t _ _ _ t) (made-cond (eqb t 4) _ _ (made-cond (eqb (rd (lock a)) (d + 1)) _ _ tt tt) tt)
   made-op t (Assign a e) f = made-logged n rd d s t _ _ _ t
   made-op t (Jump a b) f = tt
   made-op t Finish f = made-finish t

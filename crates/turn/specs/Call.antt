@@ -3,7 +3,6 @@ use Prim.Native.Nat.{ℕ, _-_}
 use mathlib.Core.Bool.{Bool, true, false, cond}
 use lib.Dec.{ltb}
 use Rattle.image.specs.Image.{indexOf, at, workers, headerOk, put}
-use Rattle.working.specs.declared.Refusal.{Refusal}
 use Rattle.working.specs.declared.Refusal.the-variants.{Worker, Image as ImageRefused}
 use Rattle.working.specs.Cursor.{cursorAt, placed}
 use Rattle.working.specs.World.{World, world}

@@ -56,7 +56,7 @@ pub struct Turned {
 }
 
 // A plan done, with the step and turn behind it: the plan's, or where it waits those that the worker has.
-pub fn done(image: &mut [u64], p: Plan, s: u8, t: u8, left: &mut u64) -> Acted
+fn done(image: &mut [u64], p: Plan, s: u8, t: u8, left: &mut u64) -> Acted
     ensures did { λ r. ⌜ r .did ≡ planDid p ⌝ }
     ensures after { λ r. ⌜ ((c : Cursors) (d : ℕ) → At c d s t
         → world (now (image .exit)) (setAt c d (r .step) (r .turn)) (now (left .exit)) ≡ planLeaves (world (now (image .entry)) c (now (left .entry))) d p) ⌝ }
@@ -92,14 +92,15 @@ pub fn done(image: &mut [u64], p: Plan, s: u8, t: u8, left: &mut u64) -> Acted
 pub fn turn_on(image: &mut [u64], d: usize, s: u8, t: u8, own: usize, left: &mut u64) -> Acted
     requires { ⌜ (Inside own (now image) d) × (ready own (at own (now image)) d s t ≡ true) ⌝ }
     ensures { λ r. ⌜ ((c : Cursors) → At c d s t
-        → Acts own (world (now (image .entry)) c (now (left .entry))) d (r .did) (world (now (image .exit)) (setAt c d (r .step) (r .turn)) (now (left .exit)))) ⌝ }
+        → Acts own (world (now (image .entry)) c (now (left .entry))) d (r .did)
+        (world (now (image .exit)) (setAt c d (r .step) (r .turn)) (now (left .exit)))) ⌝ }
 {
     let p = plan::next(image, d, own, s, t);
     done(image, p, s, t, left)
 }
 
 // What it answers.
-pub fn answer_of(x: Did) -> Answer
+fn answer_of(x: Did) -> Answer
     ensures { λ r. ⌜ r ≡ didAnswer x ⌝ }
 {
     match x {
@@ -153,7 +154,14 @@ fn open_turn(image: &mut [u64], c: Cursors, d: usize, own: usize, left: &mut u64
 }
 
 // One turn of worker d.
-pub fn turn(image: &mut [u64], c: Cursors, d: usize, mark: u64, own: usize, left: &mut u64) -> Turned
+pub fn turn(
+    image: &mut [u64],
+    c: Cursors,
+    d: usize,
+    mark: u64,
+    own: usize,
+    left: &mut u64,
+) -> Turned
     requires { ⌜ own ≤ 64 ⌝ }
     ensures answer { λ r. ⌜ r .answer ≡ answerOf own (outcome mark own (world (now (image .entry)) c (now (left .entry))) d) ⌝ }
     ensures after { λ r. ⌜ world (now (image .exit)) (r .cursors) (now (left .exit))

@@ -1,6 +1,6 @@
 // Answers of the questions, as numbers.
-use working::Cursors;
 use intake::Standing;
+use working::Cursors;
 ghost use mathlib.Core.Path.{_≡_};
 ghost use Rattle.zilpanud.specs.Ask.{idleBit, standingNo};
 

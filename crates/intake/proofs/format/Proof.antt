@@ -27,7 +27,8 @@ returns c =
     (sym e, (t .before .before .all-idle .ensures, (rw e, rw e)))
 
 store-all-requires : tie.Need-store-all-requires
-store-all-requires c κs = (c .before .before .before .before .before .before .before .pre, granted (c .before .before .before .formattable .ensures) (c .before .before .if1 .left))
+store-all-requires c κs =
+    (c .before .before .before .before .before .before .before .pre, granted (c .before .before .before .formattable .ensures) (c .before .before .if1 .left))
 
 same-length-2 : tie.Need-same-length-2
 same-length-2 c = search needs

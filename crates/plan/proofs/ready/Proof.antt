@@ -19,7 +19,14 @@ returns-2 c = simp (← c .before .before .read-field .ensures, le-leb _ _ (c .b
 
 returns-3 : tie.Need-returns-3
 unfolding ready
-returns-3 c = simp (← c .before .before .before .read-field .ensures, le-leb _ _ (c .before .before .if1 .left), le-leb _ _ (c .before .if2 .left), le-ltb _ _ (c .if3 .taken))
+returns-3 c =
+    simp (
+      ← c .before .before .before .read-field .ensures,
+      le-leb _ _ (c .before .before .if1 .left),
+      le-leb _ _ (c .before .if2 .left),
+      le-ltb _ _
+          (c .if3 .taken),
+    )
 
 read-step-requires : tie.Need-read-step-requires
 read-step-requires c κs = search needs
@@ -32,14 +39,36 @@ well-formed-requires c κs = search needs
 
 returns-4 : tie.Need-returns-4
 unfolding ready
-returns-4 c = simp (← c .before .before .before .before .before .before .read-field .ensures, le-leb _ _ (c .before .before .before .before .before .if1 .left), le-leb _ _ (c .before .before .before .before .if2 .left), lt-ltb _ _ (c .before .before .before .if3 .left), ← c .before .before .read-step .ensures, denied (c .before .well-formed .ensures) (c .if4 .taken))
+returns-4 c =
+    simp (
+      ← c .before .before .before .before .before .before .read-field .ensures,
+      le-leb _ _ (c .before .before .before .before .before .if1 .left),
+      le-leb _
+          _ (c .before .before .before .before .if2 .left),
+      lt-ltb _ _ (c .before .before .before .if3 .left),
+      ← c .before .before .read-step .ensures,
+      denied
+          (c .before .well-formed .ensures) (c .if4 .taken),
+    )
 
 turns-requires : tie.Need-turns-requires
 turns-requires c κs = search needs
 
 returns-5 : tie.Need-returns-5
 unfolding ready
-returns-5 c = rw (← c .before .before .before .before .before .before .before .read-field .ensures, le-leb _ _ (c .before .before .before .before .before .before .if1 .left), le-leb _ _ (c .before .before .before .before .before .if2 .left), lt-ltb _ _ (c .before .before .before .before .if3 .left), ← c .before .before .before .read-step .ensures, granted (c .before .before .well-formed .ensures) (c .before .if4 .left), ← c .turns .ensures)
+returns-5 c =
+    rw (
+      ← c .before .before .before .before .before .before .before .read-field .ensures,
+      le-leb _ _
+          (c .before .before .before .before .before .before .if1 .left),
+      le-leb _ _ (c .before .before .before .before .before .if2 .left),
+      lt-ltb _ _
+          (c .before .before .before .before .if3 .left),
+      ← c .before .before .before .read-step .ensures,
+      granted (c .before .before .well-formed .ensures)
+          (c .before .if4 .left),
+      ← c .turns .ensures,
+    )
 
 pub ready-spec : {M : Type 1} → statement M
 ready-spec =

@@ -18,7 +18,8 @@ returns : tie.Need-returns
 unfolding recordAt lengthOf
 returns c =
     let A = c .before .before .before .before .args in
-    sym (header-false (A .mark) (A .own) (now (A .image)) (λ h. omega (arith, h .size, c .before .record-at .ensures, c .before .before .words .ensures, c .if1 .taken)))
+    sym (header-false (A .mark) (A .own) (now (A .image))
+    (λ h. omega (arith, h .size, c .before .record-at .ensures, c .before .before .words .ensures, c .if1 .taken)))
 
 header-ok-requires : tie.Need-header-ok-requires
 header-ok-requires c κs = search needs

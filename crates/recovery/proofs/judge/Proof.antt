@@ -32,8 +32,11 @@ returns-2 : tie.Need-returns-2
 returns-2 c =
     let A = c .before .before .before .before .before .before .args in
     let r = c .before .before .records in
-    let h = granted (c .before .before .before .before .header-ok .ensures) (c .before .before .before .if1 .left) in
-    (r .ensures .0 ∙ by-record (A .mark) (A .own) (now (A .image)) h (ap isDone (sym (r .ensures .0)) ∙ denied (c .before .done .ensures) (c .if2 .taken)), r .ensures .1)
+    let h = granted (c .before .before .before .before .header-ok .ensures) (c .before .before .before .if1 .left) in (
+      r .ensures .0 ∙ by-record (A .mark) (A .own) (now (A .image)) h (ap isDone (sym (r .ensures .0)) ∙ denied (c .before .done .ensures) (c .if2 .taken)),
+      r
+          .ensures .1,
+    )
 
 slice-aggregate-locks : tie.Need-slice-aggregate-locks
 slice-aggregate-locks c = search needs
@@ -43,14 +46,19 @@ locks-requires c κs =
     let S = c .before .before .before .before .before .before .before .before in
     let A = S .args in
     let h = granted (c .before .before .before .before .before .before .header-ok .ensures) (c .before .before .before .before .before .if1 .left) in
-    let t = header-true (A .mark) (A .own) (now (A .image)) h in
-    (S .pre, t .few, c .before .before .before .before .records .ensures .1 (granted (c .before .before .before .done .ensures) (c .before .before .if2 .left)), t .size)
+    let t = header-true (A .mark) (A .own) (now (A .image)) h in (
+      S .pre,
+      t .few,
+      c .before .before .before .before .records .ensures .1 (granted (c .before .before .before .done .ensures) (c .before .before .if2 .left)),
+      t .size,
+    )
 
 returns-3 : tie.Need-returns-3
 returns-3 c =
     let A = c .before .before .before .before .before .before .before .before .before .args in
     let r = c .before .before .before .before .before .records in
-    let h = granted (c .before .before .before .before .before .before .before .header-ok .ensures) (c .before .before .before .before .before .before .if1 .left) in
+    let h = granted (c .before .before .before .before .before .before .before .header-ok .ensures)
+    (c .before .before .before .before .before .before .if1 .left) in
     let e = granted (c .before .before .before .before .done .ensures) (c .before .before .before .if2 .left) in
     (c .locks .ensures ∙ by-lock (A .mark) (A .own) (now (A .image)) h (record-none _ (ap isDone (sym (r .ensures .0)) ∙ e)), λ done. r .ensures .1 e)
 

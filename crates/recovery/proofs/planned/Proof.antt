@@ -33,7 +33,8 @@ resumed-all-requires : tie.Need-resumed-all-requires
 resumed-all-requires c κs =
     let S = c .before .before .before .before .before in
     let A = S .args in
-    done-restorable (A .mark) (A .own) (now (A .image)) (S .pre) (ap isDone (sym (c .before .before .before .judge .ensures .0)) ∙ granted (c .before .before .done .ensures) (c .before .if1 .left))
+    done-restorable (A .mark) (A .own) (now (A .image)) (S .pre)
+    (ap isDone (sym (c .before .before .before .judge .ensures .0)) ∙ granted (c .before .before .done .ensures) (c .before .if1 .left))
 
 repair-requires : tie.Need-repair-requires
 repair-requires c κs =
@@ -47,7 +48,8 @@ returns-2 : tie.Need-returns-2
 returns-2 c =
     let A = c .before .before .before .before .before .before .before .args in
     let j = c .before .before .before .before .before .judge in
-    let g = done-is (A .mark) (A .own) (now (A .image)) (ap isDone (sym (j .ensures .0)) ∙ granted (c .before .before .before .before .done .ensures) (c .before .before .before .if1 .left)) in
+    let g = done-is (A .mark) (A .own) (now (A .image))
+    (ap isDone (sym (j .ensures .0)) ∙ granted (c .before .before .before .before .done .ensures) (c .before .before .before .if1 .left)) in
     (j .ensures .0, (rw g (c .before .resumed-all .ensures), rw g (c .repair .ensures)))
 
 pub planned-spec : {M : Type 1} → statement M

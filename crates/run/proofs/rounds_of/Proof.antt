@@ -84,15 +84,21 @@ ready-in-requires c κs =
     let back = c .before .before .before .before .before .before .before .before .before in
     let L = c .before .before .before .before .before .loop in
     let l = L .inv .1 in
-    let p = back .before .before .before .pre in
-    (sized-inside _ _ _ _ (p .0) (l .size) (l .few) (omega (arith, l .top)), λ a o. l .known (L .d) (omega (arith, l .top)) (λ q. absurd (o q)) a (c .before .if3 .left))
+    let p = back .before .before .before .pre in (
+      sized-inside _ _ _ _ (p .0) (l .size) (l .few) (omega (arith, l .top)),
+      λ a o. l .known (L .d) (omega (arith, l .top)) (λ q. absurd (o q)) a
+          (c .before .if3 .left),
+    )
 
 turn-on-requires : tie.Need-turn-on-requires Inv-loop μ-loop Inv-rounds μ-rounds
 turn-on-requires c κs =
     let back = c .before .before .before .before .before .before .before .before .before in
     let l = back .loop .inv .1 in
-    let p = back .before .before .before .before .before .before .before .pre in
-    (sized-inside _ _ _ _ (p .0) (l .size) (l .few) (omega (arith, l .top)), granted (c .before .before .before .ready-in .ensures) (c .before .before .if4 .left))
+    let p = back .before .before .before .before .before .before .before .pre in (
+      sized-inside _ _ _ _ (p .0) (l .size) (l .few) (omega (arith, l .top)),
+      granted (c .before .before .before .ready-in .ensures)
+          (c .before .before .if4 .left),
+    )
 
 element-write-c : tie.Need-element-write-c Inv-loop μ-loop Inv-rounds μ-rounds
 element-write-c c =
@@ -109,7 +115,14 @@ counted-requires c κs =
     let back = c .before .before .before .before .before .before .before .before .before in
     let l = back .before .before .before .loop .inv .1 in
     let r = back .before .before .before .before .before .before .rounds .inv .1 in
-    most-room _ (l .most) (omega (arith, back .before .before .before .before .before .before .before .before .before .before .fits, r .below, l .below, l .top, l .few))
+    most-room _ (l .most) (omega (
+      arith,
+      back .before .before .before .before .before .before .before .before .before .before .fits,
+      r .below,
+      l .below,
+      l .top,
+      l .few,
+    ))
 
 element-copy-out-open-with : tie.Need-element-copy-out-open-with Inv-loop μ-loop Inv-rounds μ-rounds
 element-copy-out-open-with c =
@@ -134,11 +147,17 @@ loop-again-2 c =
     let u = T .turn-on in
     let L = T .before .before .before .before .before .before .before .before .before .before .loop in
     let l = L .inv .1 in
-    let inside : L .d < length (L .c .turn) = rw (l .full .turns) (omega (arith, l .top, l .few, T .before .before .before .before .before .before .before .before .before .loop-test .taken)) in
+    let inside : L .d < length (L .c .turn) = rw (l .full .turns)
+    (omega (arith, l .top, l .few, T .before .before .before .before .before .before .before .before .before .loop-test .taken)) in
     let acts = u .ensures (L .c) (record { inside = inside; step = refl; turn = refl }) in
-    let full : Full (setAt (L .c) (L .d) (u .result .step) (u .result .turn)) = record { steps = length-set (L .c .step) (L .d) (u .result .step) ∙ l .full .steps; turns = length-set (L .c .turn) (L .d) (u .result .turn) ∙ l .full .turns } in
-    let test = granted (T .before .before .before .before .ready-in .ensures) (T .before .before .before .if4 .left) in
-    (u .kept .0 ∙ L .inv .0, lap-turn _ _ _ _ _ _ _ _ l _ _ _ _ (T .before .before .before .before .before .before .before .before .before .loop-test .taken) full test (acts .did) (acts .after) (c .before .before .counted .ensures) (c .open-with .ensures))
+    let full : Full (setAt (L .c) (L .d) (u .result .step) (u .result .turn)) = record
+    { steps = length-set (L .c .step) (L .d) (u .result .step) ∙ l .full .steps; turns = length-set (L .c .turn) (L .d) (u .result .turn) ∙ l .full .turns }
+    in
+    let test = granted (T .before .before .before .before .ready-in .ensures) (T .before .before .before .if4 .left) in (
+      u .kept .0 ∙ L .inv .0,
+      lap-turn _ _ _ _ _ _ _ _ l _ _ _ _ (T .before .before .before .before .before .before .before .before .before .loop-test .taken)
+          full test (acts .did) (acts .after) (c .before .before .counted .ensures) (c .open-with .ensures),
+    )
 
 add-round : tie.Need-add-round Inv-loop μ-loop Inv-rounds μ-rounds
 add-round c = omega arith
@@ -165,12 +184,17 @@ returns-2 : tie.Need-returns-2 Inv-loop μ-loop Inv-rounds μ-rounds
 returns-2 c = laps-spent _ _ _ _ _ _ _ (c .before .before .rounds .inv .1) (omega arith) (c .before .if1 .left)
 
 same-length-3 : tie.Need-same-length-3 Inv-loop μ-loop Inv-rounds μ-rounds
-same-length-3 c = c .before .before .before .before .before .before .before .loop .inv .0 ∙ c .before .before .before .before .before .before .before .before .before .before .rounds .inv .0
+same-length-3 c =
+    c .before .before .before .before .before .before .before .loop .inv .0 ∙ c .before .before .before .before .before .before .before .before .before .before
+    .rounds .inv .0
 
 returns-3 : tie.Need-returns-3 Inv-loop μ-loop Inv-rounds μ-rounds
 returns-3 c =
-    let halts = lap-halts _ _ _ _ _ _ _ _ (c .before .before .before .before .before .before .before .loop .inv .1) (c .before .before .before .before .before .before .loop-test .taken) (c .before .before .before .if3 .left) (denied (c .before .ready-in .ensures) (c .if4 .taken)) in
-    laps-halts _ _ _ _ _ _ _ (c .before .before .before .before .before .before .before .before .before .before .rounds .inv .1) _ _ (c .before .before .before .before .before .before .before .before .before .if1 .left) (omega arith) halts
+    let halts = lap-halts _ _ _ _ _ _ _ _ (c .before .before .before .before .before .before .before .loop .inv .1)
+    (c .before .before .before .before .before .before .loop-test .taken) (c .before .before .before .if3 .left)
+    (denied (c .before .ready-in .ensures) (c .if4 .taken)) in
+    laps-halts _ _ _ _ _ _ _ (c .before .before .before .before .before .before .before .before .before .before .rounds .inv .1) _ _
+    (c .before .before .before .before .before .before .before .before .before .if1 .left) (omega arith) halts
 
 pub rounds-of-spec : {M : Type 1} → statement M
 rounds-of-spec =

@@ -1,6 +1,5 @@
 -- `run::run` meets its contract: the header test, then the rounds over the workers that the header names.
 use borrow.Author.Needs.{needs}
-use native.Mathlib.Omega.{arith}
 use denote.Ref.{now}
 use Rattle.base.proofs.Bools.{denied, granted}
 use Rattle.image.proofs.Header.{header-true}
@@ -32,7 +31,8 @@ rounds-of-requires c κs =
     let S = c .before .before .before .before .before .before .before .before in
     let A = S .args in
     let e = c .before .before .workers .ensures in
-    let h = header-true (A .mark) (A .own) (now (A .image)) (granted (c .before .before .before .before .before .header-ok .ensures) (c .before .before .before .before .if1 .left)) in
+    let h = header-true (A .mark) (A .own) (now (A .image))
+    (granted (c .before .before .before .before .before .header-ok .ensures) (c .before .before .before .before .if1 .left)) in
     (S .pre, e, rw e (h .few), rw e (h .size))
 
 same-length-2 : tie.Need-same-length-2
@@ -43,7 +43,8 @@ returns-2 c =
     let back = c .before .before .before .before .before .before .before .before .before in
     let A = back .before .before .args in
     let w = world (now (A .image)) (A .c) (now (A .left)) in
-    let h = granted (c .before .before .before .before .before .before .before .before .header-ok .ensures) (c .before .before .before .before .before .before .before .if1 .left) in
+    let h = granted (c .before .before .before .before .before .before .before .before .header-ok .ensures)
+    (c .before .before .before .before .before .before .before .if1 .left) in
     rw (run-rounds (A .mark) (A .own) w (A .rounds) h, ← c .before .before .before .before .before .workers .ensures) (c .before .before .rounds-of .ensures)
 
 pub run-spec : {M : Type 1} → statement M

@@ -44,7 +44,8 @@ returns-3 c =
     let s = c .before .before .before .before .held-sets in
     let e = s .ensures .first in
     let no = denied (c .before .passes .ensures) (c .if3 .taken) in
-    let v = e ∙ check-malformed (A .own) (length w) (codeOf w) (c .before .before .before .before .before .before .before .if1 .left) (c .before .before .before .before .before .before .if2 .left) (ap passes (sym e) ∙ no) in
+    let v = e ∙ check-malformed (A .own) (length w) (codeOf w) (c .before .before .before .before .before .before .before .if1 .left)
+    (c .before .before .before .before .before .before .if2 .left) (ap passes (sym e) ∙ no) in
     (v, λ j. s .ensures .sets j ∙ left-by (A .own) (length w) (codeOf w) (codeOf (now (A .held))) j (s .result) v)
 
 uses-requires : tie.Need-uses-requires
@@ -54,7 +55,8 @@ uses-requires c κs =
     let A = S .args in
     let s = c .before .before .before .before .before .held-sets in
     let v = passed-is (s .result) (granted (c .before .before .passes .ensures) (c .before .if3 .left)) in
-    judgeable (A .own) (now (A .words)) (s .last .1 .1 .0) (omega (arith, s .kept .1 .1 .0, S .pre)) (c .before .before .before .before .before .before .before .if2 .left) (sym (s .ensures .first) ∙ v) (passed-sets _ _ _ _ _ (s .ensures) v)
+    judgeable (A .own) (now (A .words)) (s .last .1 .1 .0) (omega (arith, s .kept .1 .1 .0, S .pre))
+    (c .before .before .before .before .before .before .before .if2 .left) (sym (s .ensures .first) ∙ v) (passed-sets _ _ _ _ _ (s .ensures) v)
 
 same-length-2 : tie.Need-same-length-2
 same-length-2 c = search needs
@@ -67,9 +69,14 @@ returns-4 c =
     let s = c .before .before .before .before .before .before .held-sets in
     let u = c .uses in
     let v = passed-is (s .result) (granted (c .before .before .before .passes .ensures) (c .before .before .if3 .left)) in
-    let e = u .ensures ∙ check-uses (A .own) (length w) (codeOf w) (back .if1 .left) (c .before .before .before .before .before .before .before .before .if2 .left) (sym (s .ensures .first) ∙ v) in
-    let all : reached (length w) (s .result) ≡ reached (length w) (u .result) = ap (reached (length w)) v ∙ sym (ap (reached (length w)) (u .ensures) ∙ uses-reach (length w) (codeOf w) 0 (length w)) in
-    (e, λ j. s .ensures .sets j ∙ (ap (λ (k : ℕ). heldTo k (codeOf w) (codeOf (now (A .held))) j) all ∙ left-by (A .own) (length w) (codeOf w) (codeOf (now (A .held))) j (u .result) e))
+    let e = u .ensures ∙ check-uses (A .own) (length w) (codeOf w) (back .if1 .left)
+    (c .before .before .before .before .before .before .before .before .if2 .left) (sym (s .ensures .first) ∙ v) in
+    let all : reached (length w) (s .result) ≡ reached (length w) (u .result) = ap (reached (length w)) v ∙ sym
+    (ap (reached (length w)) (u .ensures) ∙ uses-reach (length w) (codeOf w) 0 (length w)) in (
+      e,
+      λ j. s .ensures .sets j ∙ (ap (λ (k : ℕ). heldTo k (codeOf w) (codeOf (now (A .held))) j) all ∙ left-by (A .own) (length w) (codeOf w)
+          (codeOf (now (A .held))) j (u .result) e),
+    )
 
 pub check-held-spec : {M : Type 1} → statement M
 check-held-spec =

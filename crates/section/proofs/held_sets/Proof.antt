@@ -31,8 +31,14 @@ abbrev μ-loop : tie.MeasureT-loop
 loop-holds : tie.Need-loop-holds Inv-loop μ-loop
 unfolding heldBefore
 loop-holds c =
-    let A = c .before .before .args in
-    (omega arith, refl, refl, rw (left-all (length (now (A .words)))), λ j. sym (held-past-to (codeOf (now (A .words))) (codeOf (now (A .held))) j 0 (omega arith)))
+    let A = c .before .before .args in (
+      omega arith,
+      refl,
+      refl,
+      rw (left-all (length (now (A .words)))),
+      λ j. sym
+          (held-past-to (codeOf (now (A .words))) (codeOf (now (A .held))) j 0 (omega arith)),
+    )
 
 mul-w : tie.Need-mul-w Inv-loop μ-loop
 mul-w c = search needs
@@ -98,7 +104,11 @@ returns-2 c =
     let L = c .before .loop in
     let A = c .before .before .before .before .args in
     let e : L .i ≡ length (now (A .words)) = omega arith in
-    record { first = sym (first-none _ (L .i) _ (c .loop-test .left)) ∙ L .inv .3; sets = λ j. L .inv .4 j ∙ ap (λ (k : ℕ). heldTo k (codeOf (now (A .words))) (codeOf (now (A .held))) j) e }
+    record {
+      first = sym (first-none _ (L .i) _ (c .loop-test .left)) ∙ L .inv .3;
+      sets = λ j. L .inv .4 j ∙ ap
+          (λ (k : ℕ). heldTo k (codeOf (now (A .words))) (codeOf (now (A .held))) j) e;
+    }
 
 pub held-sets-spec : {M : Type 1} → statement M
 held-sets-spec =

@@ -48,7 +48,8 @@ loop-again c =
     let u = c .before .before in
     let L = u .before .before .loop in
     let w = now (u .before .before .before .before .before .args .words) in
-    let r = sym (u .use-at .ensures) ∙ passed-is (u .use-at .result) (sym (c .before .passes .ensures) ∙ not-false (c .before .passes .result) (c .if1 .left)) in
+    let r = sym (u .use-at .ensures) ∙ passed-is (u .use-at .result) (sym (c .before .passes .ensures) ∙ not-false (c .before .passes .result) (c .if1 .left))
+    in
     (omega arith, sym (first-on (useOf (codeOf w)) (length w) (L .i) (u .before .loop-test .taken) r) ∙ L .inv .1)
 
 returns-2 : tie.Need-returns-2 Inv-loop μ-loop

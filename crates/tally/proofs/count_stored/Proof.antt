@@ -9,4 +9,5 @@ use Rattle.tally.proofs.count_stored.Code as code
 
 pub count-stored-spec : {M : Type 1} → statement M
 unfolding code.routine
-count-stored-spec 𝓤 H 𝓜 𝓖 𝓡 = holds callee.name Room withStored name code.env callee.routine code.calls-tally·counted-stored 𝓤 H 𝓜 𝓖 𝓡 (code.unfolded 𝓤 H 𝓜 𝓡) (met 𝓤 H 𝓜 𝓖 𝓡)
+count-stored-spec 𝓤 H 𝓜 𝓖 𝓡 =
+    holds callee.name Room withStored name code.env callee.routine code.calls-tally·counted-stored 𝓤 H 𝓜 𝓖 𝓡 (code.unfolded 𝓤 H 𝓜 𝓡) (met 𝓤 H 𝓜 𝓖 𝓡)

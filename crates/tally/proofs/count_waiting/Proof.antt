@@ -9,4 +9,5 @@ use Rattle.tally.proofs.count_waiting.Code as code
 
 pub count-waiting-spec : {M : Type 1} → statement M
 unfolding code.routine
-count-waiting-spec 𝓤 H 𝓜 𝓖 𝓡 = holds callee.name Room withWaiting name code.env callee.routine code.calls-tally·counted-waiting 𝓤 H 𝓜 𝓖 𝓡 (code.unfolded 𝓤 H 𝓜 𝓡) (met 𝓤 H 𝓜 𝓖 𝓡)
+count-waiting-spec 𝓤 H 𝓜 𝓖 𝓡 =
+    holds callee.name Room withWaiting name code.env callee.routine code.calls-tally·counted-waiting 𝓤 H 𝓜 𝓖 𝓡 (code.unfolded 𝓤 H 𝓜 𝓡) (met 𝓤 H 𝓜 𝓖 𝓡)

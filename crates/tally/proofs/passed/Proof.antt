@@ -9,4 +9,5 @@ use Rattle.tally.proofs.passed.Code as code
 
 pub passed-spec : {M : Type 1} → statement M
 unfolding code.routine
-passed-spec 𝓤 H 𝓜 𝓖 𝓡 = holds callee.name Room withPassed name code.env callee.routine code.calls-tally·count-passed 𝓤 H 𝓜 𝓖 𝓡 (code.unfolded 𝓤 H 𝓜 𝓡) (met 𝓤 H 𝓜 𝓖 𝓡)
+passed-spec 𝓤 H 𝓜 𝓖 𝓡 =
+    holds callee.name Room withPassed name code.env callee.routine code.calls-tally·count-passed 𝓤 H 𝓜 𝓖 𝓡 (code.unfolded 𝓤 H 𝓜 𝓡) (met 𝓤 H 𝓜 𝓖 𝓡)

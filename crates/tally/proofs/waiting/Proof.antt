@@ -9,4 +9,5 @@ use Rattle.tally.proofs.waiting.Code as code
 
 pub waiting-spec : {M : Type 1} → statement M
 unfolding code.routine
-waiting-spec 𝓤 H 𝓜 𝓖 𝓡 = holds callee.name Room withWaiting name code.env callee.routine code.calls-tally·count-waiting 𝓤 H 𝓜 𝓖 𝓡 (code.unfolded 𝓤 H 𝓜 𝓡) (met 𝓤 H 𝓜 𝓖 𝓡)
+waiting-spec 𝓤 H 𝓜 𝓖 𝓡 =
+    holds callee.name Room withWaiting name code.env callee.routine code.calls-tally·count-waiting 𝓤 H 𝓜 𝓖 𝓡 (code.unfolded 𝓤 H 𝓜 𝓡) (met 𝓤 H 𝓜 𝓖 𝓡)

@@ -42,8 +42,11 @@ returns c =
     let f : Full (A .t2) = record { steps = p; turns = q } in
     let inside : A .d < length (A .t2 .turn) = rw q l in
     let acts = c .before .before .before .before .turn-on .ensures (A .t2) (record { inside = inside; step = refl; turn = refl }) in
-    let made = made-at (A .own) w (A .d) f l (S .pre .1) in
-    (c .before .answer-of .ensures ∙ (ap didAnswer (acts .did) ∙ did-answers (A .own) (outcomeAt (A .own) w (A .d)) made), rw (← c .place .ensures) at (acts .after))
+    let made = made-at (A .own) w (A .d) f l (S .pre .1) in (
+      c .before .answer-of .ensures ∙ (ap didAnswer (acts .did) ∙ did-answers (A .own) (outcomeAt (A .own) w (A .d)) made),
+      rw (← c .place .ensures) at
+          (acts .after),
+    )
 
 pub open-turn-spec : {M : Type 1} → statement M
 open-turn-spec =

@@ -1,7 +1,7 @@
 -- `turn::tests` meets its contract: the header's test, then the worker's number, then the worker's own.
 use borrow.Author.Needs.{needs}
 use Prim.Native.Nat.{_≤_, _<_}
-use mathlib.Core.Path.{_≡_, sym, ap, _∙_}
+use mathlib.Core.Path.{sym, ap, _∙_}
 use denote.Ref.{now}
 use Rattle.base.proofs.Bools.{denied, granted}
 use Rattle.image.specs.Image.{workers}

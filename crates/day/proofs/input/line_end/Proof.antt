@@ -1,30 +1,32 @@
--- `day::input::line_end` meets its contract. The loop's invariant: from here the rest decides where the line ends.
+-- `day::input::line_end` meets its contract. The loop's invariant: so many bytes are passed, and from there the rest decides.
 use borrow.Author.Needs.{needs}
 use native.Mathlib.Omega.{arith}
-use Prim.Native.Nat.{_≤_, _-_}
-use mathlib.Core.Path.{_≡_, refl, sym, _∙_}
-use Rattle.day.specs.Held.{lineEnd}
-use Rattle.day.proofs.Lines.{end-step, end-found, end-none}
+use Prim.Native.Nat.{_≤_, _+_, _-_}
+use mathlib.Core.Path.{_≡_, _∙_}
+use lib.ListN.{length, drop}
+use Rattle.day.specs.Input.{lineOf}
+use Rattle.day.proofs.Lines.{line-step, line-found, line-none}
 use Rattle.day.proofs.input.line_end.Statement.{statement}
 use Rattle.day.proofs.input.line_end.Tie as tie
 
 abbrev Inv-loop : tie.InvT-loop
-Inv-loop buf from to i₀ i = (from ≤ i) × (i ≤ to) × (lineEnd buf i (to - i) ≡ lineEnd buf from (to - from))
+Inv-loop l i₀ i = (i ≤ length l) × (i + length (lineOf (drop i l)) ≡ length (lineOf l))
 
 abbrev μ-loop : tie.MeasureT-loop
-μ-loop buf from to i₀ i = to - i
+μ-loop l i₀ i = length l - i
 
 loop-holds : tie.Need-loop-holds Inv-loop μ-loop
-loop-holds c = (omega arith, omega arith, refl)
+loop-holds c = (omega arith, omega arith)
 
 shared-slice-read-if1 : tie.Need-shared-slice-read-if1 Inv-loop μ-loop
 shared-slice-read-if1 c = search needs
 
 returns : tie.Need-returns Inv-loop μ-loop
 returns c =
-    let A = c .before .before .before .before .args in
+    let l = c .before .before .before .before .args .l .now in
     let L = c .before .before .before .loop in
-    (sym (sym (L .inv .2) ∙ end-found (A .buf .now) (A .to) (L .i) (omega arith) (c .if1 .taken)), (omega arith, omega arith))
+    let e = line-found l (L .i) (omega arith) (c .if1 .taken) in
+    (omega arith, omega arith)
 
 add-i : tie.Need-add-i Inv-loop μ-loop
 add-i c = search needs
@@ -34,15 +36,16 @@ loop-less c = omega arith
 
 loop-again : tie.Need-loop-again Inv-loop μ-loop
 loop-again c =
-    let A = c .before .before .before .before .args in
+    let l = c .before .before .before .before .args .l .now in
     let L = c .before .before .before .loop in
-    (omega arith, omega arith, end-step (A .buf .now) (A .to) (L .i) (omega arith) (c .if1 .left) ∙ L .inv .2)
+    (omega arith, line-step l (L .i) (omega arith) (c .if1 .left) ∙ L .inv .1)
 
 returns-2 : tie.Need-returns-2 Inv-loop μ-loop
 returns-2 c =
-    let A = c .before .before .args in
+    let l = c .before .before .args .l .now in
     let L = c .before .loop in
-    (sym (sym (L .inv .2) ∙ end-none (A .buf .now) (A .to) (L .i) (omega arith)), (omega arith, omega arith))
+    let e = line-none l (L .i) (omega arith) in
+    (omega arith, omega arith)
 
 pub line-end-spec : {M : Type 1} → statement M
 line-end-spec =

@@ -1,7 +1,11 @@
--- `day::playing::line` meets its contract: the first line by `first`, the others by `later` on the image's words.
+-- `day::playing::line` meets its contract: the first line by `first`, the others on the image's words.
 use borrow.Author.Needs.{needs}
-use mathlib.Core.Path.{sym}
+use borrow.Author.Tests.{ne-eqb}
+use native.Mathlib.Omega.{arith}
+use mathlib.Core.Path.{_≡_, sym}
 use lib.Seq.{length-take-le}
+use Rattle.day.specs.Pieces.{lineOn}
+use Rattle.day.proofs.Buffers.{front-words, front-buffered}
 use Rattle.day.proofs.playing.line.Statement.{statement}
 use Rattle.day.proofs.playing.line.Tie as tie
 
@@ -11,29 +15,39 @@ first-requires c κs = search needs
 same-length : tie.Need-same-length
 same-length c = search needs
 
+returns : tie.Need-returns
+unfolding lineOn
+returns c =
+    let F = c .before .before .first in
+    let A = c .before .before .before .before .before .before .before .args in
+    let e : A .d .words ≡ 0 = c .before .before .before .before .if1 .taken in
+    (rw e (F .ensures .0), rw e (F .ensures .1))
+
+slice-relend-prefix-begin : tie.Need-slice-relend-prefix-begin
+slice-relend-prefix-begin c = search needs
+
+slice-aggregate-begin : tie.Need-slice-aggregate-begin
+slice-aggregate-begin c = sym (length-take-le _ _ (c .before .before .before .before .before .before .pre .words))
+
+begin-requires : tie.Need-begin-requires
+begin-requires c κs = search needs
+
 same-length-2 : tie.Need-same-length-2
 same-length-2 c = search needs
 
-returns : tie.Need-returns
-returns c = search needs
-
-slice-relend-prefix-later : tie.Need-slice-relend-prefix-later
-slice-relend-prefix-later c = search needs
-
-slice-aggregate-later : tie.Need-slice-aggregate-later
-slice-aggregate-later c = sym (length-take-le _ _ (c .before .before .before .before .before .pre .3))
-
-later-requires : tie.Need-later-requires
-later-requires c κs = search needs
-
-same-length-3 : tie.Need-same-length-3
-same-length-3 c = search needs
-
-same-length-4 : tie.Need-same-length-4
-same-length-4 c = search needs
-
 returns-2 : tie.Need-returns-2
-returns-2 c = search needs
+unfolding lineOn
+returns-2 c =
+    let b6 = c .before .before .before .before .before .before in
+    let b9 = b6 .before .before .before in
+    let G = c .before .before .begin in
+    let S = b9 in
+    let m = S .args .image .now in
+    let n = S .args .d .words in
+    let h = S .pre .words in (
+      rw (front-words m (G .last .0) n h (G .kept .0), length-take-le n m h, ne-eqb n 0 (b6 .if1 .left)) (G .ensures),
+      front-buffered m (G .last .0) n h (G .kept .0) n (omega arith),
+    )
 
 pub line-spec : {M : Type 1} → statement M
 line-spec =
@@ -41,11 +55,9 @@ line-spec =
     (tie.spec
     first-requires
     same-length
-    same-length-2
     returns
-    slice-relend-prefix-later
-    slice-aggregate-later
-    later-requires
-    same-length-3
-    same-length-4
+    slice-relend-prefix-begin
+    slice-aggregate-begin
+    begin-requires
+    same-length-2
     returns-2)

@@ -29,11 +29,29 @@ cast-result-2 c = search needs
 
 returns-4 : tie.Need-returns-4
 unfolding hexOf
-returns-4 c = (simp (le-ltb _ _ (c .before .before .before .if1 .left), lt-leb _ _ (c .before .before .if2 .left), le-ltb _ _ (c .before .if3 .left), le-leb _ _ (c .if4 .taken)), omega arith)
+returns-4 c = (
+  simp (
+    le-ltb _ _ (c .before .before .before .if1 .left),
+    lt-leb _ _ (c .before .before .if2 .left),
+    le-ltb _ _ (c .before .if3 .left),
+    le-leb _ _
+        (c .if4 .taken),
+  ),
+  omega arith,
+)
 
 returns-5 : tie.Need-returns-5
 unfolding hexOf
-returns-5 c = (simp (le-ltb _ _ (c .before .before .before .if1 .left), lt-leb _ _ (c .before .before .if2 .left), le-ltb _ _ (c .before .if3 .left), lt-leb _ _ (c .if4 .left)), omega arith)
+returns-5 c = (
+  simp (
+    le-ltb _ _ (c .before .before .before .if1 .left),
+    lt-leb _ _ (c .before .before .if2 .left),
+    le-ltb _ _ (c .before .if3 .left),
+    lt-leb _ _
+        (c .if4 .left),
+  ),
+  omega arith,
+)
 
 pub digit-spec : {M : Type 1} → statement M
 digit-spec =

@@ -28,10 +28,22 @@ digit-requires : tie.Need-digit-requires Inv-loop μ-loop
 digit-requires c κs = search needs
 
 mul-v : tie.Need-mul-v Inv-loop μ-loop
-mul-v c = omega (arith, room (c .before .before .before .loop .i) (c .before .before .before .loop .v) (omega arith) (c .before .before .before .loop .inv .1), c .digit .ensures .1)
+mul-v c =
+    omega (
+      arith,
+      room (c .before .before .before .loop .i) (c .before .before .before .loop .v) (omega arith) (c .before .before .before .loop .inv .1),
+      c
+          .digit .ensures .1,
+    )
 
 add-v : tie.Need-add-v Inv-loop μ-loop
-add-v c = omega (arith, room (c .before .before .before .loop .i) (c .before .before .before .loop .v) (omega arith) (c .before .before .before .loop .inv .1), c .digit .ensures .1)
+add-v c =
+    omega (
+      arith,
+      room (c .before .before .before .loop .i) (c .before .before .before .loop .v) (omega arith) (c .before .before .before .loop .inv .1),
+      c
+          .digit .ensures .1,
+    )
 
 add-i : tie.Need-add-i Inv-loop μ-loop
 add-i c = search needs

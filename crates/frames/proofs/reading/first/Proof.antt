@@ -22,7 +22,8 @@ number-requires c κs = search needs
 
 returns-3 : tie.Need-returns-3
 unfolding firstOf
-returns-3 c = rw (eq-eqb _ 2 (c .before .before .before .if1 .left), granted (c .before .before .all-digits .ensures) (c .before .if2 .left), ← c .number .ensures)
+returns-3 c =
+    rw (eq-eqb _ 2 (c .before .before .before .if1 .left), granted (c .before .before .all-digits .ensures) (c .before .if2 .left), ← c .number .ensures)
 
 pub first-spec : {M : Type 1} → statement M
 first-spec = tie.close (tie.spec returns all-digits-requires returns-2 number-requires returns-3)

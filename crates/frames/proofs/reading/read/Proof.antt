@@ -19,7 +19,13 @@ returns-2 c = rw (le-ltb 4096 _ (c .before .before .if1 .left), denied (c .befor
 
 returns-3 : tie.Need-returns-3
 unfolding frameOf
-returns-3 c = rw (le-ltb 4096 _ (c .before .before .before .if1 .left), granted (c .before .before .all-digits .ensures) (c .before .if2 .left), lt-ltb _ 2 (c .if3 .taken))
+returns-3 c =
+    rw (
+      le-ltb 4096 _ (c .before .before .before .if1 .left),
+      granted (c .before .before .all-digits .ensures) (c .before .if2 .left),
+      lt-ltb _ 2
+          (c .if3 .taken),
+    )
 
 number-requires : tie.Need-number-requires
 number-requires c κs = search needs
@@ -35,21 +41,58 @@ recover-requires c κs = search needs
 
 returns-4 : tie.Need-returns-4
 unfolding frameOf byKind
-returns-4 c = rw (le-ltb 4096 _ (c .before .before .before .before .before .before .if1 .left), granted (c .before .before .before .before .before .all-digits .ensures) (c .before .before .before .before .if2 .left), le-ltb _ 2 (c .before .before .before .if3 .left), ← c .before .before .number .ensures, c .before .match .keys1) (c .submit .ensures)
+returns-4 c =
+    rw (
+      le-ltb 4096 _ (c .before .before .before .before .before .before .if1 .left),
+      granted (c .before .before .before .before .before .all-digits .ensures)
+          (c .before .before .before .before .if2 .left),
+      le-ltb _ 2 (c .before .before .before .if3 .left),
+      ← c .before .before .number .ensures,
+      c .before
+          .match .keys1,
+    ) (c .submit .ensures)
 
 returns-5 : tie.Need-returns-5
 unfolding frameOf byKind
-returns-5 c = rw (le-ltb 4096 _ (c .before .before .before .before .before .before .if1 .left), granted (c .before .before .before .before .before .all-digits .ensures) (c .before .before .before .before .if2 .left), le-ltb _ 2 (c .before .before .before .if3 .left), ← c .before .before .number .ensures, c .before .match .keys2) (c .turns .ensures)
+returns-5 c =
+    rw (
+      le-ltb 4096 _ (c .before .before .before .before .before .before .if1 .left),
+      granted (c .before .before .before .before .before .all-digits .ensures)
+          (c .before .before .before .before .if2 .left),
+      le-ltb _ 2 (c .before .before .before .if3 .left),
+      ← c .before .before .number .ensures,
+      c .before
+          .match .keys2,
+    ) (c .turns .ensures)
 
 returns-6 : tie.Need-returns-6
 unfolding frameOf byKind
-returns-6 c = rw (le-ltb 4096 _ (c .before .before .before .before .before .before .if1 .left), granted (c .before .before .before .before .before .all-digits .ensures) (c .before .before .before .before .if2 .left), le-ltb _ 2 (c .before .before .before .if3 .left), ← c .before .before .number .ensures, c .before .match .keys3) (c .recover .ensures)
+returns-6 c =
+    rw (
+      le-ltb 4096 _ (c .before .before .before .before .before .before .if1 .left),
+      granted (c .before .before .before .before .before .all-digits .ensures)
+          (c .before .before .before .before .if2 .left),
+      le-ltb _ 2 (c .before .before .before .if3 .left),
+      ← c .before .before .number .ensures,
+      c .before
+          .match .keys3,
+    ) (c .recover .ensures)
 
 returns-7 : tie.Need-returns-7
 unfolding frameOf byKind
 returns-7 c =
     let n = c .match .rest in
-    rw (le-ltb 4096 _ (c .before .before .before .before .before .if1 .left), granted (c .before .before .before .before .all-digits .ensures) (c .before .before .before .if2 .left), le-ltb _ 2 (c .before .before .if3 .left), ← c .before .number .ensures, ne-eqb _ 1 (n .0 .0 .1), ne-eqb _ 2 (n .0 .1), ne-eqb _ 3 (n .1))
+    rw (
+      le-ltb 4096 _ (c .before .before .before .before .before .if1 .left),
+      granted (c .before .before .before .before .all-digits .ensures)
+          (c .before .before .before .if2 .left),
+      le-ltb _ 2 (c .before .before .if3 .left),
+      ← c .before .number .ensures,
+      ne-eqb _ 1 (n .0 .0 .1),
+      ne-eqb _ 2
+          (n .0 .1),
+      ne-eqb _ 3 (n .1),
+    )
 
 pub read-spec : {M : Type 1} → statement M
 read-spec =

@@ -21,7 +21,8 @@ number-requires-2 c κs = search needs
 
 returns-3 : tie.Need-returns-3
 unfolding submitFrame
-returns-3 c = rw (le-ltb _ 148 (c .before .before .before .if1 .left), eq-eqb _ 0 (c .before .before .if2 .left), ← c .before .number .ensures, ← c .number2 .ensures)
+returns-3 c =
+    rw (le-ltb _ 148 (c .before .before .before .if1 .left), eq-eqb _ 0 (c .before .before .if2 .left), ← c .before .number .ensures, ← c .number2 .ensures)
 
 pub submit-spec : {M : Type 1} → statement M
 submit-spec = tie.close (tie.spec returns returns-2 number-requires number-requires-2 returns-3)

@@ -64,7 +64,45 @@ digit-at-requires-20 : tie.Need-digit-at-requires-20
 digit-at-requires-20 c κs = search needs
 
 returns : tie.Need-returns
-returns c = rw (← c .before .before .before .before .before .before .before .before .before .before .before .before .before .before .before .before .before .before .before .digit-at .ensures, ← c .before .before .before .before .before .before .before .before .before .before .before .before .before .before .before .before .before .before .digit-at2 .ensures, ← c .before .before .before .before .before .before .before .before .before .before .before .before .before .before .before .before .before .digit-at3 .ensures, ← c .before .before .before .before .before .before .before .before .before .before .before .before .before .before .before .before .digit-at4 .ensures, ← c .before .before .before .before .before .before .before .before .before .before .before .before .before .before .before .digit-at5 .ensures, ← c .before .before .before .before .before .before .before .before .before .before .before .before .before .before .digit-at6 .ensures, ← c .before .before .before .before .before .before .before .before .before .before .before .before .before .digit-at7 .ensures, ← c .before .before .before .before .before .before .before .before .before .before .before .before .digit-at8 .ensures, ← c .before .before .before .before .before .before .before .before .before .before .before .digit-at9 .ensures, ← c .before .before .before .before .before .before .before .before .before .before .digit-at10 .ensures, ← c .before .before .before .before .before .before .before .before .before .digit-at11 .ensures, ← c .before .before .before .before .before .before .before .before .digit-at12 .ensures, ← c .before .before .before .before .before .before .before .digit-at13 .ensures, ← c .before .before .before .before .before .before .digit-at14 .ensures, ← c .before .before .before .before .before .digit-at15 .ensures, ← c .before .before .before .before .digit-at16 .ensures, ← c .before .before .before .digit-at17 .ensures, ← c .before .before .digit-at18 .ensures, ← c .before .digit-at19 .ensures, ← c .digit-at20 .ensures)
+returns c =
+    rw (
+      ← c .before .before .before .before .before .before .before .before .before .before .before .before .before .before .before .before .before .before
+          .before .digit-at .ensures,
+      ← c .before .before .before .before .before .before .before .before .before .before .before .before .before .before .before
+          .before .before .before .digit-at2 .ensures,
+      ← c .before .before .before .before .before .before .before .before .before .before .before .before
+          .before .before .before .before .before .digit-at3 .ensures,
+      ← c .before .before .before .before .before .before .before .before .before .before
+          .before .before .before .before .before .before .digit-at4 .ensures,
+      ← c .before .before .before .before .before .before .before .before
+          .before .before .before .before .before .before .before .digit-at5 .ensures,
+      ← c .before .before .before .before .before .before .before
+          .before .before .before .before .before .before .before .digit-at6 .ensures,
+      ← c .before .before .before .before .before .before
+          .before .before .before .before .before .before .before .digit-at7 .ensures,
+      ← c .before .before .before .before .before .before
+          .before .before .before .before .before .before .digit-at8 .ensures,
+      ← c .before .before .before .before .before .before
+          .before .before .before .before .before .digit-at9 .ensures,
+      ← c .before .before .before .before .before .before .before
+          .before .before .before .digit-at10 .ensures,
+      ← c .before .before .before .before .before .before .before .before
+          .before .digit-at11 .ensures,
+      ← c .before .before .before .before .before .before .before .before .digit-at12
+          .ensures,
+      ← c .before .before .before .before .before .before .before .digit-at13 .ensures,
+      ← c .before
+          .before .before .before .before .before .digit-at14 .ensures,
+      ← c .before .before .before .before
+          .before .digit-at15 .ensures,
+      ← c .before .before .before .before .digit-at16 .ensures,
+      ← c .before
+          .before .before .digit-at17 .ensures,
+      ← c .before .before .digit-at18 .ensures,
+      ← c .before
+          .digit-at19 .ensures,
+      ← c .digit-at20 .ensures,
+    )
 
 pub text-spec : {M : Type 1} → statement M
 text-spec =

@@ -31,14 +31,20 @@ read-field-requires c κs =
     let h = w .before .before in
     let S = h .before .before in
     let A = S .args in
-    header-inside (A .mark) (A .own) (now (A .image)) (A .d) (S .pre) (granted (h .header-ok .ensures) (w .before .if1 .left)) (rw (← w .workers .ensures) (c .if2 .left))
+    header-inside (A .mark) (A .own) (now (A .image)) (A .d) (S .pre) (granted (h .header-ok .ensures) (w .before .if1 .left))
+    (rw (← w .workers .ensures) (c .if2 .left))
 
 returns-3 : tie.Need-returns-3
 unfolding finishedOf
 returns-3 c =
     let w = c .before .before in
     let h = w .before .before in
-    rw (granted (h .header-ok .ensures) (w .before .if1 .left), ← w .workers .ensures, lt-ltb (h .before .before .args .d) (w .workers .result) (c .before .if2 .left))
+    rw (
+      granted (h .header-ok .ensures) (w .before .if1 .left),
+      ← w .workers .ensures,
+      lt-ltb (h .before .before .args .d) (w .workers .result)
+          (c .before .if2 .left),
+    )
     (c .read-field .ensures)
 
 pub finished-spec : {M : Type 1} → statement M

@@ -23,7 +23,8 @@ zero-end k at i rest m h = words-end (replicate k 0) at i rest m (rw length-repl
 
 abbrev Inv-loop : tie.InvT-loop
 Inv-loop image₀ at k left rest₀ i₀ image rest i =
-    (i ≤ k) × (length image ≡ length image₀) × (rest ≡ left - i) × (putFrom rest image (at + i) (drop i (replicate k 0)) ≡ putFrom left image₀ at (replicate k 0))
+    (i ≤ k) × (length image ≡ length image₀) × (rest ≡ left - i) ×
+    (putFrom rest image (at + i) (drop i (replicate k 0)) ≡ putFrom left image₀ at (replicate k 0))
 
 abbrev μ-loop : tie.MeasureT-loop
 μ-loop image₀ at k left rest₀ i₀ image rest i = k - i

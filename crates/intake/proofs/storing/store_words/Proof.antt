@@ -50,7 +50,8 @@ loop-again c =
       omega arith,
       s .kept .0 ∙ L .loop .inv .1,
       omega (arith, s .ensures .1),
-      words-step (now (A .words)) (A .at) (L .loop .i) _ (L .loop .rest) _ (L .loop .image) _ (omega arith) refl (s .ensures .0) (s .ensures .1) ∙ L .loop .inv .3,
+      words-step (now (A .words)) (A .at) (L .loop .i) _ (L .loop .rest) _ (L .loop .image) _ (omega arith) refl (s .ensures .0) (s .ensures .1) ∙ L .loop .inv
+          .3,
     )
 
 same-length : tie.Need-same-length Inv-loop μ-loop

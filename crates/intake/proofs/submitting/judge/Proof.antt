@@ -32,7 +32,8 @@ free-requires c κs =
     let h = w .before .before in
     let S = h .before .before .before in
     let A = S .args in
-    header-inside (A .mark) (A .own) (now (A .image)) (A .d) (S .pre) (granted (h .header-ok .ensures) (w .before .if1 .left)) (rw (← w .workers .ensures) (c .if2 .left))
+    header-inside (A .mark) (A .own) (now (A .image)) (A .d) (S .pre) (granted (h .header-ok .ensures) (w .before .if1 .left))
+    (rw (← w .workers .ensures) (c .if2 .left))
 
 returns-3 : tie.Need-returns-3
 unfolding submitAnswer
@@ -55,7 +56,8 @@ read-field-requires c κs =
     let h = w .before .before in
     let S = h .before .before .before in
     let A = S .args in
-    header-inside (A .mark) (A .own) (now (A .image)) (A .d) (S .pre) (granted (h .header-ok .ensures) (w .before .if1 .left)) (rw (← w .workers .ensures) (r .before .if2 .left))
+    header-inside (A .mark) (A .own) (now (A .image)) (A .d) (S .pre) (granted (h .header-ok .ensures) (w .before .if1 .left))
+    (rw (← w .workers .ensures) (r .before .if2 .left))
 
 returns-4 : tie.Need-returns-4
 unfolding submitAnswer

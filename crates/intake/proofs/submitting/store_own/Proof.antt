@@ -27,7 +27,12 @@ add-clear c =
     let o = c .before .before .before .before .before .before .before in
     let S = o .before .before in
     let A = S .args in
-    omega (arith, o .own-index .ensures, index-small (A .n) (own (A .d) 0) (S .pre .2) (and-both _ _ (lt-ltb (A .d) 8 (S .pre .0)) (lt-ltb 0 (A .n) (omega (arith, S .pre .1)))))
+    omega (
+      arith,
+      o .own-index .ensures,
+      index-small (A .n) (own (A .d) 0) (S .pre .2)
+          (and-both _ _ (lt-ltb (A .d) 8 (S .pre .0)) (lt-ltb 0 (A .n) (omega (arith, S .pre .1)))),
+    )
 
 sub-clear : tie.Need-sub-clear
 sub-clear c = search needs

@@ -42,7 +42,15 @@ add-t17 : tie.Need-add-t17
 add-t17 c = search needs
 
 returns-3 : tie.Need-returns-3
-returns-3 c = rw (le-ltb _ _ (c .before .before .before .before .if1 .left), ne-eqb _ _ (c .before .before .before .if2 .left), ← c .before .read-field2 .ensures, ← c .without2 .ensures, ← c .before .before .field-index2 .ensures)
+returns-3 c =
+    rw (
+      le-ltb _ _ (c .before .before .before .before .if1 .left),
+      ne-eqb _ _ (c .before .before .before .if2 .left),
+      ← c .before .read-field2 .ensures,
+      ← c
+          .without2 .ensures,
+      ← c .before .before .field-index2 .ensures,
+    )
 
 pub release-turn-spec : {M : Type 1} → statement M
 release-turn-spec =

@@ -29,13 +29,21 @@ enum-known-e-4 c = search needs
 
 word-requires : tie.Need-word-requires
 word-requires c κs =
-    let S = c .before .before in
-    (S .pre .0, ⊎-elim (λ w. rw (w .4) ((rw (w .1 .given .1) at (S .pre .1)) .0)) (λ w. ⊎-elim (λ v. rw (v .4) ((rw (v .1 .given .1) at (S .pre .1)) .0)) (λ v. rw (v .4) ((rw (v .1 .given .1) at (S .pre .1)) .0)) w) (c .match .came))
+    let S = c .before .before in (
+      S .pre .0,
+      ⊎-elim (λ w. rw (w .4) ((rw (w .1 .given .1) at (S .pre .1)) .0))
+          (λ w. ⊎-elim (λ v. rw (v .4) ((rw (v .1 .given .1) at (S .pre .1)) .0)) (λ v. rw (v .4) ((rw (v .1 .given .1) at (S .pre .1)) .0)) w)
+          (c .match .came),
+    )
 
 word-requires-2 : tie.Need-word-requires-2
 word-requires-2 c κs =
-    let S = c .before .before .before in
-    (S .pre .0, ⊎-elim (λ w. rw (w .5) ((rw (w .1 .given .1) at (S .pre .1)) .1)) (λ w. ⊎-elim (λ v. rw (v .5) ((rw (v .1 .given .1) at (S .pre .1)) .1)) (λ v. rw (v .5) ((rw (v .1 .given .1) at (S .pre .1)) .1)) w) (c .before .match .came))
+    let S = c .before .before .before in (
+      S .pre .0,
+      ⊎-elim (λ w. rw (w .5) ((rw (w .1 .given .1) at (S .pre .1)) .1))
+          (λ w. ⊎-elim (λ v. rw (v .5) ((rw (v .1 .given .1) at (S .pre .1)) .1)) (λ v. rw (v .5) ((rw (v .1 .given .1) at (S .pre .1)) .1)) w)
+          (c .before .match .came),
+    )
 
 combined-requires : tie.Need-combined-requires
 combined-requires c κs = search needs
@@ -53,7 +61,9 @@ returns-2 c =
     let x = c .before .before .word .ensures in
     let y = c .before .word2 .ensures in
     let given = c .combined .ensures in
-    ⊎-elim (λ w. rw (w .1 .given .1, ← w .4, ← w .5, ← x, ← y) (rw (w .3) at given)) (λ w. ⊎-elim (λ v. rw (v .1 .given .1, ← v .4, ← v .5, ← x, ← y) (rw (v .3) at given)) (λ v. rw (v .1 .given .1, ← v .4, ← v .5, ← x, ← y) (rw (v .3) at given)) w) (m .came)
+    ⊎-elim (λ w. rw (w .1 .given .1, ← w .4, ← w .5, ← x, ← y) (rw (w .3) at given))
+    (λ w. ⊎-elim (λ v. rw (v .1 .given .1, ← v .4, ← v .5, ← x, ← y) (rw (v .3) at given))
+    (λ v. rw (v .1 .given .1, ← v .4, ← v .5, ← x, ← y) (rw (v .3) at given)) w) (m .came)
 
 pub eval-spec : {M : Type 1} → statement M
 eval-spec =

@@ -20,13 +20,15 @@ returns c = rw (← c .before .read-field .ensures, eq-eqb (c .before .read-fiel
 cast-result : tie.Need-cast-result
 cast-result c =
     let S = c .before .before .before in
-    let p = pc-low (S .args .own) (at (S .args .own) (now (S .args .image))) (S .args .d) (c .before .read-field .result) (c .before .read-field .ensures) (S .pre .1) (c .if1 .left) in
+    let p = pc-low (S .args .own) (at (S .args .own) (now (S .args .image))) (S .args .d) (c .before .read-field .result) (c .before .read-field .ensures)
+    (S .pre .1) (c .if1 .left) in
     omega arith
 
 sub-result : tie.Need-sub-result
 sub-result c =
     let S = c .before .before .before in
-    pc-low (S .args .own) (at (S .args .own) (now (S .args .image))) (S .args .d) (c .before .read-field .result) (c .before .read-field .ensures) (S .pre .1) (c .if1 .left) .0
+    pc-low (S .args .own) (at (S .args .own) (now (S .args .image))) (S .args .d) (c .before .read-field .result) (c .before .read-field .ensures) (S .pre .1)
+    (c .if1 .left) .0
 
 returns-2 : tie.Need-returns-2
 unfolding namedStep resumed

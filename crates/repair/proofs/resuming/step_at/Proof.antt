@@ -19,7 +19,9 @@ resumed-step-requires c κs =
     (inside (S .args .own) (now (S .args .image)) (S .args .d) (S .pre) h, S .pre .legible (S .args .d) h)
 
 returns-2 : tie.Need-returns-2
-returns-2 c = rw (← c .before .before .workers .ensures, lt-ltb (c .before .before .before .before .args .d) (c .before .before .workers .result) (c .before .if1 .left)) (c .resumed-step .ensures)
+returns-2 c =
+    rw (← c .before .before .workers .ensures, lt-ltb (c .before .before .before .before .args .d) (c .before .before .workers .result) (c .before .if1 .left))
+    (c .resumed-step .ensures)
 
 pub step-at-spec : {M : Type 1} → statement M
 step-at-spec = tie.close (tie.spec workers-requires returns resumed-step-requires returns-2)

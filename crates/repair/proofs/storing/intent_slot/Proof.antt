@@ -17,7 +17,12 @@ element-copy-out-t5 : tie.Need-element-copy-out-t5
 element-copy-out-t5 c = search needs
 
 returns-2 : tie.Need-returns-2
-returns-2 c = rw (lt-ltb (c .before .before .before .args .d) (c .before .before .before .args .t1 .workers) (c .before .before .if1 .left), c .before .field-index .ensures)
+returns-2 c =
+    rw (
+      lt-ltb (c .before .before .before .args .d) (c .before .before .before .args .t1 .workers) (c .before .before .if1 .left),
+      c .before .field-index
+          .ensures,
+    )
 
 pub intent-slot-spec : {M : Type 1} → statement M
 intent-slot-spec =

@@ -28,7 +28,8 @@ returns c =
     let q = back .before .before .before .store-intents in
     let s = c .before .before .before .before .before .before .before .store-withdrawals in
     let t = c .before .before .store-relocks in
-    let w = stages-leave (A .r) (A .own) _ _ _ _ _ _ _ _ _ _ (p .ensures .0 (A .own)) (p .ensures .1) (q .ensures .0) (q .ensures .1) (s .ensures .0) (s .ensures .1) (t .ensures .0 (A .own)) (t .ensures .1) in
+    let w = stages-leave (A .r) (A .own) _ _ _ _ _ _ _ _ _ _ (p .ensures .0 (A .own)) (p .ensures .1) (q .ensures .0) (q .ensures .1) (s .ensures .0)
+    (s .ensures .1) (t .ensures .0 (A .own)) (t .ensures .1) in
     (w .0, w .1)
 
 pub store-all-spec : {M : Type 1} → statement M

@@ -42,7 +42,9 @@ returns-3 : tie.Need-returns-3
 returns-3 c = search needs
 
 returns-4 : tie.Need-returns-4
-returns-4 c = rw (c .before .before .before .before .x .given .1) (simp (sym (c .before .before .covered .ensures) ∙ not-false (c .before .before .covered .result) (c .before .if1 .left)) (c .covered-in .ensures))
+returns-4 c =
+    rw (c .before .before .before .before .x .given .1)
+    (simp (sym (c .before .before .covered .ensures) ∙ not-false (c .before .before .covered .result) (c .before .if1 .left)) (c .covered-in .ensures))
 
 returns-5 : tie.Need-returns-5
 returns-5 c = cc

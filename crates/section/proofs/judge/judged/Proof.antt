@@ -25,7 +25,12 @@ returns-3 : tie.Need-returns-3
 returns-3 c =
     let g = c .before .before in
     let o = g .before .before in
-    simp (granted (o .before .bracketed .ensures) (o .if1 .left), granted (g .before .ordered .ensures) (g .if2 .left), denied (c .before .guarded .ensures) (c .if3 .taken))
+    simp (
+      granted (o .before .bracketed .ensures) (o .if1 .left),
+      granted (g .before .ordered .ensures) (g .if2 .left),
+      denied (c .before .guarded .ensures)
+          (c .if3 .taken),
+    )
 
 level-requires : tie.Need-level-requires
 level-requires c κs = search needs

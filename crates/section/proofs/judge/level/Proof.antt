@@ -22,7 +22,8 @@ enum-known-x c = search needs
 
 mul-result : tie.Need-mul-result
 mul-result c =
-    let l = ltb-true (c .before .x .given .0 .1 .0) (length (now (c .before .before .before .args .held))) (rw (c .before .x .given .1) at (c .before .before .before .pre)) in
+    let l = ltb-true (c .before .x .given .0 .1 .0) (length (now (c .before .before .before .args .held)))
+    (rw (c .before .x .given .1) at (c .before .before .before .pre)) in
     scaled-fits _ _ 8 l (omega arith)
 
 shared-slice-read-result : tie.Need-shared-slice-read-result

@@ -27,8 +27,11 @@ judged-requires : tie.Need-judged-requires
 judged-requires c κs =
     let S = c .before .before .before .before .before in
     let w = now (S .args .words) in
-    let x = opOf (codeOf w (S .args .i)) in
-    (rw (c .before .op-of .ensures) (S .pre .locked), rw (c .before .op-of .ensures) (lands-wider (length w) (length (now (S .args .held))) x (S .pre .room) (S .pre .landed)))
+    let x = opOf (codeOf w (S .args .i)) in (
+      rw (c .before .op-of .ensures) (S .pre .locked),
+      rw (c .before .op-of .ensures)
+          (lands-wider (length w) (length (now (S .args .held))) x (S .pre .room) (S .pre .landed)),
+    )
 
 returns : tie.Need-returns
 returns c =

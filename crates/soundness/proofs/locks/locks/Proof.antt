@@ -46,7 +46,8 @@ returns c =
     let rd = at (A .own) (now (A .image)) in
     let low = shared-told _ _ _ (f .ensures) in
     let h : L .b < 64 = omega (arith, low .0) in
-    let k = rw (S .pre .2, c .before .before .before .before .before .workers .ensures) at (low .1 (L .b) (omega arith) (c .before .before .loop-test .taken)) in
+    let k = rw (S .pre .2, c .before .before .before .before .before .workers .ensures) at (low .1 (L .b) (omega arith) (c .before .before .loop-test .taken))
+    in
     let e = lock-single (A .own) rd D (L .b) (S .pre .1) k in
     sym (ap byLock (bad-here (A .own) rd D (L .b) h (e ∙ denied (c .before .owner-ok .ensures) (c .if1 .taken)))) ∙ L .inv .1
 
@@ -66,7 +67,8 @@ loop-again c =
     let rd = at (A .own) (now (A .image)) in
     let low = shared-told _ _ _ (f .ensures) in
     let h : L .b < 64 = omega (arith, low .0) in
-    let k = rw (S .pre .2, c .before .before .before .before .before .workers .ensures) at (low .1 (L .b) (omega arith) (c .before .before .loop-test .taken)) in
+    let k = rw (S .pre .2, c .before .before .before .before .before .workers .ensures) at (low .1 (L .b) (omega arith) (c .before .before .loop-test .taken))
+    in
     let e = lock-single (A .own) rd D (L .b) (S .pre .1) k in
     (omega arith, sym (ap byLock (bad-on (A .own) rd D (L .b) h (e ∙ granted (c .before .owner-ok .ensures) (c .if1 .left)))) ∙ L .inv .1)
 

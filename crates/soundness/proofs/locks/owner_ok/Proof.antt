@@ -24,7 +24,12 @@ returns-2 c =
     let A = c .before .before .before .before .before .args in
     let w = c .before .before .before .read-lock in
     let D = workers (now (A .image)) in
-    rw (← w .ensures (A .own), owner-named (A .own) (at (A .own) (now (A .image))) D (A .b) (w .result) (c .before .before .if1 .left), le-ltb (w .result - 1) D (omega arith))
+    rw (
+      ← w .ensures (A .own),
+      owner-named (A .own) (at (A .own) (now (A .image))) D (A .b) (w .result) (c .before .before .if1 .left),
+      le-ltb (w .result - 1) D
+          (omega arith),
+    )
 
 sub-read-field : tie.Need-sub-read-field
 sub-read-field c = search needs

@@ -23,7 +23,8 @@ logged-addr-requires : tie.Need-logged-addr-requires
 logged-addr-requires c κs = search needs
 
 operand-index-requires : tie.Need-operand-index-requires
-operand-index-requires c κs = let f = rw (c .before .before .x .given .1) at (c .before .before .before .before .before .pre .1) in (omega arith, f .0, c .before .before .before .before .before .pre .0 .few)
+operand-index-requires c κs = let f = rw (c .before .before .x .given .1) at (c .before .before .before .before .before .pre .1) in
+    (omega arith, f .0, c .before .before .before .before .before .pre .0 .few)
 
 enum-told-3 : tie.Need-enum-told-3
 enum-told-3 c = search needs

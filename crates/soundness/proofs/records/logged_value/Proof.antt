@@ -14,14 +14,18 @@ read-field-requires-2 c κs = search needs
 
 returns : tie.Need-returns
 unfolding second activeVal
-returns c = rw (← c .before .before .read-field .ensures, eq-eqb (c .before .before .read-field .result / 9223372036854775808) 0 (c .before .if1 .taken)) (c .read-field2 .ensures)
+returns c =
+    rw (← c .before .before .read-field .ensures, eq-eqb (c .before .before .read-field .result / 9223372036854775808) 0 (c .before .if1 .taken))
+    (c .read-field2 .ensures)
 
 read-field-requires-3 : tie.Need-read-field-requires-3
 read-field-requires-3 c κs = search needs
 
 returns-2 : tie.Need-returns-2
 unfolding second activeVal
-returns-2 c = rw (← c .before .before .read-field .ensures, ne-eqb (c .before .before .read-field .result / 9223372036854775808) 0 (c .before .if1 .left)) (c .read-field3 .ensures)
+returns-2 c =
+    rw (← c .before .before .read-field .ensures, ne-eqb (c .before .before .read-field .result / 9223372036854775808) 0 (c .before .if1 .left))
+    (c .read-field3 .ensures)
 
 pub logged-value-spec : {M : Type 1} → statement M
 logged-value-spec =

@@ -35,8 +35,11 @@ returns-2 : tie.Need-returns-2
 returns-2 c =
     let A = c .before .before .before .before .before .before .before .args in
     let pc = c .before .before .before .read-field2 in
-    let tests = pc-tests (A .own) (at (A .own) (now (A .image))) (A .d) (pc .result) (pc .ensures) (c .before .before .if1 .left) in
-    (rw (tests, lt-leb 1 (pc .result % 9223372036854775808) (c .before .if2 .taken)) (c .refused .ensures .0), λ h. absurd (false≢true (sym (c .refused .ensures .0) ∙ h)))
+    let tests = pc-tests (A .own) (at (A .own) (now (A .image))) (A .d) (pc .result) (pc .ensures) (c .before .before .if1 .left) in (
+      rw (tests, lt-leb 1 (pc .result % 9223372036854775808) (c .before .if2 .taken)) (c .refused .ensures .0),
+      λ h. absurd
+          (false≢true (sym (c .refused .ensures .0) ∙ h)),
+    )
 
 read-field-requires-3 : tie.Need-read-field-requires-3
 read-field-requires-3 c κs = search needs
@@ -61,7 +64,8 @@ read-step-requires : tie.Need-read-step-requires
 read-step-requires c κs =
     let S = c .before .before .before .before .before .before .before .before in
     let A = S .args in
-    let r = section-reads (A .own) (at (A .own) (now (A .image))) (A .d) (S .pre .1) (c .before .before .before .before .read-field2 .result % 9223372036854775808 - 1) (rw (c .before .read-field3 .ensures) at (c .if3 .left)) in
+    let r = section-reads (A .own) (at (A .own) (now (A .image))) (A .d) (S .pre .1)
+    (c .before .before .before .before .read-field2 .result % 9223372036854775808 - 1) (rw (c .before .read-field3 .ensures) at (c .if3 .left)) in
     (S .pre .0, omega (arith, c .before .read-field3 .ensures))
 
 op-of-requires : tie.Need-op-of-requires
@@ -72,7 +76,8 @@ mul-here c =
     let S = c .before .before .before .before .before .before .before .before .before .before in
     let A = S .args in
     let l = rw (c .before .before .before .read-field3 .ensures) at (c .before .before .if3 .left) in
-    let r = section-reads (A .own) (at (A .own) (now (A .image))) (A .d) (S .pre .1) (c .before .before .before .before .before .before .read-field2 .result % 9223372036854775808 - 1) l in
+    let r = section-reads (A .own) (at (A .own) (now (A .image))) (A .d) (S .pre .1)
+    (c .before .before .before .before .before .before .read-field2 .result % 9223372036854775808 - 1) l in
     omega (arith, l, r .0)
 
 shared-slice-read-here : tie.Need-shared-slice-read-here
@@ -81,7 +86,8 @@ shared-slice-read-here c =
     let S = back .before .before in
     let A = S .args in
     let l = rw (c .before .before .before .before .read-field3 .ensures) at (c .before .before .before .if3 .left) in
-    let r = section-reads (A .own) (at (A .own) (now (A .image))) (A .d) (S .pre .1) (c .before .before .before .before .before .before .before .read-field2 .result % 9223372036854775808 - 1) l in
+    let r = section-reads (A .own) (at (A .own) (now (A .image))) (A .d) (S .pre .1)
+    (c .before .before .before .before .before .before .before .read-field2 .result % 9223372036854775808 - 1) l in
     omega (arith, l, r .0, S .pre .2)
 
 held-after-requires : tie.Need-held-after-requires
@@ -105,7 +111,8 @@ entry-ok-requires c κs =
     let pc = c .before .before .before .before .before .before .before .before .read-field2 in
     let k = c .before .before .before .before .before .read-field3 in
     let zero = c .before .before .before .before .before .before .before .if1 .left in
-    let t = pc-rest (A .own) (at (A .own) (now (A .image))) (A .d) (pc .result) (pc .ensures) zero (c .before .before .before .before .before .before .if2 .left) (k .result) (k .ensures) (c .before .before .before .before .if3 .left) in
+    let t = pc-rest (A .own) (at (A .own) (now (A .image))) (A .d) (pc .result) (pc .ensures) zero
+    (c .before .before .before .before .before .before .if2 .left) (k .result) (k .ensures) (c .before .before .before .before .if3 .left) in
     let q = t _ _ _ _ (c .before .before .before .read-step .ensures) (c .before .before .op-of .ensures) (S .pre .3 s l) (c .held-after .ensures) in
     (S .pre .0, rw (c .before .before .op-of .ensures, c .before .before .before .read-step .ensures) (in-range (A .own) _ (r .1 s l)), q .0)
 
@@ -121,8 +128,11 @@ returns-4 c =
     let k = e .before .before .before .before .before .before .read-field3 in
     let zero = e .before .before .before .before .before .before .before .before .if1 .left in
     let l = rw (k .ensures) at (e .before .before .before .before .before .if3 .left) in
-    let t = pc-rest (A .own) (at (A .own) (now (A .image))) (A .d) (pc .result) (pc .ensures) zero (e .before .before .before .before .before .before .before .if2 .left) (k .result) (k .ensures) (e .before .before .before .before .before .if3 .left) in
-    let q = t _ _ _ _ (e .before .before .before .before .read-step .ensures) (e .before .before .before .op-of .ensures) (S .pre .3 (pc .result % 9223372036854775808 - 1) l) (e .before .held-after .ensures) in
+    let t = pc-rest (A .own) (at (A .own) (now (A .image))) (A .d) (pc .result) (pc .ensures) zero
+    (e .before .before .before .before .before .before .before .if2 .left) (k .result) (k .ensures) (e .before .before .before .before .before .if3 .left)
+    in
+    let q = t _ _ _ _ (e .before .before .before .before .read-step .ensures) (e .before .before .before .op-of .ensures)
+    (S .pre .3 (pc .result % 9223372036854775808 - 1) l) (e .before .held-after .ensures) in
     (rw (q .1, denied (e .entry-ok .ensures) (c .before .if4 .taken)) (c .refused3 .ensures .0), λ h. absurd (false≢true (sym (c .refused3 .ensures .0) ∙ h)))
 
 owned-ok-requires : tie.Need-owned-ok-requires
@@ -140,10 +150,14 @@ returns-5 c =
     let k = e .before .before .before .before .before .before .read-field3 in
     let zero = e .before .before .before .before .before .before .before .before .if1 .left in
     let l = rw (k .ensures) at (e .before .before .before .before .before .if3 .left) in
-    let t = pc-rest (A .own) (at (A .own) (now (A .image))) (A .d) (pc .result) (pc .ensures) zero (e .before .before .before .before .before .before .before .if2 .left) (k .result) (k .ensures) (e .before .before .before .before .before .if3 .left) in
-    let q = t _ _ _ _ (e .before .before .before .before .read-step .ensures) (e .before .before .before .op-of .ensures) (S .pre .3 (pc .result % 9223372036854775808 - 1) l) (e .before .held-after .ensures) in
+    let t = pc-rest (A .own) (at (A .own) (now (A .image))) (A .d) (pc .result) (pc .ensures) zero
+    (e .before .before .before .before .before .before .before .if2 .left) (k .result) (k .ensures) (e .before .before .before .before .before .if3 .left)
+    in
+    let q = t _ _ _ _ (e .before .before .before .before .read-step .ensures) (e .before .before .before .op-of .ensures)
+    (S .pre .3 (pc .result % 9223372036854775808 - 1) l) (e .before .held-after .ensures) in
     let owned = e .before .before .before .before .before .before .before .before .before .before .read-field in
-    let o = owed-begun (A .own) (at (A .own) (now (A .image))) (A .d) (pc .result) (pc .ensures) zero _ _ _ (e .before .before .before .before .read-step .ensures) (e .before .before .before .op-of .ensures) (q .0) in (
+    let o = owed-begun (A .own) (at (A .own) (now (A .image))) (A .d) (pc .result) (pc .ensures) zero _ _ _
+    (e .before .before .before .before .read-step .ensures) (e .before .before .before .op-of .ensures) (q .0) in (
       rw (q .1, granted (e .entry-ok .ensures) (c .before .before .if4 .left), ← owned .ensures) (c .before .owned-ok .ensures),
       λ h. rw (o, ← owned .ensures) (c .owed-by .ensures),
     )

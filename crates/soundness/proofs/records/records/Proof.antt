@@ -20,7 +20,8 @@ use Rattle.soundness.proofs.records.records.Tie as tie
 
 abbrev Inv-loop : tie.InvT-loop
 Inv-loop image own n sets₀ held₀ d₀ sets held d =
-    (d ≤ n) × (byRecord (unsound own (at own image) (workers image) d (workers image - d)) ≡ byRecord (unsound own (at own image) (workers image) 0 (workers image)))
+    (d ≤ n) × (byRecord (unsound own (at own image) (workers image) d (workers image - d)) ≡ byRecord
+    (unsound own (at own image) (workers image) 0 (workers image)))
     × (sets ≡ eight (owedAt own (at own image) d)) × (length held ≡ 64)
 
 abbrev μ-loop : tie.MeasureT-loop
@@ -38,8 +39,16 @@ slice-aggregate-sound c = sym (c .before .before .loop .inv .3)
 sound-requires : tie.Need-sound-requires Inv-loop μ-loop
 sound-requires c κs =
     let S = c .before .before .before .before .before in
-    let L = c .before .before .loop in
-    (record { few = S .pre .0; below = omega (arith, c .before .before .before .workers .ensures, c .before .loop-test .taken); most = S .pre .1; whole = S .pre .2 }, omega (arith, L .inv .3))
+    let L = c .before .before .loop in (
+      record {
+        few = S .pre .0;
+        below = omega (arith, c .before .before .before .workers .ensures, c .before .loop-test .taken);
+        most = S .pre .1;
+        whole = S .pre
+            .2;
+      },
+      omega (arith, L .inv .3),
+    )
 
 returns : tie.Need-returns Inv-loop μ-loop
 returns c =
@@ -50,14 +59,33 @@ returns c =
     let rd = at (A .own) (now (A .image)) in
     let s = c .before .before .before .sound in
     let no = not-true (s .result .ok) (c .if1 .taken) in
-    let h : L .d < D = omega (arith, c .before .before .before .before .before .before .before .workers .ensures, c .before .before .before .before .before .loop-test .taken) in
+    let h : L .d < D = omega (
+      arith,
+      c .before .before .before .before .before .before .before .workers .ensures,
+      c .before .before .before .before .before
+          .loop-test .taken,
+    ) in
     (sym (ap byRecord (unsound-here (A .own) rd D (L .d) h (sym (s .ensures .0) ∙ no))) ∙ L .inv .1, λ e. absurd (false≢true e))
 
 mul-sets : tie.Need-mul-sets Inv-loop μ-loop
-mul-sets c = omega (arith, c .before .before .before .before .before .before .before .workers .ensures, c .before .before .before .before .before .before .before .before .before .pre .1, c .before .before .before .before .before .loop-test .taken)
+mul-sets c =
+    omega (
+      arith,
+      c .before .before .before .before .before .before .before .workers .ensures,
+      c .before .before .before .before .before .before .before .before
+          .before .pre .1,
+      c .before .before .before .before .before .loop-test .taken,
+    )
 
 array-write-sets : tie.Need-array-write-sets Inv-loop μ-loop
-array-write-sets c = omega (arith, c .before .before .before .before .before .before .before .workers .ensures, c .before .before .before .before .before .before .before .before .before .pre .1, c .before .before .before .before .before .loop-test .taken)
+array-write-sets c =
+    omega (
+      arith,
+      c .before .before .before .before .before .before .before .workers .ensures,
+      c .before .before .before .before .before .before .before .before
+          .before .pre .1,
+      c .before .before .before .before .before .loop-test .taken,
+    )
 
 add-d : tie.Need-add-d Inv-loop μ-loop
 add-d c = omega arith
@@ -74,7 +102,12 @@ loop-again c =
     let rd = at (A .own) (now (A .image)) in
     let s = c .before .before .before .sound in
     let yes = not-false (s .result .ok) (c .if1 .left) in
-    let h : L .d < D = omega (arith, c .before .before .before .before .before .before .before .workers .ensures, c .before .before .before .before .before .loop-test .taken) in
+    let h : L .d < D = omega (
+      arith,
+      c .before .before .before .before .before .before .before .workers .ensures,
+      c .before .before .before .before .before
+          .loop-test .taken,
+    ) in
     let g : L .d < 8 = omega (arith, h, S .pre .1) in (
       omega (arith, c .before .before .before .before .before .loop-test .taken),
       sym (ap byRecord (unsound-on (A .own) rd D (L .d) h (sym (s .ensures .0) ∙ yes))) ∙ L .inv .1,

@@ -30,8 +30,15 @@ returns-2 : tie.Need-returns-2
 unfolding sectionOk
 returns-2 c =
     let A = c .before .before .before .before .before .args in
-    let k = c .before .before .read-field in
-    (rw (← k .ensures, ne-eqb (k .result) 0 (c .before .if1 .left), check-long (A .own) (k .result) (codeIn (A .own) (at (A .own) (now (A .image))) (A .d)) (c .if2 .taken)), λ t. absurd (false≢true t))
+    let k = c .before .before .read-field in (
+      rw (
+        ← k .ensures,
+        ne-eqb (k .result) 0 (c .before .if1 .left),
+        check-long (A .own) (k .result) (codeIn (A .own) (at (A .own) (now (A .image))) (A .d))
+            (c .if2 .taken),
+      ),
+      λ t. absurd (false≢true t),
+    )
 
 section-passes-requires : tie.Need-section-passes-requires
 section-passes-requires c κs = search needs
@@ -42,8 +49,15 @@ same-length c = search needs
 returns-3 : tie.Need-returns-3
 unfolding sectionOk
 returns-3 c =
-    let k = c .before .before .before .before .before .before .before .read-field in
-    (rw (← k .ensures, ne-eqb (k .result) 0 (c .before .before .before .before .before .before .if1 .left), denied (c .before .before .before .section-passes .ensures .0) (c .if3 .taken)), λ t. absurd (false≢true t))
+    let k = c .before .before .before .before .before .before .before .read-field in (
+      rw (
+        ← k .ensures,
+        ne-eqb (k .result) 0 (c .before .before .before .before .before .before .if1 .left),
+        denied
+            (c .before .before .before .section-passes .ensures .0) (c .if3 .taken),
+      ),
+      λ t. absurd (false≢true t),
+    )
 
 read-field-requires-3 : tie.Need-read-field-requires-3
 read-field-requires-3 c κs = search needs

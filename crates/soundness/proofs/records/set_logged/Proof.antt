@@ -12,13 +12,26 @@ field-index-requires : tie.Need-field-index-requires
 field-index-requires c κs = search needs
 
 returns : tie.Need-returns
-returns c = rw (← c .before .before .logged-addr .ensures, ← c .before .field-index .ensures, ne-eqb (c .before .before .logged-addr .result) (c .before .field-index .result) (λ e. omega arith))
+returns c =
+    rw (
+      ← c .before .before .logged-addr .ensures,
+      ← c .before .field-index .ensures,
+      ne-eqb (c .before .before .logged-addr .result)
+          (c .before .field-index .result) (λ e. omega arith),
+    )
 
 logged-value-requires : tie.Need-logged-value-requires
 logged-value-requires c κs = search needs
 
 returns-2 : tie.Need-returns-2
-returns-2 c = rw (← c .before .before .before .logged-addr .ensures, ← c .before .before .field-index .ensures, ← c .logged-value .ensures, eq-eqb (c .before .before .before .logged-addr .result) (c .before .before .field-index .result) (omega arith))
+returns-2 c =
+    rw (
+      ← c .before .before .before .logged-addr .ensures,
+      ← c .before .before .field-index .ensures,
+      ← c .logged-value .ensures,
+      eq-eqb
+          (c .before .before .before .logged-addr .result) (c .before .before .field-index .result) (omega arith),
+    )
 
 pub set-logged-spec : {M : Type 1} → statement M
 set-logged-spec =

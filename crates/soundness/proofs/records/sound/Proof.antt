@@ -20,7 +20,11 @@ same-length c = search needs
 
 returns : tie.Need-returns
 unfolding sound
-returns c = (rw (denied (c .before .before .before .before .section-ok .ensures .0) (c .before .if1 .taken)) (c .refused .ensures .0), λ h. absurd (false≢true (sym (c .refused .ensures .0) ∙ h)))
+returns c = (
+  rw (denied (c .before .before .before .before .section-ok .ensures .0) (c .before .if1 .taken)) (c .refused .ensures .0),
+  λ h. absurd
+      (false≢true (sym (c .refused .ensures .0) ∙ h)),
+)
 
 pc-ok-requires : tie.Need-pc-ok-requires
 pc-ok-requires c κs =
@@ -36,8 +40,15 @@ returns-2 : tie.Need-returns-2
 unfolding sound
 returns-2 c =
     let p = c .before .before .pc-ok in
-    let no = not-true (p .result .ok) (c .if2 .taken) in
-    (rw (granted (c .before .before .before .before .before .before .before .section-ok .ensures .0) (c .before .before .before .before .if1 .left), ← p .ensures .0, no), λ h. absurd (false≢true (sym no ∙ h)))
+    let no = not-true (p .result .ok) (c .if2 .taken) in (
+      rw (
+        granted (c .before .before .before .before .before .before .before .section-ok .ensures .0) (c .before .before .before .before .if1 .left),
+        ← p
+            .ensures .0,
+        no,
+      ),
+      λ h. absurd (false≢true (sym no ∙ h)),
+    )
 
 read-field-requires : tie.Need-read-field-requires
 read-field-requires c κs = search needs
@@ -54,7 +65,14 @@ returns-3 c =
     let p = c .before .before .before .before .pc-ok in
     let yes = not-false (p .result .ok) (c .before .before .if2 .left) in
     let o = p .ensures .1 yes in (
-      rw (granted (c .before .before .before .before .before .before .before .before .before .section-ok .ensures .0) (c .before .before .before .before .before .before .if1 .left), ← p .ensures .0, yes, ← c .before .read-field .ensures, ← o) (c .covers .ensures),
+      rw (
+        granted (c .before .before .before .before .before .before .before .before .before .section-ok .ensures .0)
+            (c .before .before .before .before .before .before .if1 .left),
+        ← p .ensures .0,
+        yes,
+        ← c .before .read-field .ensures,
+        ← o,
+      ) (c .covers .ensures),
       λ h. o,
     )
 

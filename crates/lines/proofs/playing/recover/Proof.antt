@@ -1,0 +1,25 @@
+-- `lines::playing::recover` meets its contract, by that of the recovery.
+use borrow.Author.Needs.{needs}
+use Rattle.lines.proofs.playing.recover.Statement.{statement}
+use Rattle.lines.proofs.playing.recover.Tie as tie
+
+recover-requires : tie.Need-recover-requires
+recover-requires c κs = search needs
+
+recovered-requires : tie.Need-recovered-requires
+recovered-requires c κs = search needs
+
+print-job-requires : tie.Need-print-job-requires
+print-job-requires c κs = search needs
+
+same-length : tie.Need-same-length
+same-length c = search needs
+
+returns : tie.Need-returns
+returns c =
+    let r = c .before .before .before .before .before .before .recover in
+    rw (c .print-job .ensures, c .before .recovered .ensures, r .ensures .0, r .ensures .1 .0, r .ensures .1 .1 .0, r .ensures .1 .1 .1 .0)
+
+pub recover-spec : {M : Type 1} → statement M
+recover-spec =
+    tie.close (tie.spec recover-requires recovered-requires print-job-requires same-length returns)

@@ -1,0 +1,53 @@
+// What is printed of an answer.
+use frames::Printed;
+use intake::Submitted;
+use repair::Slot;
+use turn::Answer;
+ghost use mathlib.Core.Path.{_≡_};
+ghost use Rattle.lines.specs.Answers.{submitPrints, turnPrints, recoverPrints, slotPrints};
+
+pub fn submitted(a: Submitted) -> Printed
+    ensures { λ r. ⌜ r ≡ submitPrints a ⌝ }
+{
+    match a {
+        Submitted::Taken => Printed::Nothing,
+        Submitted::Refused(r) => frames::refusal(working::cause(r)),
+    }
+}
+
+// A turn's store is printed with the word that now stands there.
+pub fn turned(image: &[u64], a: Answer) -> Printed
+    ensures { λ r. ⌜ r ≡ turnPrints (now (image .entry)) a ⌝ }
+{
+    match a {
+        Answer::Stored(at) => Printed::Line {
+            at: at,
+            value: image::load(image, at),
+        },
+        Answer::Passed => Printed::Nothing,
+        Answer::Waiting(_) => Printed::Nothing,
+        Answer::Idle => Printed::Nothing,
+        Answer::Refused(r) => frames::refusal(working::cause(r)),
+    }
+}
+
+pub fn recovered(a: soundness::Answer) -> Printed
+    ensures { λ r. ⌜ r ≡ recoverPrints a ⌝ }
+{
+    match a {
+        soundness::Answer::Done => Printed::Nothing,
+        soundness::Answer::Refused(r) => frames::refusal(soundness::cause(r)),
+    }
+}
+
+pub fn slot(s: Slot) -> Printed
+    ensures { λ r. ⌜ r ≡ slotPrints s ⌝ }
+{
+    match s {
+        Slot::Store { at, value } => Printed::Line {
+            at: at,
+            value: value,
+        },
+        Slot::Empty => Printed::Nothing,
+    }
+}

@@ -1,0 +1,147 @@
+-- `stream::step` meets its contract: each part leaves the stream within its buffers.
+use borrow.Author.Needs.{needs}
+use native.Mathlib.Omega.{arith}
+use Prim.Native.Nat.{_-_, _≤_}
+use mathlib.Core.Path.{ap}
+use lib.ListN.{drop, length-drop}
+use lib.Seq.{length-take-le}
+use Rattle.day.specs.declared.Day.{Day}
+use Rattle.stream.proofs.step.Statement.{statement}
+use Rattle.stream.proofs.step.Tie as tie
+
+sub-advance : tie.Need-sub-advance
+sub-advance c = search needs
+
+part-advance-start : tie.Need-part-advance-start
+part-advance-start c = search needs
+
+part-advance-end : tie.Need-part-advance-end
+part-advance-end c = search needs
+
+advance-requires : tie.Need-advance-requires
+advance-requires c κs = search needs
+
+flush-requires : tie.Need-flush-requires
+flush-requires c κs = search needs
+
+sub-wants : tie.Need-sub-wants
+sub-wants c = search needs
+
+wants-requires : tie.Need-wants-requires
+wants-requires c κs = search needs
+
+add-t21 : tie.Need-add-t21
+add-t21 c = search needs
+
+enum-told : tie.Need-enum-told
+enum-told c = search needs
+
+enum-told-2 : tie.Need-enum-told-2
+enum-told-2 c = search needs
+
+more-requires : tie.Need-more-requires
+more-requires c κs = search needs
+
+enum-told-3 : tie.Need-enum-told-3
+enum-told-3 c = search needs
+
+ended-requires : tie.Need-ended-requires
+ended-requires c κs = search needs
+
+same-length : tie.Need-same-length
+same-length c = search needs
+
+same-length-2 : tie.Need-same-length-2
+same-length-2 c = search needs
+
+same-length-3 : tie.Need-same-length-3
+same-length-3 c = search needs
+
+returns : tie.Need-returns
+returns c = search needs
+
+same-length-4 : tie.Need-same-length-4
+same-length-4 c = search needs
+
+same-length-5 : tie.Need-same-length-5
+same-length-5 c = search needs
+
+same-length-6 : tie.Need-same-length-6
+same-length-6 c = search needs
+
+returns-2 : tie.Need-returns-2
+returns-2 c =
+    let b14 = c .before .before .before .before .before .before .before .before .before .before .before .before .before .before in
+    let b23 = b14 .before .before .before .before .before .before .before .before .before in
+    let M = c .before .before .more in
+    let R = b14 .advance in
+    let S = b23 in
+    record {
+      rising = omega (arith, M .ensures .1);
+      held = M .ensures .2;
+      holds = record {
+        words = omega (arith, ap (λ (d : Day). d .words) (M .ensures .0), R .ensures .keeps .words);
+        largest = omega (arith, R .kept .0, S .pre .holds .largest);
+      };
+    }
+
+same-length-7 : tie.Need-same-length-7
+same-length-7 c = search needs
+
+same-length-8 : tie.Need-same-length-8
+same-length-8 c = search needs
+
+same-length-9 : tie.Need-same-length-9
+same-length-9 c = search needs
+
+returns-3 : tie.Need-returns-3
+returns-3 c =
+    let b11 = c .before .before .before .before .before .before .before .before .before .before .before in
+    let b20 = b11 .before .before .before .before .before .before .before .before .before in
+    let E = c .ended in
+    let R = b11 .advance in
+    let S = b20 in
+    let t : R .result .taken ≤ S .args .s .to - S .args .s .from = omega (
+      arith,
+      R .ensures .taken,
+      length-take-le (S .args .s .to - S .args .s .from) (drop (S .args .s .from) (S .args .buf .now))
+          (omega (arith, length-drop (S .args .s .from) (S .args .buf .now), S .pre .held, S .pre .rising)),
+    ) in
+    record {
+      rising = omega (arith, E .ensures .1, E .ensures .2, S .pre .rising);
+      held = omega (arith, E .ensures .2, S .pre .held);
+      holds = record {
+        words = omega (arith, ap (λ (d : Day). d .words) (E .ensures .0), R .ensures .keeps .words);
+        largest = omega (arith, R .kept .0, S .pre .holds .largest);
+      };
+    }
+
+pub step-spec : {M : Type 1} → statement M
+step-spec =
+    tie.close
+    (tie.spec
+    sub-advance
+    part-advance-start
+    part-advance-end
+    advance-requires
+    flush-requires
+    sub-wants
+    wants-requires
+    add-t21
+    enum-told
+    enum-told-2
+    more-requires
+    enum-told-3
+    ended-requires
+    same-length
+    same-length-2
+    same-length-3
+    returns
+    same-length-4
+    same-length-5
+    same-length-6
+    returns-2
+    same-length-7
+    same-length-8
+    same-length-9
+    returns-3)

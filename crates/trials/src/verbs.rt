@@ -1,0 +1,84 @@
+// The verbs of the script language.
+use crate::text;
+
+pub enum Verb {
+    Format,
+    Submit,
+    Turn,
+    Run,
+    Recover,
+    Given,
+    Cuts,
+    Plays,
+    List,
+    Turns,
+    Image,
+    Overwrite,
+    Put,
+    Mark,
+    Args,
+    Section,
+    Deal,
+    Check,
+    Standing,
+    Show,
+    Words,
+    Cursors,
+    Changes,
+    Say,
+    Unknown,
+}
+
+// The numbers of the verbs.
+fn number(w: &[u8]) -> u64 {
+    text::position(
+        b"format submit turn run recover given cuts plays list turns image overwrite put mark args section deal check standing show words cursors changes say",
+        w,
+    )
+}
+
+// The verb of a word.
+pub fn of(w: &[u8]) -> Verb {
+    let n = number(w);
+    match n {
+        1 => Verb::Format,
+        2 => Verb::Submit,
+        3 => Verb::Turn,
+        4 => Verb::Run,
+        5 => Verb::Recover,
+        6 => Verb::Given,
+        7 => Verb::Cuts,
+        8 => Verb::Plays,
+        9 => Verb::List,
+        10 => Verb::Turns,
+        11 => Verb::Image,
+        12 => Verb::Overwrite,
+        13 => Verb::Put,
+        14 => Verb::Mark,
+        15 => Verb::Args,
+        16 => Verb::Section,
+        17 => Verb::Deal,
+        18 => Verb::Check,
+        19 => Verb::Standing,
+        20 => Verb::Show,
+        21 => Verb::Words,
+        22 => Verb::Cursors,
+        23 => Verb::Changes,
+        24 => Verb::Say,
+        _ => Verb::Unknown,
+    }
+}
+
+// Whether a verb takes so many numbers.
+pub fn takes(v: Verb, n: usize) -> bool {
+    match v {
+        Verb::Recover | Verb::Mark | Verb::Changes => n == 0,
+        Verb::Format | Verb::Turn | Verb::Run | Verb::Deal => n == 1,
+        Verb::Submit | Verb::List | Verb::Turns | Verb::Image | Verb::Overwrite | Verb::Standing =>
+            n == 2,
+        Verb::Put => n == 3,
+        Verb::Args => true,
+        Verb::Words | Verb::Cursors => 0 < n,
+        _ => false,
+    }
+}
