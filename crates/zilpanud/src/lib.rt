@@ -12,6 +12,7 @@ ghost use Rattle.soundness.specs.Codes.{recoverCode, recoverDetail};
 ghost use Rattle.zilpanud.specs.Lent.{cursors, lent, formatting, formatsTo, checking, submitting, submitsTo};
 ghost use Rattle.zilpanud.specs.Lent.{turning, turnsTo, running, counts, recovering, recoversTo};
 ghost use Rattle.zilpanud.specs.Ask.{askCode, told, idleBit, finishedNo, stands};
+ghost use Rattle.zilpanud.specs.Version.{version};
 
 // Formats an image for so many workers: 0, or 10. All workers are idle, also where it is refused.
 #[no_mangle]
@@ -199,4 +200,12 @@ pub extern "C" fn zilpanud_standing(
     let s = edition::standing(image, worker, number);
     *answer = asking::standing_no(s);
     edition::asked(image, worker)
+}
+
+// Which library this is: 1,000,000 × its major version, 1,000 × its minor one, and its patch.
+#[no_mangle]
+pub extern "C" fn zilpanud_version() -> u64
+    ensures { λ r. ⌜ r ≡ version ⌝ }
+{
+    1_000
 }

@@ -71,7 +71,8 @@ same-length-6 c = search needs
 
 returns-2 : tie.Need-returns-2
 returns-2 c =
-    let b14 = c .before .before .before .before .before .before .before .before .before .before .before .before .before .before in
+    let back = c .before .before .before .before .before .before .before .before .before in
+    let b14 = back .before .before .before .before .before in
     let b23 = b14 .before .before .before .before .before .before .before .before .before in
     let M = c .before .before .more in
     let R = b14 .advance in
@@ -96,7 +97,8 @@ same-length-9 c = search needs
 
 returns-3 : tie.Need-returns-3
 returns-3 c =
-    let b11 = c .before .before .before .before .before .before .before .before .before .before .before in
+    let back = c .before .before .before .before .before .before .before .before .before in
+    let b11 = back .before .before in
     let b20 = b11 .before .before .before .before .before .before .before .before .before in
     let E = c .ended in
     let R = b11 .advance in

@@ -65,14 +65,15 @@ digit-at-requires-20 c κs = search needs
 
 returns : tie.Need-returns
 returns c =
+    let back = c .before .before .before .before .before .before .before .before .before in
     rw (
-      ← c .before .before .before .before .before .before .before .before .before .before .before .before .before .before .before .before .before .before
+      ← back .before .before .before .before .before .before .before .before .before
           .before .digit-at .ensures,
-      ← c .before .before .before .before .before .before .before .before .before .before .before .before .before .before .before
+      ← back .before .before .before .before .before .before
           .before .before .before .digit-at2 .ensures,
-      ← c .before .before .before .before .before .before .before .before .before .before .before .before
+      ← back .before .before .before
           .before .before .before .before .before .digit-at3 .ensures,
-      ← c .before .before .before .before .before .before .before .before .before .before
+      ← back .before
           .before .before .before .before .before .before .digit-at4 .ensures,
       ← c .before .before .before .before .before .before .before .before
           .before .before .before .before .before .before .before .digit-at5 .ensures,

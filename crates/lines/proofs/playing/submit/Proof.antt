@@ -62,17 +62,18 @@ same-length c = search needs
 
 returns : tie.Need-returns
 returns c =
+    let back = c .before .before .before .before .before .before .before .before .before in
     let s = c .before .before .before .before .before .submit in
-    let W = c .before .before .before .before .before .before .before .before .before .before .before .before .words in
-    let A = c .before .before .before .before .before .before .before .before .before .before .before .before .before .before .before .before .before .args in
+    let W = back .before .before .before .words in
+    let A = back .before .before .before .before .before .before .before .before .args in
     let e : take (W .result) (W .last .1 .0) ≡ wordsOf (stepsPart (now (A .line))) = rw (W .ensures .0)
-    (W .ensures .1 ∙ ap wordsOf (c .before .before .before .before .before .before .before .before .before .before .before .before .before .before
+    (W .ensures .1 ∙ ap wordsOf (back .before .before .before .before .before
     .steps-part .ensures)) in
     rw (
       c .no-repair .ensures,
       c .before .submitted .ensures,
       ← e,
-      ← c .before .before .before .before .before .before .before .before .before .before
+      ← back .before
           .arguments .ensures,
       ← s .ensures .1,
       ← s .ensures .0,

@@ -33,8 +33,9 @@ same-length c = search needs
 returns-2 : tie.Need-returns-2
 unfolding turnStage
 returns-2 c =
+    let back = c .before .before .before .before .before .before .before .before .before in
     let t = c .before .before .before .before .before .before .turn in
-    let A = c .before .before .before .before .before .before .before .before .before .before .before .before .before .args in
+    let A = back .before .before .before .before .args in
     let k : A .turns ≡ suc (A .turns - 1) = omega arith in
     rw (k, c .turns-job .ensures, c .before .turned .ensures, ← t .ensures .1, ← t .ensures .0)
 

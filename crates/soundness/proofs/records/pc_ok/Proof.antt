@@ -122,7 +122,8 @@ refused-requires-3 c κs = search needs
 returns-4 : tie.Need-returns-4
 returns-4 c =
     let e = c .before .before in
-    let S = e .before .before .before .before .before .before .before .before .before .before .before .before .before in
+    let back = e .before .before .before .before .before .before .before .before .before in
+    let S = back .before .before .before .before in
     let A = S .args in
     let pc = e .before .before .before .before .before .before .before .before .before .read-field2 in
     let k = e .before .before .before .before .before .before .read-field3 in
@@ -144,7 +145,8 @@ owed-by-requires c κs = search needs
 returns-5 : tie.Need-returns-5
 returns-5 c =
     let e = c .before .before .before in
-    let S = e .before .before .before .before .before .before .before .before .before .before .before .before .before in
+    let back = e .before .before .before .before .before .before .before .before .before in
+    let S = back .before .before .before .before in
     let A = S .args in
     let pc = e .before .before .before .before .before .before .before .before .before .read-field2 in
     let k = e .before .before .before .before .before .before .read-field3 in
