@@ -5,7 +5,7 @@
 // What it must print stands in the file stdout and comes from rows.py, which plays document 01's rules for one worker and was
 // written from that paper alone, and never from a run of this program. The command, in the repository's root:
 //     python3 crates/asked_sweep/rows.py > crates/asked_sweep/stdout
-use intake::Standing;
+use asking::Standing;
 use intake::Submitted;
 use working::Cursors;
 

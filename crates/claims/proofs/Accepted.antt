@@ -19,8 +19,9 @@ use Rattle.section.proofs.Facts.{passed-valid}
 use Rattle.section.proofs.Held.{after-assign}
 use Rattle.section.proofs.Passing.{passed-is}
 use Rattle.working.specs.Cursor.{idle, on}
-use Rattle.plan.specs.Turn.{codeIn, activeAddr, activeVal}
-use Rattle.soundness.specs.Sound.{targetOf, owedOf, owed, namedStep, namedOp, sectionOk, entryOk, pcOk}
+use Rattle.log.specs.Log.{codeIn, activeAddr, activeVal}
+use Rattle.owed.specs.Owed.{targetOf, owedOf, owed, namedStep, namedOp, entryOk}
+use Rattle.soundness.specs.Sound.{sectionOk, pcOk}
 use Rattle.repair.specs.Plan.{targetTurn, resumed}
 use Rattle.claims.specs.Reference.{Given}
 use Rattle.claims.proofs.Invariant.{opAt, heldAt, Sectioned, logsHeld, Named, Due, Phase, resting, due}

@@ -21,11 +21,11 @@ use Rattle.image.proofs.Places.{same-refl, same-place}
 use Rattle.code.specs.declared.Expr.{Expr}
 use Rattle.code.specs.declared.Op.{Op}
 use Rattle.code.specs.declared.Op.the-variants.{Acquire, Release, Assign, Jump, Finish, Unknown}
-use Rattle.section.specs.Check.{covered}
+use Rattle.rules.specs.Rules.{covered}
 use Rattle.section.proofs.Held.{after-release, after-assign}
 use Rattle.working.specs.Cursor.{Cursor}
-use Rattle.plan.specs.Turn.{operand, codeIn, wordIn, activeVal}
-use Rattle.soundness.specs.Sound.{targetOf, namedOp}
+use Rattle.log.specs.Log.{operand, codeIn, wordIn, activeVal}
+use Rattle.owed.specs.Owed.{targetOf, namedOp}
 use Rattle.claims.specs.Reference.{Given, Job, State, readIn}
 use Rattle.claims.proofs.Virtual.{misses, entryOf, virtual, virtual-none, virtual-due}
 use Rattle.claims.proofs.Invariant.{opAt, heldAt, Sectioned, Named, Nearing, Due, Phase, resting, fresh, due, unlocking, unlocked, between, ended, Live}

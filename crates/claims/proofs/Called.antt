@@ -26,7 +26,7 @@ use Rattle.working.proofs.Placed.{idle-is}
 use Rattle.intake.proofs.Submission.{submission-length, accepted as met}
 use Rattle.repair.specs.Plan.{plan, resumedAll}
 use Rattle.recovery.specs.Recovery.{recovery, accepted}
-use Rattle.soundness.specs.Sound.{owed}
+use Rattle.owed.specs.Owed.{owed}
 use Rattle.claims.specs.Reference.{Given, given}
 use Rattle.claims.specs.Events.{but}
 use Rattle.claims.specs.Calls.{Trace, Traced, traced, taking, forgetful}

@@ -23,8 +23,8 @@ use Rattle.code.specs.declared.Op.{Op}
 use Rattle.code.specs.declared.Op.the-variants.{Acquire, Release, Assign, Finish}
 use Rattle.code.specs.Op.{opOf, eval}
 use Rattle.working.specs.Cursor.{Cursor}
-use Rattle.plan.specs.Turn.{operand, spareVal, switched}
-use Rattle.soundness.specs.Sound.{targetOf}
+use Rattle.log.specs.Log.{operand, spareVal, switched}
+use Rattle.owed.specs.Owed.{targetOf}
 use Rattle.claims.specs.Reference.{Given, Job, job, State, state, readIn, heldIn, taken, onto, assigned, advance}
 use Rattle.claims.proofs.Virtual.{virtual}
 use Rattle.claims.proofs.Invariant.{opAt, Live, JobOf, Mirrors}

@@ -15,7 +15,8 @@ use Rattle.mask.specs.Mask.{has}
 use Rattle.image.specs.declared.Field.the-variants.{Intent}
 use Rattle.image.specs.Place.{lock, field, Memory}
 use Rattle.image.specs.Image.{Image, at, workers, headerOk}
-use Rattle.soundness.specs.Sound.{covers, owed, sectionOk, pcOk, sound, unsound, claimants, ownerOk, lockOk, badLock}
+use Rattle.owed.specs.Owed.{covers, owed, claimants, ownerOk}
+use Rattle.soundness.specs.Sound.{sectionOk, pcOk, sound, unsound, lockOk, badLock}
 use Rattle.repair.specs.Plan.{plan, resumedAll}
 use Rattle.recovery.specs.Recovery.{accepted, recovery}
 use Rattle.claims.proofs.Invariant.{Crashed}

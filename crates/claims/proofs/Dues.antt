@@ -23,8 +23,9 @@ use Rattle.section.proofs.Held.{after-release, after-assign}
 use Rattle.code.proofs.Ranges.{release-range, assign-range, opTurns}
 use Rattle.section.proofs.Steps.{ends}
 use Rattle.working.specs.Cursor.{on}
-use Rattle.plan.specs.Turn.{operand, codeIn, activeVal, opTurn, turnAt, stored, unheld}
-use Rattle.soundness.specs.Sound.{targetOf}
+use Rattle.log.specs.Log.{operand, codeIn, activeVal}
+use Rattle.plan.specs.Turn.{opTurn, turnAt, stored, unheld}
+use Rattle.owed.specs.Owed.{targetOf}
 use Rattle.repair.specs.Plan.{targetTurn}
 use Rattle.claims.specs.Reference.{Given}
 use Rattle.claims.proofs.Invariant.{opAt, heldAt, Sectioned, Named, Due, stay, resting, unlocking, unlocked}

@@ -14,7 +14,7 @@ use Rattle.image.specs.Image.{Image, workers, cellsOf}
 use Rattle.run.specs.declared.End.the-variants.{AllIdle}
 use Rattle.turn.specs.Call.{outcomeAt, outcome}
 use Rattle.run.specs.Run.{anyOpen}
-use Rattle.intake.proofs.Formats.{formatted-header, formatted-at}
+use Rattle.formatting.proofs.Formats.{formatted-header, formatted-at}
 use Rattle.claims.specs.Calls.{Traced, refuses, runs, recovers, Move, whole, move, play, from, legal, endsCut, machine}
 use Rattle.claims.specs.Claims.{working, isHalted, roundsIn, Rested, FormattedRests, Idle, admissible, Settled, DurableAlways, after, mended, runEnd}
 use Rattle.claims.proofs.Worlds.{Running}

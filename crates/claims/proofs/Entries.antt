@@ -15,8 +15,8 @@ use Rattle.image.specs.Place.{Place, cell, lock, field, own, step, Memory}
 use Rattle.image.proofs.Places.{same-place}
 use Rattle.code.specs.declared.Op.{Op}
 use Rattle.code.specs.declared.Op.the-variants.{Acquire, Release, Assign, Jump, Finish, Unknown}
-use Rattle.plan.specs.Turn.{operand, second, spareAddr, spareVal, activeVal}
-use Rattle.soundness.specs.Sound.{targetOf, namedStep, namedOp}
+use Rattle.log.specs.Log.{operand, second, spareAddr, spareVal, activeVal}
+use Rattle.owed.specs.Owed.{targetOf, namedStep, namedOp}
 use Rattle.claims.specs.Calls.{isPc}
 use Rattle.claims.proofs.Virtual.{none, due, entryOf}
 use Rattle.claims.proofs.Invariant.{opAt, Named, logsHeld}

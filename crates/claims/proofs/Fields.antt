@@ -12,7 +12,7 @@ use Rattle.image.specs.declared.Field.the-variants.{Count, Pc, Addr0, Val0, Add
 use Rattle.image.specs.Place.{cell, lock, field, own, step, Memory}
 use Rattle.image.specs.inner.Same.{sameField, upd}
 use Rattle.image.proofs.Places.{upd-same}
-use Rattle.plan.specs.Turn.{operand, second, spareAddr, spareVal, activeAddr, activeVal, switched}
+use Rattle.log.specs.Log.{operand, second, spareAddr, spareVal, activeAddr, activeVal, switched}
 
 -- what every store but those of the pc, the count and the active entry keeps
 pub record KeepsNamed (n : ℕ) (rd rd′ : Memory) (d : ℕ) : Type 0 where

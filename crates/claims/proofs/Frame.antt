@@ -18,14 +18,15 @@ use Rattle.code.specs.declared.Expr.the-variants.{Literal, Sum, Difference, Les
 use Rattle.code.specs.declared.Op.{Op}
 use Rattle.code.specs.declared.Op.the-variants.{Acquire, Release, Assign, Jump, Finish, Unknown}
 use Rattle.code.specs.Op.{eval}
-use Rattle.section.specs.Check.{Code, heldBefore, covered, coveredIn}
+use Rattle.rules.specs.Rules.{covered, coveredIn}
+use Rattle.section.specs.Check.{Code, heldBefore}
 use Rattle.section.specs.Valid.{Valid}
 use Rattle.code.specs.inner.Fits.{ranged}
 use Rattle.section.proofs.Held.{held-zero, after-jump, after-assign}
 use Rattle.code.proofs.Ranges.{expr-range}
 use Rattle.working.specs.Cursor.{Cursor, on}
-use Rattle.plan.specs.Turn.{operand, codeIn, wordIn, spareAddr, spareVal, activeAddr, activeVal}
-use Rattle.soundness.specs.Sound.{targetOf}
+use Rattle.log.specs.Log.{operand, codeIn, wordIn, spareAddr, spareVal, activeAddr, activeVal}
+use Rattle.owed.specs.Owed.{targetOf}
 use Rattle.repair.specs.Plan.{targetTurn}
 use Rattle.claims.specs.Reference.{Given}
 use Rattle.claims.proofs.Invariant.{opAt, heldAt, Sectioned, Nearing, Due, Jumps, stay, leap, Phase, resting, fresh, due, unlocking, unlocked, between}

@@ -19,8 +19,9 @@ use Rattle.code.specs.Op.{opOf, eval}
 use Rattle.section.specs.Check.{heldBefore}
 use Rattle.section.specs.Valid.{Valid}
 use Rattle.working.specs.Cursor.{Cursor, idle, on}
-use Rattle.plan.specs.Turn.{operand, codeIn, wordIn, spareAddr, spareVal, activeAddr, activeVal}
-use Rattle.soundness.specs.Sound.{targetOf, namedStep, sound, lockOk}
+use Rattle.log.specs.Log.{operand, codeIn, wordIn, spareAddr, spareVal, activeAddr, activeVal}
+use Rattle.owed.specs.Owed.{targetOf, namedStep}
+use Rattle.soundness.specs.Sound.{sound, lockOk}
 use Rattle.repair.specs.Plan.{targetTurn}
 use Rattle.claims.specs.Reference.{Given, Job, State}
 use Rattle.claims.proofs.Virtual.{virtual}

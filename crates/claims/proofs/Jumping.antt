@@ -13,10 +13,10 @@ use Rattle.image.specs.declared.Field.the-variants.{Count}
 use Rattle.image.specs.Place.{field, step, Memory}
 use Rattle.code.specs.declared.Op.the-variants.{Jump}
 use Rattle.code.specs.Op.{opOf}
-use Rattle.section.specs.Check.{covered}
+use Rattle.rules.specs.Rules.{covered}
 use Rattle.section.specs.Valid.{Valid}
 use Rattle.code.proofs.Ranges.{jump-range}
-use Rattle.plan.specs.Turn.{codeIn, wordIn}
+use Rattle.log.specs.Log.{codeIn, wordIn}
 use Rattle.claims.specs.Reference.{Job, job, State, state, readIn, onto, advance, follow}
 use Rattle.claims.proofs.Invariant.{opAt, heldAt, Jumps, stay, leap}
 use Rattle.claims.proofs.Machine.{follow-none, follow-last, advance-jump}

@@ -18,8 +18,9 @@ use Rattle.code.specs.declared.Op.the-variants.{Acquire, Release, Assign, Jump,
 use Rattle.section.proofs.Facts.{valid-passed}
 use Rattle.section.proofs.Held.{after-release}
 use Rattle.working.specs.Cursor.{Cursor}
-use Rattle.plan.specs.Turn.{codeIn, activeAddr}
-use Rattle.soundness.specs.Sound.{targetOf, owedOf, owed, namedStep, namedOp, sectionOk, entryOk, pcOk}
+use Rattle.log.specs.Log.{codeIn, activeAddr}
+use Rattle.owed.specs.Owed.{targetOf, owedOf, owed, namedStep, namedOp, entryOk}
+use Rattle.soundness.specs.Sound.{sectionOk, pcOk}
 use Rattle.claims.specs.Reference.{Given}
 use Rattle.claims.proofs.Invariant.{opAt, heldAt, Sectioned, logsHeld, Named, Nearing, Due, Phase, resting, fresh, due, unlocking, unlocked, between}
 use Rattle.claims.proofs.Invariant.{ended, Live, Crashed}

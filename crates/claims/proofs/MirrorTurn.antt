@@ -18,9 +18,10 @@ use Rattle.code.specs.declared.Op.{Op}
 use Rattle.code.specs.declared.Op.the-variants.{Acquire, Release, Assign, Jump, Finish, Unknown}
 use Rattle.code.specs.Op.{eval}
 use Rattle.working.specs.Cursor.{Cursor, idle, on}
-use Rattle.plan.specs.Turn.{Outcome, stored, jumped, unheld, waiting, resting, refused, operand, wordIn, spareAddr, spareVal, activeVal, switched, logged}
+use Rattle.log.specs.Log.{operand, wordIn, spareAddr, spareVal, activeVal, switched}
+use Rattle.plan.specs.Turn.{Outcome, stored, jumped, unheld, waiting, resting, refused, logged}
 use Rattle.plan.specs.Turn.{lockTurn, unlockTurn, acquireTurn, releaseTurn, finishTurn, turnAt}
-use Rattle.soundness.specs.Sound.{targetOf}
+use Rattle.owed.specs.Owed.{targetOf}
 use Rattle.repair.specs.Plan.{targetTurn}
 use Rattle.claims.specs.Reference.{Given, Job, State, follow, enqueue, initial}
 use Rattle.claims.specs.Calls.{isPc}

@@ -25,8 +25,9 @@ use Rattle.section.proofs.Facts.{acquire-above}
 use Rattle.section.proofs.Held.{after-acquire, after-release, after-jump}
 use Rattle.code.proofs.Ranges.{acquire-range}
 use Rattle.working.specs.Cursor.{on}
-use Rattle.plan.specs.Turn.{operand, codeIn, wordIn, spareAddr, spareVal, switched, opTurn, turnAt, stored, waiting}
-use Rattle.soundness.specs.Sound.{targetOf}
+use Rattle.log.specs.Log.{operand, codeIn, wordIn, spareAddr, spareVal, switched}
+use Rattle.plan.specs.Turn.{opTurn, turnAt, stored, waiting}
+use Rattle.owed.specs.Owed.{targetOf}
 use Rattle.repair.specs.Plan.{targetTurn}
 use Rattle.claims.specs.Reference.{Given}
 use Rattle.claims.proofs.Invariant.{opAt, heldAt, Sectioned, logsHeld, Named, Nearing, Due, leap, Phase, due, ended}

@@ -19,10 +19,11 @@ use Rattle.code.specs.declared.Op.{Op}
 use Rattle.code.specs.declared.Op.the-variants.{Acquire, Release, Assign, Jump, Finish, Unknown}
 use Rattle.code.specs.Op.{opOf}
 use Rattle.section.proofs.Steps.{ends}
-use Rattle.plan.specs.Turn.{codeIn}
-use Rattle.soundness.specs.Sound.{namedStep, sectionOk, entryOk, pcOk}
-use Rattle.intake.specs.declared.Standing.the-variants.{NotBegun, Begun, Finished}
-use Rattle.intake.specs.Asking.{standingIn}
+use Rattle.log.specs.Log.{codeIn}
+use Rattle.owed.specs.Owed.{namedStep, entryOk}
+use Rattle.soundness.specs.Sound.{sectionOk, pcOk}
+use Rattle.asking.specs.declared.Standing.the-variants.{NotBegun, Begun, Finished}
+use Rattle.asking.specs.Asking.{standingIn}
 use Rattle.claims.specs.Reference.{Job, State, follow, initial}
 use Rattle.claims.specs.Events.{takenIn, readFrom}
 use Rattle.claims.specs.Calls.{Traced, Move, from, legal, machine}

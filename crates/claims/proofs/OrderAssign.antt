@@ -22,8 +22,8 @@ use Rattle.code.specs.Op.{opOf, eval}
 use Rattle.section.proofs.Held.{after-assign}
 use Rattle.code.proofs.Ranges.{assign-range, expr-range}
 use Rattle.working.specs.Cursor.{Cursor, on, cursorAt}
-use Rattle.plan.specs.Turn.{operand, codeIn, wordIn, spareAddr}
-use Rattle.plan.proofs.Operands.{operand-valid}
+use Rattle.log.specs.Log.{operand, codeIn, wordIn, spareAddr}
+use Rattle.log.proofs.Operands.{operand-valid}
 use Rattle.claims.specs.Reference.{job, State, state, Given, start, readIn, onto, assigned}
 use Rattle.claims.specs.Calls.{Traced, play}
 use Rattle.claims.proofs.Invariant.{heldAt}

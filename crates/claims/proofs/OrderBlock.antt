@@ -23,7 +23,8 @@ use Rattle.code.specs.Op.{opOf}
 use Rattle.section.proofs.Held.{after-jump}
 use Rattle.code.proofs.Ranges.{jump-range}
 use Rattle.working.specs.Cursor.{Cursor, idle, on, cursorAt}
-use Rattle.plan.specs.Turn.{operand, codeIn, wordIn, jumped}
+use Rattle.log.specs.Log.{operand, codeIn, wordIn}
+use Rattle.plan.specs.Turn.{jumped}
 use Rattle.claims.specs.Reference.{job, State, state, Given, start, readIn, onto}
 use Rattle.claims.specs.Events.{but}
 use Rattle.claims.specs.Calls.{Traced, Move, play, machine}

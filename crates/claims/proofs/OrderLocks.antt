@@ -23,7 +23,8 @@ use Rattle.code.specs.Op.{opOf}
 use Rattle.section.proofs.Held.{after-acquire, after-release}
 use Rattle.code.proofs.Ranges.{acquire-range, release-range}
 use Rattle.working.specs.Cursor.{Cursor, on, cursorAt}
-use Rattle.plan.specs.Turn.{codeIn, turnAt, stored, waiting, unheld}
+use Rattle.log.specs.Log.{codeIn}
+use Rattle.plan.specs.Turn.{turnAt, stored, waiting, unheld}
 use Rattle.claims.specs.Reference.{Job, job, State, Given, start, heldIn, taken, onto}
 use Rattle.claims.specs.Events.{but}
 use Rattle.claims.specs.Calls.{Traced, play}

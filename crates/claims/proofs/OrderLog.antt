@@ -20,7 +20,8 @@ use Rattle.section.specs.Check.{Code}
 use Rattle.section.specs.Valid.{Valid}
 use Rattle.code.proofs.Ranges.{opTurns}
 use Rattle.working.specs.Cursor.{Cursor, on}
-use Rattle.plan.specs.Turn.{codeIn, spareAddr, spareVal, activeVal, switched, logged, opTurn, stored}
+use Rattle.log.specs.Log.{codeIn, spareAddr, spareVal, activeVal, switched}
+use Rattle.plan.specs.Turn.{logged, opTurn, stored}
 use Rattle.working.proofs.Placed.{sayable}
 use Rattle.claims.specs.Reference.{Given}
 use Rattle.claims.specs.Calls.{Traced, turns, Move, whole, play}

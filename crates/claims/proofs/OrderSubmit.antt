@@ -20,7 +20,7 @@ use Rattle.section.proofs.Held.{held-zero}
 use Rattle.section.proofs.Facts.{passed-valid, check-cong, check-parts}
 use Rattle.intake.specs.declared.Submitted.the-variants.{Taken}
 use Rattle.working.specs.Cursor.{Cursor, idle, on, cursorAt}
-use Rattle.plan.specs.Turn.{codeIn}
+use Rattle.log.specs.Log.{codeIn}
 use Rattle.intake.specs.Submit.{submission, free, submitAnswer}
 use Rattle.working.proofs.Placed.{placed-same, placed-other}
 use Rattle.intake.proofs.Submission.{submission-length, submission-valid}

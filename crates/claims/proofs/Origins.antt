@@ -16,8 +16,8 @@ use Rattle.section.specs.Valid.{Valid}
 use Rattle.section.proofs.Held.{held-zero}
 use Rattle.code.proofs.Ranges.{known, opTurns}
 use Rattle.working.specs.Cursor.{on}
-use Rattle.plan.specs.Turn.{operand, codeIn, wordIn, activeAddr, activeVal}
-use Rattle.soundness.specs.Sound.{targetOf}
+use Rattle.log.specs.Log.{operand, codeIn, wordIn, activeAddr, activeVal}
+use Rattle.owed.specs.Owed.{targetOf}
 use Rattle.claims.specs.Reference.{Given}
 use Rattle.claims.proofs.Invariant.{opAt, heldAt, Sectioned, logsHeld, Named, Nearing, Jumps, stay, leap, Lodged, Phase, fresh, between}
 use Rattle.claims.proofs.Fields.{KeepsNamed, Quiet, active-addr-kept, active-val-kept, word-kept}

@@ -9,7 +9,8 @@ use Rattle.image.specs.Place.{lock, Memory}
 use Rattle.section.proofs.Held.{held-zero}
 use Rattle.code.proofs.Ranges.{release-range}
 use Rattle.working.specs.Cursor.{Cursor}
-use Rattle.plan.specs.Turn.{codeIn, turnAt}
+use Rattle.log.specs.Log.{codeIn}
+use Rattle.plan.specs.Turn.{turnAt}
 use Rattle.claims.specs.Reference.{Given}
 use Rattle.claims.proofs.Invariant.{opAt, Nearing, Phase, resting, fresh, due, unlocking, unlocked, between, ended}
 use Rattle.claims.proofs.Turns.{Stepped}

@@ -18,12 +18,12 @@ use Rattle.image.specs.inner.Same.{upd}
 use Rattle.code.specs.declared.Expr.{Expr}
 use Rattle.code.specs.declared.Op.the-variants.{Acquire, Release, Assign, Finish}
 use Rattle.code.specs.Op.{eval}
-use Rattle.section.specs.Check.{covered}
+use Rattle.rules.specs.Rules.{covered}
 use Rattle.section.proofs.Facts.{acquire-free}
 use Rattle.code.proofs.Ranges.{acquire-range, assign-range, expr-range}
 use Rattle.working.specs.Cursor.{Cursor}
-use Rattle.plan.specs.Turn.{codeIn, wordIn, spareVal, activeVal, switched}
-use Rattle.soundness.specs.Sound.{targetOf}
+use Rattle.log.specs.Log.{codeIn, wordIn, spareVal, activeVal, switched}
+use Rattle.owed.specs.Owed.{targetOf}
 use Rattle.claims.specs.Reference.{Given, Job, job, State, state, readIn, onto, follow, start, enqueue}
 use Rattle.claims.proofs.Invariant.{opAt, heldAt, Sectioned, Jumps, Lodged, Live, JobOf, Mirrors}
 use Rattle.claims.proofs.Machine.{follow-one, follow-last}

@@ -15,7 +15,8 @@ use Rattle.code.specs.declared.Op.the-variants.{Acquire, Release, Assign, Jump,
 use Rattle.code.specs.Op.{opOf}
 use Rattle.working.specs.Cursor.{Cursor, idle, on}
 use Rattle.working.specs.declared.Refusal.the-variants.{Cursor as CursorRefused}
-use Rattle.plan.specs.Turn.{Outcome, stored, jumped, unheld, waiting, resting, refused, operand, codeIn, logged, lockTurn, unlockTurn, acquireTurn, releaseTurn}
+use Rattle.log.specs.Log.{operand, codeIn}
+use Rattle.plan.specs.Turn.{Outcome, stored, jumped, unheld, waiting, resting, refused, logged, lockTurn, unlockTurn, acquireTurn, releaseTurn}
 use Rattle.plan.specs.Turn.{finishTurn, opTurn, ready, turnAt}
 use Rattle.repair.specs.Plan.{targetTurn}
 use Rattle.claims.specs.Reference.{Given}

@@ -19,7 +19,8 @@ use Rattle.code.specs.declared.Op.{Op}
 use Rattle.code.specs.declared.Op.the-variants.{Acquire, Release, Assign, Jump, Finish, Unknown}
 use Rattle.code.specs.Op.{opOf}
 use Rattle.working.specs.Cursor.{Cursor, idle, on, isIdle}
-use Rattle.plan.specs.Turn.{Outcome, stored, jumped, unheld, waiting, resting, refused, codeIn, logged, acquireTurn, finishTurn, opTurn, ready, turnAt}
+use Rattle.log.specs.Log.{codeIn}
+use Rattle.plan.specs.Turn.{Outcome, stored, jumped, unheld, waiting, resting, refused, logged, acquireTurn, finishTurn, opTurn, ready, turnAt}
 use Rattle.claims.specs.Reference.{Given}
 use Rattle.claims.specs.Events.{but}
 use Rattle.claims.proofs.Invariant.{Phase, resting as atRest, fresh, due, unlocking, unlocked, between, ended, Live}

@@ -22,7 +22,8 @@ use Rattle.code.proofs.Ranges.{turns-most}
 use Rattle.section.proofs.Steps.{place-jump}
 use Rattle.working.specs.declared.Refusal.the-variants.{Cursor as CursorRefused}
 use Rattle.working.specs.Cursor.{Cursor, idle, on}
-use Rattle.plan.specs.Turn.{Outcome, stored, jumped, unheld, waiting, resting, refused, operand, codeIn, wordIn, second, spareAddr, spareVal, logged}
+use Rattle.log.specs.Log.{operand, codeIn, wordIn, second, spareAddr, spareVal}
+use Rattle.plan.specs.Turn.{Outcome, stored, jumped, unheld, waiting, resting, refused, logged}
 use Rattle.plan.specs.Turn.{acquireTurn, releaseTurn, finishTurn, opTurn, ready, turnAt}
 
 -- ---- the turns of steps

@@ -20,7 +20,8 @@ use Rattle.section.proofs.Facts.{valid-passed, check-parts}
 use Rattle.code.proofs.Ranges.{opTurns, turns-op}
 use Rattle.section.proofs.Steps.{ends}
 use Rattle.working.specs.Cursor.{on}
-use Rattle.plan.specs.Turn.{codeIn, opTurn, ready, turnAt}
+use Rattle.log.specs.Log.{codeIn}
+use Rattle.plan.specs.Turn.{opTurn, ready, turnAt}
 
 -- ---- the tests before a turn
 

@@ -16,7 +16,7 @@ use Rattle.image.specs.Place.{Place, cell, lock, field, own, step, Memory}
 use Rattle.image.specs.inner.Same.{upd}
 use Rattle.image.proofs.Places.{upd-same}
 use Rattle.code.specs.Op.{opOf}
-use Rattle.soundness.specs.Sound.{namedStep}
+use Rattle.owed.specs.Owed.{namedStep}
 use Rattle.claims.specs.Reference.{Given}
 use Rattle.claims.specs.Calls.{isPc}
 use Rattle.claims.proofs.Entries.{apart-of, named-cong}

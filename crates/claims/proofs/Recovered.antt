@@ -20,7 +20,7 @@ use Rattle.image.specs.Place.{Place, lock, field, Memory}
 use Rattle.image.specs.inner.Same.{same, updAll}
 use Rattle.image.proofs.Lists.{allValid}
 use Rattle.repair.specs.Plan.{_≔_, rows, unbegun, intended, intend, withdraw, relock, relocks, unlock, plan, resumed}
-use Rattle.soundness.specs.Sound.{owed}
+use Rattle.owed.specs.Owed.{owed}
 use Rattle.claims.specs.Reference.{Given}
 use Rattle.claims.proofs.Invariant.{Phase, Live, Crashed}
 use Rattle.claims.proofs.Covers.{Parts, crashed-parts}

@@ -10,8 +10,9 @@ use Rattle.code.specs.declared.Op.the-variants.{Acquire, Release, Assign, Jump,
 use Rattle.section.specs.Check.{heldBefore}
 use Rattle.section.proofs.Facts.{check-cong}
 use Rattle.section.proofs.Held.{held-cong}
-use Rattle.plan.specs.Turn.{codeIn, activeAddr, activeVal}
-use Rattle.soundness.specs.Sound.{owed, namedStep, namedOp, sectionOk, entryOk, pcOk}
+use Rattle.log.specs.Log.{codeIn, activeAddr, activeVal}
+use Rattle.owed.specs.Owed.{owed, namedStep, namedOp, entryOk}
+use Rattle.soundness.specs.Sound.{sectionOk, pcOk}
 use Rattle.repair.specs.Plan.{resumed}
 use Rattle.claims.proofs.Fields.{active-addr-kept, active-val-kept}
 use Rattle.claims.proofs.Entries.{named-cong}

@@ -23,8 +23,8 @@ use Rattle.code.specs.declared.Op.the-variants.{Acquire, Release, Assign, Jump,
 use Rattle.working.specs.Cursor.{Cursor, idle, on, stepNo, turnNo, cursorAt}
 use Rattle.working.proofs.Placed.{Full, sayable}
 use Rattle.repair.specs.Plan.{rows, unbegun, intended, intend, withdraw, relock, relocks, unlock, plan}
-use Rattle.soundness.specs.Sound.{owed}
-use Rattle.soundness.specs.Sound.{namedStep, namedOp}
+use Rattle.owed.specs.Owed.{owed}
+use Rattle.owed.specs.Owed.{namedStep, namedOp}
 use Rattle.repair.specs.Plan.{targetTurn, resumed, resumedAt, resumedAll}
 use Rattle.soundness.proofs.Sets.{eight-at}
 use Rattle.claims.specs.Reference.{Given}

@@ -20,8 +20,8 @@ use Rattle.section.specs.declared.Verdict.the-variants.{Pass, Length, Malformed
 use Rattle.section.specs.Check.{codeOf, check}
 use Rattle.working.specs.declared.Refusal.the-variants.{Number as NumberRefused}
 use Rattle.intake.specs.declared.Submitted.the-variants.{Refused}
-use Rattle.intake.specs.declared.Standing.the-variants.{Finished}
-use Rattle.intake.specs.Asking.{standingIn}
+use Rattle.asking.specs.declared.Standing.the-variants.{Finished}
+use Rattle.asking.specs.Asking.{standingIn}
 use Rattle.working.specs.Cursor.{Cursor, cursorAt}
 use Rattle.plan.specs.Turn.{Outcome, stored, jumped, unheld, waiting, resting, refused}
 use Rattle.working.specs.World.{World}

@@ -17,9 +17,10 @@ use Rattle.mask.specs.Mask.{has}
 use Rattle.image.specs.declared.Field.the-variants.{Count, Pc, Addr0, Val0, Addr1, Val1, Intent, Owned, Number, Finished}
 use Rattle.image.specs.Place.{Place, cell, lock, field, own, step, Memory}
 use Rattle.image.specs.inner.Same.{sameField, upd, updAll}
-use Rattle.plan.specs.Turn.{second, activeAddr, activeVal}
+use Rattle.log.specs.Log.{second, activeAddr, activeVal}
 use Rattle.repair.specs.Plan.{_≔_, rows, unbegun, intended, intend, withdraw, relock, relocks, unlock, plan}
-use Rattle.soundness.specs.Sound.{owed, sectionOk, pcOk}
+use Rattle.owed.specs.Owed.{owed}
+use Rattle.soundness.specs.Sound.{sectionOk, pcOk}
 use Rattle.claims.proofs.Invariant.{Crashed}
 use Rattle.claims.proofs.Covers.{Names, Covered, Parts, crashed-parts, parts-crashed}
 use Rattle.claims.proofs.LiveCrashed.{section-none, covered-same}

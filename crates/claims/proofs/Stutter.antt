@@ -13,8 +13,8 @@ use Rattle.image.specs.declared.Field.the-variants.{Count, Pc, Intent, Owned, F
 use Rattle.image.specs.inner.Same.{sameField, same, upd}
 use Rattle.image.specs.Place.{Place, cell, lock, field, own, step, Memory}
 use Rattle.image.proofs.Places.{same-refl, same-place, upd-other}
-use Rattle.plan.specs.Turn.{spareAddr, spareVal, activeVal}
-use Rattle.soundness.specs.Sound.{targetOf}
+use Rattle.log.specs.Log.{spareAddr, spareVal, activeVal}
+use Rattle.owed.specs.Owed.{targetOf}
 use Rattle.claims.specs.Reference.{Job, State}
 use Rattle.claims.proofs.Virtual.{Entry, none, due, over, misses, entryOf, virtual, virtual-due, virtual-cong}
 use Rattle.claims.proofs.Invariant.{opAt, Named, JobOf, Mirrors}

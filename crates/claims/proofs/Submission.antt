@@ -17,10 +17,11 @@ use Rattle.image.specs.inner.Same.{sameField, same, upd, updAll}
 use Rattle.section.specs.declared.Verdict.the-variants.{Pass}
 use Rattle.section.specs.Check.{codeOf, check}
 use Rattle.section.proofs.Facts.{check-parts, check-cong}
-use Rattle.plan.specs.Turn.{codeIn, second, activeAddr, activeVal}
+use Rattle.log.specs.Log.{codeIn, second, activeAddr, activeVal}
 use Rattle.intake.specs.Submit.{assigns, submission}
 use Rattle.repair.specs.Plan.{_≔_}
-use Rattle.soundness.specs.Sound.{owed, sectionOk, pcOk}
+use Rattle.owed.specs.Owed.{owed}
+use Rattle.soundness.specs.Sound.{sectionOk, pcOk}
 use Rattle.claims.proofs.Invariant.{Crashed}
 use Rattle.claims.proofs.Covers.{Parts, crashed-parts, parts-crashed}
 use Rattle.claims.proofs.LiveCrashed.{section-none, pc-none, owed-none}

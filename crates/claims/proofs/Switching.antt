@@ -19,8 +19,8 @@ use Rattle.image.specs.inner.Same.{sameField, same, upd}
 use Rattle.image.specs.Place.{Place, cell, field, own, Memory}
 use Rattle.image.proofs.Places.{same-refl, same-place, upd-same, upd-other}
 use Rattle.working.specs.Cursor.{Cursor}
-use Rattle.plan.specs.Turn.{second, spareVal, activeVal, switched}
-use Rattle.soundness.specs.Sound.{targetOf, namedStep}
+use Rattle.log.specs.Log.{second, spareVal, activeVal, switched}
+use Rattle.owed.specs.Owed.{targetOf, namedStep}
 use Rattle.claims.specs.Reference.{Given, Job, State, state}
 use Rattle.claims.proofs.Virtual.{Entry, due, over, misses, entryOf, virtual, virtual-none, virtual-due, virtual-cong}
 use Rattle.claims.proofs.Invariant.{opAt, Live, JobOf, Mirrors}

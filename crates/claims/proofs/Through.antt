@@ -17,7 +17,7 @@ use Rattle.intake.specs.declared.Submitted.the-variants.{Taken}
 use Rattle.working.specs.Cursor.{Cursor, on, cursorAt}
 use Rattle.plan.specs.Turn.{Outcome, stored, jumped, unheld, waiting, resting, refused}
 use Rattle.intake.specs.Submit.{submitAnswer, free}
-use Rattle.intake.specs.declared.Standing.the-variants.{Finished}
+use Rattle.asking.specs.declared.Standing.the-variants.{Finished}
 use Rattle.working.proofs.Placed.{idle-is}
 use Rattle.claims.specs.Reference.{Given, given}
 use Rattle.claims.specs.Events.{but}

@@ -27,7 +27,7 @@ use Rattle.turn.specs.Call.{outcomeAt}
 use Rattle.run.specs.Run.{anyOpen}
 use Rattle.intake.specs.Submit.{assigns, submission, submitAnswer, submitLeaves}
 use Rattle.repair.specs.Plan.{_≔_, when, rows, unbegun, intended, intend, withdraw, relock, relocks, unlock, plan}
-use Rattle.soundness.specs.Sound.{owed}
+use Rattle.owed.specs.Owed.{owed}
 use Rattle.recovery.specs.Recovery.{Recovered, accepted, misshapen, unsoundRecord, wrongLock, byLocks, byRecords, recovery}
 use Rattle.repair.specs.Plan.{resumedAll}
 use Rattle.soundness.specs.Sound.{badLock, unsound}

@@ -11,8 +11,8 @@ use native.Mathlib.Decide.{ℕ-discrete}
 use Rattle.image.specs.declared.Field.the-variants.{Pc}
 use Rattle.image.specs.Place.{Place, field, Memory}
 use Rattle.image.specs.inner.Same.{same}
-use Rattle.plan.specs.Turn.{activeVal}
-use Rattle.soundness.specs.Sound.{targetOf, namedOp}
+use Rattle.log.specs.Log.{activeVal}
+use Rattle.owed.specs.Owed.{targetOf, namedOp}
 
 -- what a worker's log has: nothing under way, or a value for a place
 pub data Entry : Type 0 where

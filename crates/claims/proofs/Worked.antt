@@ -13,12 +13,14 @@ use Rattle.code.specs.Op.{opOf, eval}
 use Rattle.code.specs.Form.{inRange, wellFormed, heldAfter}
 use Rattle.section.specs.Check.{heldBefore, firstOf, formOf, useOf, check}
 use Rattle.working.specs.Cursor.{cursorAt, setAt, allIdle}
-use Rattle.plan.specs.Turn.{operand, second, spareAddr, spareVal, activeAddr, activeVal, switched, ready, turnAt}
+use Rattle.log.specs.Log.{operand, second, spareAddr, spareVal, activeAddr, activeVal, switched}
+use Rattle.plan.specs.Turn.{ready, turnAt}
 use Rattle.working.specs.World.{world}
 use Rattle.turn.specs.Call.{outcomeAt, outcome}
-use Rattle.intake.specs.Format.{formatted}
+use Rattle.formatting.specs.Format.{formatted}
 use Rattle.intake.specs.Submit.{assigns, submission, free, submitAnswer}
-use Rattle.soundness.specs.Sound.{covers, namedStep, namedOp, owed, sectionOk, pcOk, sound, unsound, claimants, lockOk, badLock}
+use Rattle.owed.specs.Owed.{covers, namedStep, namedOp, owed, claimants}
+use Rattle.soundness.specs.Sound.{sectionOk, pcOk, sound, unsound, lockOk, badLock}
 use Rattle.repair.specs.Plan.{resumed, intended}
 use Rattle.repair.specs.Plan.{rows, intend, withdraw, relocks, unlock, plan, resumedAll}
 use Rattle.recovery.specs.Recovery.{recovery}

@@ -14,9 +14,11 @@ use Rattle.code.specs.declared.Op.{Op}
 use Rattle.code.specs.declared.Op.the-variants.{Acquire, Release, Assign, Jump, Finish, Unknown}
 use Rattle.section.proofs.Steps.{ends}
 use Rattle.working.specs.Cursor.{Cursor, on}
-use Rattle.plan.specs.Turn.{Outcome, stored, jumped, unheld, waiting, resting as rests, refused, operand, codeIn, second, spareAddr, spareVal}
-use Rattle.plan.specs.Turn.{switched, logged, lockTurn, unlockTurn, opTurn, turnAt}
-use Rattle.soundness.specs.Sound.{namedStep}
+use Rattle.log.specs.Log.{operand, codeIn, second, spareAddr, spareVal}
+use Rattle.plan.specs.Turn.{Outcome, stored, jumped, unheld, waiting, resting as rests, refused}
+use Rattle.log.specs.Log.{switched}
+use Rattle.plan.specs.Turn.{logged, lockTurn, unlockTurn, opTurn, turnAt}
+use Rattle.owed.specs.Owed.{namedStep}
 use Rattle.repair.specs.Plan.{targetTurn}
 use Rattle.claims.specs.Reference.{Given}
 use Rattle.claims.proofs.Invariant.{opAt, heldAt, Sectioned, Named, Nearing, Due, Jumps, stay, leap, Lodged}

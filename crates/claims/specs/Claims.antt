@@ -15,7 +15,7 @@ use Rattle.run.specs.declared.End.{End}
 use Rattle.run.specs.declared.End.the-variants.{AllIdle, Spent, Halted}
 use Rattle.working.specs.Cursor.{Cursor, idle, on, cursorAt}
 use Rattle.turn.specs.Call.{outcome}
-use Rattle.intake.specs.Format.{formatted}
+use Rattle.formatting.specs.Format.{formatted}
 use Rattle.run.specs.Run.{runOf}
 use Rattle.recovery.specs.Recovery.{accepted, recovery}
 use Rattle.claims.specs.Reference.{Given, given, Job, State, initial, follow, noneLeft}

@@ -12,7 +12,7 @@ use Rattle.edition.specs.Edition.{mark, ownWords}
 use Rattle.working.specs.Refusal.{causeOf}
 use Rattle.plan.specs.Turn.{Outcome, stored, jumped, unheld, waiting, resting, refused}
 use Rattle.turn.specs.Call.{outcome}
-use Rattle.intake.specs.Format.{formatted}
+use Rattle.formatting.specs.Format.{formatted}
 use Rattle.intake.specs.Submit.{submitAnswer}
 use Rattle.claims.specs.Calls.{Traced, submits, turns, recovers, whole, cut, move, from}
 

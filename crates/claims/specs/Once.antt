@@ -17,9 +17,9 @@ use Rattle.code.specs.Op.{opOf}
 use Rattle.working.specs.declared.Refusal.the-variants.{Number as NumberRefused}
 use Rattle.intake.specs.declared.Submitted.the-variants.{Taken, Refused}
 use Rattle.intake.specs.Submit.{submitAnswer}
-use Rattle.intake.specs.declared.Standing.{Standing}
-use Rattle.intake.specs.declared.Standing.the-variants.{NotBegun, Begun, Finished}
-use Rattle.intake.specs.Asking.{standingIn}
+use Rattle.asking.specs.declared.Standing.{Standing}
+use Rattle.asking.specs.declared.Standing.the-variants.{NotBegun, Begun, Finished}
+use Rattle.asking.specs.Asking.{standingIn}
 use Rattle.claims.specs.Reference.{Given, given, Job, State, initial, follow}
 use Rattle.claims.specs.Events.{takenIn, begunIn}
 use Rattle.claims.specs.Calls.{Traced, Call, submits, turns, runs, recovers, Move, whole, move, ofMove, from, legal, plain, machine}

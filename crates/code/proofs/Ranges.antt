@@ -9,15 +9,20 @@ use native.Mathlib.Omega.{arith}
 use lib.ListN.{getD}
 use lib.Dec.{leb}
 use borrow.Author.Tests.{leb-true, lt-ltb}
+use Rattle.base.proofs.Bools.{and-left}
 use Rattle.code.specs.declared.Expr.{Expr}
 use Rattle.code.specs.declared.Op.{Op}
 use Rattle.code.specs.declared.Op.the-variants.{Acquire, Release, Assign, Jump, Finish, Unknown}
 use Rattle.code.specs.Table.{table, entry, highest, kindOf, fieldA, fieldB, fieldC, turnsOf}
 use Rattle.code.specs.Op.{byKind, opOf}
 use Rattle.code.specs.inner.Fits.{ranged, fits}
-use Rattle.code.specs.Form.{inRange, lockOk}
+use Rattle.code.specs.Form.{inRange, inPlace, wellFormed, lockOk}
 
 -- ---- ranges
+
+pub formed-range : (own k i w : ℕ) → wellFormed own k i w ≡ true → inRange own w ≡ true
+unfolding wellFormed
+formed-range own k i w e = and-left (inRange own w) (inPlace k i (opOf w)) e
 
 private-fits : (own k a b c : ℕ) → 1 ≤ k → k ≤ 8 → a ≤ highest own k 0 → b ≤ highest own k 1 → c ≤ highest own k 2 → fits own (byKind k a b c)
 unfolding highest entry

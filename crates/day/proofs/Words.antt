@@ -13,9 +13,9 @@ use Rattle.image.specs.Image.{lengthOf, recordAt}
 use Rattle.working.specs.Refusal.{causeOf}
 use Rattle.working.specs.declared.Refusal.{Refusal}
 use Rattle.working.specs.declared.Refusal.the-variants.{Image as ImageRefused}
-use Rattle.intake.specs.declared.Formatted.the-variants.{Done, Refused}
-use Rattle.intake.specs.Format.{imageWords, formattable, formatAnswer, formatLeaves, formatted}
-use Rattle.intake.proofs.Formats.{formattable-true, format-enough}
+use Rattle.formatting.specs.declared.Formatted.the-variants.{Done, Refused}
+use Rattle.formatting.specs.Format.{imageWords, formattable, formatAnswer, formatLeaves, formatted}
+use Rattle.formatting.proofs.Formats.{formattable-true, format-enough}
 use Rattle.edition.specs.Edition.{mark, ownWords, largest}
 use Rattle.lines.specs.Play.{stage}
 use Rattle.day.specs.Pieces.{fresh, ended, formatStage}

@@ -9,7 +9,7 @@ use lib.Dec.{eqb, leb}
 use Rattle.working.specs.Cursor.{allIdle}
 use Rattle.working.specs.Refusal.{causeOf}
 use Rattle.working.specs.declared.Refusal.the-variants.{Image as ImageRefused}
-use Rattle.intake.specs.Format.{formatted}
+use Rattle.formatting.specs.Format.{formatted}
 use Rattle.repair.specs.Repair.{noRepair}
 use Rattle.edition.specs.Edition.{mark, ownWords}
 use Rattle.frames.specs.declared.Opening.{Opening}

@@ -10,7 +10,7 @@ use Rattle.working.specs.declared.Cursors.{Cursors}
 use Rattle.working.specs.Cursor.{allIdle}
 use Rattle.working.specs.Refusal.{causeOf}
 use Rattle.working.specs.declared.Refusal.the-variants.{Image as ImageRefused}
-use Rattle.intake.specs.Format.{formatted}
+use Rattle.formatting.specs.Format.{formatted}
 use Rattle.recovery.specs.Recovery.{Recovered, recovery}
 use Rattle.recovery.specs.Recover.{answerOf as recoveryAnswer, cursorsOf, recoveryLeaves, storesOf}
 use Rattle.edition.specs.Edition.{mark, ownWords}

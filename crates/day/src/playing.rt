@@ -6,7 +6,7 @@ use crate::input;
 use crate::printing;
 use frames::Opening;
 use frames::Printed;
-use intake::Formatted;
+use formatting::Formatted;
 use lines::Job;
 use lines::Played;
 ghost use mathlib.Core.Path.{_≡_};

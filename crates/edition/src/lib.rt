@@ -1,9 +1,9 @@
 // The edition of images that is served: the mark in word 0 is 1, and a record has eight own words. Both stand here and nowhere else. Its
 // entry points take any image, any working record and any number of stores left, and refuse with document 01's numbers; what they do is in the
 // crates below, which take mark and own words as they are given.
-use intake::Cleared;
+use formatting::Cleared;
 use intake::Entered;
-use intake::Standing;
+use asking::Standing;
 use recovery::Restored;
 use repair::Repair;
 use repair::Slot;
@@ -16,9 +16,9 @@ ghost use lib.ListN.{length};
 ghost use Rattle.section.specs.Check.{codeOf, check};
 ghost use Rattle.working.specs.Cursor.{allIdle};
 ghost use Rattle.working.specs.World.{world};
-ghost use Rattle.intake.specs.Format.{imageWords, formatAnswer, formatLeaves, formatLeft};
+ghost use Rattle.formatting.specs.Format.{imageWords, formatAnswer, formatLeaves, formatLeft};
 ghost use Rattle.intake.specs.Submit.{submitAnswer, submitLeaves};
-ghost use Rattle.intake.specs.Asking.{standingOf, askCode, finishedOf};
+ghost use Rattle.asking.specs.Asking.{standingOf, askCode, finishedOf};
 ghost use Rattle.turn.specs.Call.{answerOf, leaves, outcome};
 ghost use Rattle.run.specs.Run.{counting, ran, runOf};
 ghost use Rattle.repair.specs.Repair.{slotAt, slotOf};
@@ -37,7 +37,7 @@ pub const LARGEST: usize = image::FRONT + 8 * (image::REST + OWN);
 pub fn image_words(workers: u64) -> usize
     ensures { λ r. ⌜ r ≡ imageWords ownWords workers ⌝ }
 {
-    intake::image_words(workers, OWN)
+    formatting::image_words(workers, OWN)
 }
 
 // The check of a section by itself: it passes, or the first of causes 4 to 9.
@@ -55,7 +55,7 @@ pub fn format(image: &mut [u64], workers: u64, left: &mut u64) -> Cleared
         ≡ formatLeaves mark ownWords (now (left .entry)) (now (image .entry)) workers (formatAnswer ownWords (now (image .entry)) workers) ⌝ }
     ensures left { λ r. ⌜ now (left .exit) ≡ formatLeft ownWords (now (left .entry)) workers (formatAnswer ownWords (now (image .entry)) workers) ⌝ }
 {
-    intake::format(image, workers, MARK, OWN, left)
+    formatting::format(image, workers, MARK, OWN, left)
 }
 
 // Submits a section for worker d, with its number and its eight arguments.
@@ -80,21 +80,21 @@ pub fn submit(
 pub fn standing(image: &[u64], d: usize, number: u64) -> Standing
     ensures { λ r. ⌜ r ≡ standingOf mark ownWords (now (image .entry)) d number ⌝ }
 {
-    intake::asking::standing(image, d, number, MARK, OWN)
+    asking::standing_of(image, d, number, MARK, OWN)
 }
 
 // The number with which a question about worker d is refused: causes 10 and 1; 0 where it is answered.
 pub fn asked(image: &[u64], d: usize) -> u64
     ensures { λ r. ⌜ r ≡ askCode mark ownWords (now (image .entry)) d ⌝ }
 {
-    intake::asking::asked(image, d, MARK, OWN)
+    asking::asked(image, d, MARK, OWN)
 }
 
 // The number of the last section that worker d finished; 0 where the question is refused.
 pub fn finished(image: &[u64], d: usize) -> u64
     ensures { λ r. ⌜ r ≡ finishedOf mark ownWords (now (image .entry)) d ⌝ }
 {
-    intake::asking::finished(image, d, MARK, OWN)
+    asking::finished(image, d, MARK, OWN)
 }
 
 // One turn of worker d.

@@ -1,3 +1,2 @@
-pub mod Rows
-pub mod Formats
+pub mod Assigns
 pub mod Submission

@@ -21,9 +21,9 @@ use Rattle.intake.specs.declared.Submitted.{Submitted}
 use Rattle.intake.specs.declared.Submitted.the-variants.{Taken, Refused}
 use Rattle.working.specs.Cursor.{on, placed}
 use Rattle.working.specs.World.{World, world}
-use Rattle.intake.specs.Format.{putFrom}
+use Rattle.rows.specs.Rows.{putFrom}
 use Rattle.intake.specs.Submit.{assigns, submission, verdictAnswer, free, submitAnswer, submitLeaves, isTaken}
-use Rattle.intake.proofs.Rows.{row-words, assigns-length, assigns-append, assigns-valid}
+use Rattle.intake.proofs.Assigns.{row-words, assigns-length, assigns-append, assigns-valid}
 
 -- ---- by the answer
 

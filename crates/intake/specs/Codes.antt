@@ -1,15 +1,9 @@
--- The number and the value of each case of the answers: 0 for done and taken; for a refusal document 01's cause, with the step that goes
+-- The number and the value of each case of the answer: 0 for taken; for a refusal document 01's cause, with the step that goes
 -- with it, and 0 where there is none.
 use Prim.Native.Nat.{ℕ}
 use Rattle.working.specs.Refusal.{causeOf, valueOf}
-use Rattle.intake.specs.declared.Formatted.{Formatted}
-use Rattle.intake.specs.declared.Formatted.the-variants.{Done, Refused as FormatRefused}
 use Rattle.intake.specs.declared.Submitted.{Submitted}
 use Rattle.intake.specs.declared.Submitted.the-variants.{Taken, Refused as SubmitRefused}
-
-abbrev pub formatCode : Formatted → ℕ
-formatCode Done = 0
-formatCode (FormatRefused r) = causeOf r
 
 abbrev pub submitCode : Submitted → ℕ
 submitCode Taken = 0

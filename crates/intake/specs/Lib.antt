@@ -1,4 +1,2 @@
-pub mod Format
 pub mod Submit
-pub mod Asking
 pub mod Codes

@@ -1,17 +1,7 @@
-// The number and the value of each case of the answers here (specs/Codes).
-use crate::Formatted;
+// The number and the value of each case of the answer (specs/Codes).
 use crate::Submitted;
 ghost use mathlib.Core.Path.{_≡_};
-ghost use Rattle.intake.specs.Codes.{formatCode, submitCode, submitDetail};
-
-pub fn format_code(a: Formatted) -> u64
-    ensures { λ n. ⌜ n ≡ formatCode a ⌝ }
-{
-    match a {
-        Formatted::Done => 0,
-        Formatted::Refused(r) => working::cause(r),
-    }
-}
+ghost use Rattle.intake.specs.Codes.{submitCode, submitDetail};
 
 pub fn submit_code(a: Submitted) -> u64
     ensures { λ n. ⌜ n ≡ submitCode a ⌝ }

@@ -1,6 +1,5 @@
 // Submitting a section: the causes, and the stores of one that is taken.
 use crate::Submitted;
-use crate::storing;
 use image::Field;
 use working::Cursors;
 use working::Refusal;
@@ -31,8 +30,8 @@ fn store_own(image: &mut [u64], d: usize, args: &[u64; 8], n: usize, left: &mut 
     ensures left { λ r. ⌜ now (left .exit) ≡ now (left .entry) - length (assigns (own d) 0 (now (args .entry) ++ replicate (n - 8) 0)) ⌝ }
 {
     let own = image::own_index(d, 0, n);
-    storing::store_words(image, own, args, left);
-    storing::clear(image, own + 8, n - 8, left);
+    rows::store_words(image, own, args, left);
+    rows::clear(image, own + 8, n - 8, left);
 }
 
 // Its instructions.
@@ -41,7 +40,7 @@ fn store_steps(image: &mut [u64], d: usize, words: &[u64], n: usize, left: &mut 
     ensures image { λ r. ⌜ now (image .exit) ≡ putAll n (now (left .entry)) (now (image .entry)) (assigns (step d) 0 (now (words .entry))) ⌝ }
     ensures left { λ r. ⌜ now (left .exit) ≡ now (left .entry) - length (assigns (step d) 0 (now (words .entry))) ⌝ }
 {
-    storing::store_words(image, image::step_index(d, 0, n), words, left);
+    rows::store_words(image, image::step_index(d, 0, n), words, left);
 }
 
 // The stores of a section that is taken.

@@ -7,7 +7,6 @@ use mathlib.Core.Logic.{_≢_}
 use native.Mathlib.Omega.{arith}
 use lib.Dec.{leb, ltb}
 use borrow.Author.Tests.{leb-true, ltb-true, lt-ltb}
-use Rattle.base.proofs.Bools.{and-left}
 use Rattle.mask.specs.Mask.{with}
 use Rattle.image.specs.declared.Field.the-variants.{Count, Owned}
 use Rattle.image.specs.Place.{Place, field, Memory}
@@ -15,12 +14,14 @@ use Rattle.image.specs.Image.{indexOf}
 use Rattle.code.specs.Table.{turnsOf}
 use Rattle.code.specs.Op.{opOf}
 use Rattle.code.specs.inner.Fits.{fits}
-use Rattle.code.specs.Form.{inRange, inPlace, wellFormed}
-use Rattle.code.proofs.Ranges.{in-range, turns-most}
-use Rattle.plan.specs.declared.Plan.the-variants.{Store}
+use Rattle.code.specs.Form.{wellFormed}
+use Rattle.code.proofs.Ranges.{formed-range, in-range, turns-most}
+use Rattle.log.specs.declared.Plan.the-variants.{Store}
 use Rattle.working.specs.Cursor.{idle, on}
-use Rattle.plan.specs.Turn.{stored, codeIn, activeVal, logged, acquireTurn, finishTurn, ready}
-use Rattle.plan.specs.inner.Plan.{planOf, loggedPlan}
+use Rattle.log.specs.Log.{codeIn, activeVal}
+use Rattle.plan.specs.Turn.{stored, logged, acquireTurn, finishTurn, ready}
+use Rattle.log.specs.inner.Logged.{loggedPlan}
+use Rattle.plan.specs.inner.Plan.{planOf}
 
 -- ---- turns by their number
 
@@ -31,13 +32,6 @@ module _ (n : ℕ) (rd : Memory) (d s t : ℕ) where
   logged-plan p v ns nt (suc zero) = refl
   logged-plan p v ns nt (suc (suc zero)) = refl
   logged-plan p v ns nt (suc (suc (suc j))) = refl
-
-  -- from turn 3 on it stores the logged value at its target
-  pub target-plan : (i v ns nt j : ℕ) → 2 < j → loggedPlan n rd d s t i v ns nt j ≡ Store i (rd (field (activeVal n rd d) d)) ns nt
-  target-plan i v ns nt zero l = absurd (omega arith)
-  target-plan i v ns nt (suc zero) l = absurd (omega arith)
-  target-plan i v ns nt (suc (suc zero)) l = absurd (omega arith)
-  target-plan i v ns nt (suc (suc (suc j))) l = refl
 
   -- its value matters at turn 1 alone
   pub value-plan : (i v ns nt j : ℕ) → j ≢ 1 → loggedPlan n rd d s t i v ns nt j ≡ loggedPlan n rd d s t i 0 ns nt j
@@ -60,8 +54,6 @@ module _ (n : ℕ) (rd : Memory) (d s : ℕ) where
   finish-last (suc zero) x y = absurd (y refl)
   finish-last (suc (suc t)) x y = refl
 
--- ---- cause 5
-
 -- each of five tests
 private-tests : (p q r s t : Bool) → (p && q && r && s && t) ≡ true → (p ≡ true) × (q ≡ true) × (r ≡ true) × (s ≡ true) × (t ≡ true)
 private-tests true true true true true e = (refl, refl, refl, refl, refl)
@@ -70,10 +62,6 @@ private-tests true true true false t e = absurd (false≢true e)
 private-tests true true false s t e = absurd (false≢true e)
 private-tests true false r s t e = absurd (false≢true e)
 private-tests false q r s t e = absurd (false≢true e)
-
-pub formed-range : (own k i w : ℕ) → wellFormed own k i w ≡ true → inRange own w ≡ true
-unfolding wellFormed
-formed-range own k i w e = and-left (inRange own w) (inPlace k i (opOf w)) e
 
 -- ---- a cursor that is ready
 

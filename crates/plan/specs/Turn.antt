@@ -1,18 +1,17 @@
 -- One turn of a worker, over a memory of places: at most one store. (Document 01, 'Turns'.)
-use Prim.Native.Nat.{ℕ, suc, zero, _+_, _-_, _/_, _^_}
-use mathlib.Core.Bool.{Bool, cond, _&&_, not}
+use Prim.Native.Nat.{ℕ, suc, zero, _+_}
+use mathlib.Core.Bool.{Bool, cond, _&&_}
 use lib.Dec.{leb, ltb, eqb}
 use Rattle.mask.specs.Mask.{with, without}
-use Rattle.image.specs.declared.Field.{Field}
-use Rattle.image.specs.declared.Field.the-variants.{Count, Pc, Addr0, Val0, Addr1, Val1, Intent, Owned, Number, Finished}
-use Rattle.image.specs.Place.{Place, cell, lock, field, own, step, Memory}
+use Rattle.image.specs.declared.Field.the-variants.{Count, Pc, Intent, Owned, Number, Finished}
+use Rattle.image.specs.Place.{Place, lock, field, Memory}
 use Rattle.image.specs.Image.{indexOf}
 use Rattle.code.specs.declared.Op.{Op}
 use Rattle.code.specs.declared.Op.the-variants.{Acquire, Release, Assign, Jump, Finish, Unknown}
 use Rattle.code.specs.Table.{turnsOf}
 use Rattle.code.specs.Op.{opOf, eval}
-use Rattle.section.specs.Check.{Code}
 use Rattle.code.specs.Form.{wellFormed}
+use Rattle.log.specs.Log.{operand, codeIn, wordIn, spareAddr, spareVal, activeVal, switched}
 use Rattle.working.specs.declared.Refusal.{Refusal}
 use Rattle.working.specs.declared.Refusal.the-variants.{Cursor as CursorRefused}
 use Rattle.working.specs.Cursor.{Cursor, idle, on}
@@ -27,47 +26,14 @@ pub data Outcome : Type 0 where
   resting : Outcome
   refused : Refusal → Outcome
 
--- the place of word number x as worker d names it
-unfoldable pub operand : ℕ → ℕ → Place
-operand d x = cond (ltb x 512) (cell x) (own d (x - 512))
-
 -- n: the number of own words; d: the worker
 module _ (n : ℕ) (rd : Memory) (d : ℕ) where
-  -- the instruction words in the worker's record
-  abbrev pub codeIn : Code
-  codeIn i = rd (step d i)
-
-  -- what word number x holds
-  abbrev pub wordIn : ℕ → ℕ
-  wordIn x = rd (operand d x)
-
-  -- the pc's top bit says that log entry 1 is active
-  unfoldable pub second : Bool
-  second = not (eqb (rd (field Pc d) / 2 ^ 63) 0)
-
-  -- the words of the log entry that is not active, and of the one that is
-  unfoldable pub spareAddr : Field
-  spareAddr = cond second Addr0 Addr1
-
-  unfoldable pub spareVal : Field
-  spareVal = cond second Val0 Val1
-
-  unfoldable pub activeAddr : Field
-  activeAddr = cond second Addr1 Addr0
-
-  unfoldable pub activeVal : Field
-  activeVal = cond second Val1 Val0
-
-  -- the pc that names step s and the entry that is not active now
-  unfoldable pub switched : ℕ → ℕ
-  switched s = cond second (s + 1) (s + 1 + 2 ^ 63)
-
   -- a logged store of v at p, of which step s, turn t is the store's turn j: address, value, pc, target
   abbrev pub logged : ℕ → ℕ → Place → ℕ → Cursor → ℕ → Outcome
-  logged s t p v next zero = stored (field spareAddr d) (indexOf n p) (on s (t + 1))
-  logged s t p v next (suc zero) = stored (field spareVal d) v (on s (t + 1))
-  logged s t p v next (suc (suc zero)) = stored (field Pc d) (switched s) (on s (t + 1))
-  logged s t p v next (suc (suc (suc j))) = stored p (rd (field activeVal d)) next
+  logged s t p v next zero = stored (field (spareAddr n rd d) d) (indexOf n p) (on s (t + 1))
+  logged s t p v next (suc zero) = stored (field (spareVal n rd d) d) v (on s (t + 1))
+  logged s t p v next (suc (suc zero)) = stored (field Pc d) (switched n rd d s) (on s (t + 1))
+  logged s t p v next (suc (suc (suc j))) = stored p (rd (field (activeVal n rd d) d)) next
 
   -- lock a at turn 1 of an acquire: taken where it is free
   abbrev pub lockTurn : ℕ → ℕ → Outcome
@@ -96,18 +62,18 @@ module _ (n : ℕ) (rd : Memory) (d : ℕ) where
   abbrev pub opTurn : ℕ → ℕ → Op → Outcome
   opTurn s t (Acquire a) = acquireTurn a s t
   opTurn s t (Release a) = releaseTurn a s t
-  opTurn s t (Assign a e) = logged s t (operand d a) (eval wordIn e) (on (s + 1) 0) t
-  opTurn s t (Jump a b) = jumped (cond (eqb (wordIn a) 0) (on b 0) (on (s + 1) 0))
+  opTurn s t (Assign a e) = logged s t (operand d a) (eval (wordIn n rd d) e) (on (s + 1) 0) t
+  opTurn s t (Jump a b) = jumped (cond (eqb (wordIn n rd d a) 0) (on b 0) (on (s + 1) 0))
   opTurn s t Finish = finishTurn s t
   opTurn s t Unknown = refused (CursorRefused d)
 
   -- cause 11 does not hold at step s, turn t
   unfoldable pub ready : ℕ → ℕ → Bool
   ready s t =
-      leb 3 (rd (field Count d)) && leb (rd (field Count d)) 64 && ltb s (rd (field Count d)) && wellFormed n (rd (field Count d)) s (codeIn s) && ltb t
-      (turnsOf (codeIn s))
+      leb 3 (rd (field Count d)) && leb (rd (field Count d)) 64 && ltb s (rd (field Count d)) && wellFormed n (rd (field Count d)) s (codeIn n rd d s) && ltb t
+      (turnsOf (codeIn n rd d s))
 
   -- a turn at a cursor
   unfoldable pub turnAt : Cursor → Outcome
   turnAt idle = resting
-  turnAt (on s t) = cond (ready s t) (opTurn s t (opOf (codeIn s))) (refused (CursorRefused d))
+  turnAt (on s t) = cond (ready s t) (opTurn s t (opOf (codeIn n rd d s))) (refused (CursorRefused d))

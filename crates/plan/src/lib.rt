@@ -1,10 +1,9 @@
 // The plan of a turn: cause 11, and for a turn to which it does not apply at most one store with the step and turn after it. Nothing is
-// stored here. The log stands in log.rt, each instruction's turns in steps.rt, the words that they name in words.rt.
-mod log;
+// stored here. Each instruction's turns stand in steps.rt.
 mod steps;
-pub mod words;
 
 use image::Field;
+use log::Plan;
 ghost use mathlib.Core.Path.{_≡_};
 ghost use mathlib.Core.Bool.{true};
 ghost use Rattle.image.specs.Image.{at};
@@ -12,22 +11,6 @@ ghost use Rattle.image.specs.inner.Inside.{Inside};
 ghost use Rattle.working.specs.Cursor.{on};
 ghost use Rattle.plan.specs.Turn.{ready, turnAt};
 ghost use Rattle.plan.specs.inner.Plan.{planOf};
-
-// What the turn of an open worker that is not refused is to do, worked out before anything is stored: a store, or none, with
-// the cursor after it; or to wait at a lock.
-pub enum Plan {
-    Store {
-        at: usize,
-        value: u64,
-        step: u8,
-        turn: u8,
-    },
-    Pass {
-        step: u8,
-        turn: u8,
-    },
-    Wait(u64),
-}
 
 // Whether step s, turn t is a turn of the section in worker d's record.
 pub fn ready(image: &[u64], d: usize, own: usize, s: u8, t: u8) -> bool

@@ -1,10 +1,9 @@
 // One turn of an instruction: the store that document 01 names, as a plan.
-use crate::Plan;
-use crate::log;
-use crate::words;
 use code::Expr;
 use code::Op;
 use image::Field;
+use log::Plan;
+use log::words;
 ghost use mathlib.Core.Path.{_≡_};
 ghost use Prim.Native.Nat.{ℕ, _+_, _<_};
 ghost use Rattle.image.specs.Image.{at};

@@ -16,7 +16,8 @@ use Rattle.image.specs.Place.{Memory, Store}
 use Rattle.image.specs.Image.{Image, at, workers, putAll}
 use Rattle.image.proofs.Lists.{putAll-append}
 use Rattle.repair.specs.declared.Repair.{Repair}
-use Rattle.soundness.specs.Sound.{eight, owed}
+use Rattle.owed.specs.Owed.{owed}
+use Rattle.soundness.specs.Sound.{eight}
 use Rattle.repair.specs.Plan.{rows, intend, withdraw, relock, relocks, unlock, plan}
 use Rattle.soundness.specs.inner.Reading.{owedAt}
 use Rattle.repair.specs.Repair.{freedBy, withdrawnBy, repairOf, noRepair}

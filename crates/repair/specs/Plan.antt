@@ -10,7 +10,8 @@ use Rattle.code.specs.declared.Op.{Op}
 use Rattle.code.specs.declared.Op.the-variants.{Acquire, Release, Assign, Jump, Finish, Unknown}
 use Rattle.working.specs.declared.Cursors.{Cursors}
 use Rattle.working.specs.Cursor.{Cursor, idle, on, stepNo, turnNo}
-use Rattle.soundness.specs.Sound.{eight, namedStep, namedOp, owed}
+use Rattle.owed.specs.Owed.{namedStep, namedOp, owed}
+use Rattle.soundness.specs.Sound.{eight}
 
 infixl 60 _≔_
 abbrev pub _≔_ : Place → ℕ → Store

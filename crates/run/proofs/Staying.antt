@@ -25,7 +25,8 @@ use Rattle.code.specs.Op.{opOf}
 use Rattle.code.specs.inner.Fits.{fits}
 use Rattle.code.proofs.Ranges.{opTurns, turns-op}
 use Rattle.working.specs.Cursor.{Cursor, idle, on, stepNo, turnNo, setAt, placed}
-use Rattle.plan.specs.Turn.{Outcome, stored, jumped, unheld, waiting, resting, refused, operand, codeIn, second, spareAddr, spareVal, logged, acquireTurn}
+use Rattle.log.specs.Log.{operand, codeIn, second, spareAddr, spareVal}
+use Rattle.plan.specs.Turn.{Outcome, stored, jumped, unheld, waiting, resting, refused, logged, acquireTurn}
 use Rattle.plan.specs.Turn.{finishTurn, opTurn, ready, turnAt}
 use Rattle.working.specs.World.{World, world}
 use Rattle.turn.specs.inner.Acting.{tested}

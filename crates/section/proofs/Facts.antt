@@ -15,7 +15,8 @@ use Rattle.code.specs.declared.Op.the-variants.{Acquire, Release, Assign, Jump,
 use Rattle.section.specs.declared.Verdict.{Verdict}
 use Rattle.section.specs.declared.Verdict.the-variants.{Pass, Length, Malformed, Unbracketed, Unordered, Unguarded, Unlevel}
 use Rattle.code.specs.Op.{opOf}
-use Rattle.section.specs.Check.{Code, heldBefore, covered, coveredIn, begins, goesOn, bracketed, ordered, guarded, level, orElse, firstOf, formOf, useOf}
+use Rattle.rules.specs.Rules.{covered, coveredIn, begins, goesOn, bracketed, ordered, guarded}
+use Rattle.section.specs.Check.{Code, heldBefore, level, orElse, firstOf, formOf, useOf}
 use Rattle.section.specs.Check.{check}
 use Rattle.code.specs.Form.{inRange, inPlace, wellFormed}
 use Rattle.section.specs.Valid.{Valid}

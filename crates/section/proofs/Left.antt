@@ -11,7 +11,8 @@ use borrow.Author.Tests.{lt-ltb, le-ltb}
 use Rattle.section.specs.declared.Verdict.{Verdict}
 use Rattle.section.specs.declared.Verdict.the-variants.{Pass, Length, Malformed, Unbracketed, Unordered, Unguarded, Unlevel}
 use Rattle.code.specs.Op.{opOf}
-use Rattle.section.specs.Check.{Code, codeOf, heldBefore, bracketed, ordered, guarded, level, orElse, firstOf, useOf, check, passes}
+use Rattle.rules.specs.Rules.{bracketed, ordered, guarded}
+use Rattle.section.specs.Check.{Code, codeOf, heldBefore, level, orElse, firstOf, useOf, check, passes}
 use Rattle.section.specs.inner.Pass.{reached, heldTo, heldLeft, Passed}
 use Rattle.section.proofs.Passing.{passed-is}
 

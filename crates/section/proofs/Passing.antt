@@ -17,7 +17,7 @@ use Rattle.section.specs.declared.Verdict.the-variants.{Pass, Length, Ma
 use Rattle.code.specs.Op.{opOf}
 use Rattle.section.specs.Check.{Code, heldBefore, level, firstOf, formOf, judged, useOf, passes}
 use Rattle.code.specs.Form.{inRange, inPlace, wellFormed, lockOk, heldAfter}
-use Rattle.section.specs.inner.Pass.{lands, levelIn}
+use Rattle.rules.specs.inner.Looked.{lands, levelIn}
 use Rattle.code.proofs.Ranges.{lock-ok}
 use Rattle.section.proofs.First.{first-step, or-refused}
 

@@ -10,7 +10,8 @@ use Rattle.code.specs.declared.Op.{Op}
 use Rattle.code.specs.declared.Op.the-variants.{Acquire, Release, Assign, Jump, Finish, Unknown}
 use Rattle.section.specs.declared.Verdict.the-variants.{Pass, Unbracketed, Unordered, Unguarded, Unlevel}
 use Rattle.code.specs.Op.{opOf}
-use Rattle.section.specs.Check.{Code, heldBefore, begins, goesOn, bracketed, ordered, guarded, level, formOf, judged, useOf}
+use Rattle.rules.specs.Rules.{begins, goesOn, bracketed, ordered, guarded}
+use Rattle.section.specs.Check.{Code, heldBefore, level, formOf, judged, useOf}
 use Rattle.code.specs.Form.{inRange, inPlace, wellFormed}
 use Rattle.section.proofs.Held.{held-cong}
 

@@ -1,18 +1,16 @@
 -- The check of a section: causes 4 to 9. A section is a number of steps n and a word for each step.
-use Prim.Native.Nat.{ℕ, suc, zero, _+_, _/_, _^_}
-use mathlib.Core.Bool.{Bool, true, false, cond, _&&_, _||_, not}
+use Prim.Native.Nat.{ℕ, suc, zero, _+_}
+use mathlib.Core.Bool.{Bool, true, false, cond, _&&_}
 use mathlib.Core.List.{List}
 use lib.ListN.{getD}
 use lib.Dec.{leb, eqb}
-use Rattle.mask.specs.Mask.{has}
-use Rattle.code.specs.declared.Expr.{Expr}
-use Rattle.code.specs.declared.Expr.the-variants.{Literal, Sum, Difference, Less}
 use Rattle.code.specs.declared.Op.{Op}
 use Rattle.code.specs.declared.Op.the-variants.{Acquire, Release, Assign, Jump, Finish, Unknown}
 use Rattle.section.specs.declared.Verdict.{Verdict}
 use Rattle.section.specs.declared.Verdict.the-variants.{Pass, Length, Malformed, Unbracketed, Unordered, Unguarded, Unlevel}
 use Rattle.code.specs.Op.{opOf}
 use Rattle.code.specs.Form.{wellFormed, heldAfter}
+use Rattle.rules.specs.Rules.{bracketed, ordered, guarded}
 
 -- the instruction words of a section by their step
 abbrev pub Code : Type 0
@@ -27,56 +25,6 @@ codeOf ws i = getD ws i 0
 unfoldable pub heldBefore : Code → ℕ → ℕ
 heldBefore code zero = 0
 heldBefore code (suc i) = heldAfter (heldBefore code i) (opOf (code i))
-
--- ---- causes 6 to 9, each the test of an instruction with h held before it
-
--- word number x is an own word, or its lock is held
-abbrev pub covered : ℕ → ℕ → Bool
-covered h x = leb 512 x || has h (x / 8)
-
-abbrev pub coveredIn : ℕ → Expr → Bool
-coveredIn h (Literal b c) = true
-coveredIn h (Sum b c) = covered h b && covered h c
-coveredIn h (Difference b c) = covered h b && covered h c
-coveredIn h (Less b c) = covered h b && covered h c
-
--- cause 6: the first step acquires, a later one holds something, a finish holds nothing
-abbrev pub begins : Op → Bool
-begins (Acquire a) = true
-begins (Release a) = false
-begins (Assign a e) = false
-begins (Jump a b) = false
-begins Finish = false
-begins Unknown = false
-
-abbrev pub goesOn : ℕ → Op → Bool
-goesOn h (Acquire a) = not (eqb h 0)
-goesOn h (Release a) = not (eqb h 0)
-goesOn h (Assign a e) = not (eqb h 0)
-goesOn h (Jump a b) = not (eqb h 0)
-goesOn h Finish = eqb h 0
-goesOn h Unknown = false
-
-abbrev pub bracketed : ℕ → ℕ → Op → Bool
-bracketed i h x = cond (eqb i 0) (begins x) (goesOn h x)
-
--- cause 7: an acquire is above all that is held, a release's lock is held
-abbrev pub ordered : ℕ → Op → Bool
-ordered h (Acquire a) = eqb (h / 2 ^ a) 0
-ordered h (Release a) = has h a
-ordered h (Assign a e) = true
-ordered h (Jump a b) = true
-ordered h Finish = true
-ordered h Unknown = true
-
--- cause 8: every cell that is read or written has its lock held
-abbrev pub guarded : ℕ → Op → Bool
-guarded h (Acquire a) = true
-guarded h (Release a) = true
-guarded h (Assign a e) = covered h a && coveredIn h e
-guarded h (Jump a b) = covered h a
-guarded h Finish = true
-guarded h Unknown = true
 
 -- cause 9: a jump goes to a step with the same held set
 abbrev pub level : Code → ℕ → Op → Bool

@@ -6,7 +6,8 @@ use Rattle.mask.specs.Mask.{has}
 use Rattle.code.specs.declared.Expr.{Expr}
 use Rattle.code.specs.declared.Op.the-variants.{Acquire, Release, Assign, Jump, Finish}
 use Rattle.code.specs.Op.{opOf}
-use Rattle.section.specs.Check.{Code, heldBefore, covered, coveredIn}
+use Rattle.rules.specs.Rules.{covered, coveredIn}
+use Rattle.section.specs.Check.{Code, heldBefore}
 use Rattle.code.specs.Form.{inRange}
 
 -- own: the number of own words; n: the number of steps

@@ -24,9 +24,10 @@ use Rattle.code.specs.Form.{inRange, heldAfter}
 use Rattle.section.proofs.Facts.{check-parts}
 use Rattle.section.proofs.Held.{held-step}
 use Rattle.section.proofs.Passing.{passed-is}
-use Rattle.plan.proofs.Planned.{formed-range}
-use Rattle.plan.specs.Turn.{codeIn}
-use Rattle.soundness.specs.Sound.{namedStep, namedOp, heldNext, owedOf, owed, sectionOk, entryOk, pcOk, covers, sound, unsound}
+use Rattle.code.proofs.Ranges.{formed-range}
+use Rattle.log.specs.Log.{codeIn}
+use Rattle.owed.specs.Owed.{namedStep, namedOp, heldNext, owedOf, owed, entryOk, covers}
+use Rattle.soundness.specs.Sound.{sectionOk, pcOk, sound, unsound}
 use Rattle.soundness.specs.inner.Reading.{Legible, Restorable}
 
 private-not : (b x y : Bool) → cond b x y ≡ true → b ≡ false → y ≡ true

@@ -1,3 +1,2 @@
-pub mod Covers
 pub mod Legible
 pub mod Sets

@@ -16,8 +16,9 @@ ghost use Rattle.image.specs.Image.{at, workers, lengthOf};
 ghost use Rattle.image.specs.inner.Inside.{Inside};
 ghost use Rattle.section.specs.Check.{check, passes};
 ghost use Rattle.code.specs.inner.Fits.{fits};
-ghost use Rattle.plan.specs.Turn.{codeIn, activeAddr, activeVal};
-ghost use Rattle.soundness.specs.Sound.{owedOf, eight, covers, heldNext, owed, sectionOk, setLogged, entryOk, pcOk, sound, unsound};
+ghost use Rattle.log.specs.Log.{codeIn, activeAddr, activeVal};
+ghost use Rattle.owed.specs.Owed.{owedOf, covers, heldNext, owed, setLogged, entryOk};
+ghost use Rattle.soundness.specs.Sound.{eight, sectionOk, pcOk, sound, unsound};
 ghost use Rattle.soundness.specs.inner.Reading.{Helds, owedAt};
 ghost use Rattle.soundness.specs.inner.Tests.{isDone, byRecord};
 
@@ -59,56 +60,6 @@ fn section_ok(image: &[u64], d: usize, own: usize, held: &mut [u64]) -> bool
     image::read_field(image, Field::Finished, d, own) <= number
 }
 
-// The address in the active log entry.
-fn logged_addr(image: &[u64], d: usize, own: usize) -> u64
-    requires { ⌜ Inside own (now image) d ⌝ }
-    ensures { λ r. ⌜ r ≡ at own (now (image .entry)) (field (activeAddr own (at own (now (image .entry))) d) d) ⌝ }
-{
-    if image::read_field(image, Field::Pc, d, own) >> 63 == 0 {
-        return image::read_field(image, Field::Addr0, d, own);
-    }
-    image::read_field(image, Field::Addr1, d, own)
-}
-
-// The value in it.
-fn logged_value(image: &[u64], d: usize, own: usize) -> u64
-    requires { ⌜ Inside own (now image) d ⌝ }
-    ensures { λ r. ⌜ r ≡ at own (now (image .entry)) (field (activeVal own (at own (now (image .entry))) d) d) ⌝ }
-{
-    if image::read_field(image, Field::Pc, d, own) >> 63 == 0 {
-        return image::read_field(image, Field::Val0, d, own);
-    }
-    image::read_field(image, Field::Val1, d, own)
-}
-
-// Whether the active entry logs a store of a set in worker d's owned word.
-fn set_logged(image: &[u64], d: usize, set: u64, own: usize) -> bool
-    requires { ⌜ Inside own (now image) d ⌝ }
-    ensures { λ r. ⌜ r ≡ setLogged own (at own (now (image .entry))) d set ⌝ }
-{
-    if logged_addr(image, d, own) != image::field_index(Field::Owned, d, own) as u64 {
-        return false;
-    }
-    logged_value(image, d, own) == set
-}
-
-// Whether the active entry logs the store of an instruction, after which `next` is held.
-fn entry_ok(image: &[u64], d: usize, x: Op, next: u64, own: usize) -> bool
-    requires { ⌜ (Inside own (now image) d) × (fits own x) × (next ≡ heldNext own (at own (now image)) d) ⌝ }
-    ensures { λ r. ⌜ r ≡ entryOk own (at own (now (image .entry))) d x ⌝ }
-{
-    match x {
-        Op::Acquire(_) => set_logged(image, d, next, own),
-        Op::Release(_) => set_logged(image, d, next, own),
-        Op::Assign(a, _) => {
-            logged_addr(image, d, own) == plan::words::operand_index(d, a, own) as u64
-        }
-        Op::Jump(_, _) => false,
-        Op::Finish => false,
-        Op::Unknown => false,
-    }
-}
-
 // What a test of a record finds: whether it holds and, where it does, the owed set.
 struct Found {
     ok: bool,
@@ -120,30 +71,6 @@ fn refused() -> Found
     ensures owed { λ r. ⌜ r .owed ≡ 0 ⌝ }
 {
     Found { ok: false, owed: 0 }
-}
-
-// Whether the set owned is the one held before a step, or the one after it.
-fn owned_ok(owned: u64, here: u64, next: u64) -> bool
-    ensures { λ r. ⌜ r ≡ (eqb owned here || eqb owned next) ⌝ }
-{
-    if owned == here {
-        return true;
-    }
-    owned == next
-}
-
-// The owed set at an instruction: of an acquire the held set after it, since its lock may be taken and not yet owned.
-fn owed_by(x: Op, next: u64, owned: u64) -> u64
-    ensures { λ r. ⌜ r ≡ owedOf x next owned ⌝ }
-{
-    match x {
-        Op::Acquire(_) => next,
-        Op::Release(_) => owned,
-        Op::Assign(_, _) => owned,
-        Op::Jump(_, _) => owned,
-        Op::Finish => owned,
-        Op::Unknown => owned,
-    }
 }
 
 // Whether the pc names no step, with nothing owned, or one whose entry is right, with the set before or after it owned.
@@ -172,20 +99,13 @@ fn pc_ok(image: &[u64], d: usize, own: usize, held: &[u64]) -> Found
     let x = op_of(image::read_step(image, d, s, own));
     let here = held[s];
     let next = held_after(here, x);
-    if !entry_ok(image, d, x, next, own) {
+    if !owed::entry_ok(image, d, x, next, own) {
         return refused();
     }
     Found {
-        ok: owned_ok(owned, here, next),
-        owed: owed_by(x, next, owned),
+        ok: owed::owned_ok(owned, here, next),
+        owed: owed::owed_by(x, next, owned),
     }
-}
-
-// Whether every lock of `small` is in `big`.
-fn covers(big: u64, small: u64) -> bool
-    ensures { λ r. ⌜ r ≡ covers big small 64 ⌝ }
-{
-    small & big == small
 }
 
 // Whether worker d's record is sound. The held sets of its section go through `held`.
@@ -203,7 +123,7 @@ fn sound(image: &[u64], d: usize, own: usize, held: &mut [u64]) -> Found
     }
     let intent = image::read_field(image, Field::Intent, d, own);
     Found {
-        ok: covers(intent, f.owed),
+        ok: owed::covers(intent, f.owed),
         owed: f.owed,
     }
 }

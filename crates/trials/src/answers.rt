@@ -1,5 +1,5 @@
 // What a call answers, in numbers.
-use intake::Formatted;
+use formatting::Formatted;
 use intake::Submitted;
 use run::End;
 use turn::Answer;

@@ -10,7 +10,7 @@ use crate::stage::ROOM;
 use crate::stage::Stage;
 use crate::text;
 use crate::verbs::Verb;
-use intake::Standing;
+use asking::Standing;
 
 // What a verb and its numbers ask for.
 pub enum Asked {

@@ -19,7 +19,8 @@ use Rattle.image.proofs.Header.{header-workers, header-inside}
 use Rattle.working.specs.declared.Refusal.{Refusal}
 use Rattle.working.specs.declared.Refusal.the-variants.{Worker, Image as ImageRefused, Cursor as CursorRefused}
 use Rattle.working.specs.Cursor.{Cursor, on, isIdle, cursorAt}
-use Rattle.plan.specs.Turn.{Outcome, stored, jumped, unheld, waiting, resting, refused, codeIn, logged, acquireTurn, finishTurn, opTurn, ready, turnAt}
+use Rattle.log.specs.Log.{codeIn}
+use Rattle.plan.specs.Turn.{Outcome, stored, jumped, unheld, waiting, resting, refused, logged, acquireTurn, finishTurn, opTurn, ready, turnAt}
 use Rattle.working.specs.World.{World}
 use Rattle.turn.specs.Call.{answerOf, leaves, outcomeAt, outcome, isRefused}
 use Rattle.plan.specs.inner.Plan.{planOf}

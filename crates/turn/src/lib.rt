@@ -1,5 +1,5 @@
 // One turn of a worker: its tests, its plan, at most one store, and the record with the step and turn that the plan names.
-use plan::Plan;
+use log::Plan;
 use working::Cursors;
 use working::Refusal;
 

@@ -6,10 +6,10 @@ use lib.Dec.{ltb, eqb}
 use borrow.Author.Tests.{eq-eqb, ne-eqb}
 use Rattle.image.specs.Image.{Image, at, workers, headerOk}
 use Rattle.working.specs.declared.Refusal.the-variants.{Worker, Image as ImageRefused}
-use Rattle.intake.specs.declared.Standing.{Standing}
-use Rattle.intake.specs.declared.Standing.the-variants.{Refused}
+use Rattle.asking.specs.declared.Standing.{Standing}
+use Rattle.asking.specs.declared.Standing.the-variants.{Refused}
 use Rattle.edition.specs.Edition.{mark, ownWords}
-use Rattle.intake.specs.Asking.{standingIn, standingOf, askCode as asked}
+use Rattle.asking.specs.Asking.{standingIn, standingOf, askCode as asked}
 use Rattle.zilpanud.specs.Ask.{askCode, told, standingNo, stands}
 
 -- what is told, by the number returned

@@ -22,7 +22,7 @@ use Rattle.working.specs.declared.Refusal.{Refusal}
 use Rattle.working.specs.declared.Refusal.the-variants.{Worker, Busy, Number, Section, Image as ImageRefused, Cursor as CursorRefused}
 use Rattle.turn.specs.declared.Answer.{Answer}
 use Rattle.turn.specs.declared.Answer.the-variants.{Stored, Passed, Waiting, Idle, Refused}
-use Rattle.intake.specs.declared.Formatted.the-variants.{Done, Refused as FormatRefused}
+use Rattle.formatting.specs.declared.Formatted.the-variants.{Done, Refused as FormatRefused}
 use Rattle.intake.specs.declared.Submitted.{Submitted}
 use Rattle.run.specs.declared.End.{End}
 use Rattle.run.specs.declared.End.the-variants.{AllIdle, Spent, Halted}
@@ -30,13 +30,15 @@ use Rattle.edition.specs.Edition.{mark, ownWords}
 use Rattle.working.specs.Refusal.{causeOf}
 use Rattle.turn.specs.Call.{isRefused}
 use Rattle.working.specs.Cursor.{Cursor, idle, on, cursorAt}
-use Rattle.plan.specs.Turn.{Outcome, stored, jumped, unheld, waiting, resting, refused, logged, opTurn, codeIn, ready, turnAt}
+use Rattle.log.specs.Log.{codeIn}
+use Rattle.plan.specs.Turn.{Outcome, stored, jumped, unheld, waiting, resting, refused, logged, opTurn, ready, turnAt}
 use Rattle.working.specs.World.{World}
 use Rattle.turn.specs.Call.{outcomeAt}
-use Rattle.intake.specs.Format.{formattable, formatAnswer}
+use Rattle.formatting.specs.Format.{formattable, formatAnswer}
 use Rattle.intake.specs.Submit.{verdictAnswer, isTaken, free, submitAnswer}
 use Rattle.run.specs.Run.{Counting, counting, Ran, Sweep, through, halted, anyOpen, turned, swept, sweep, afterSweep, roundsOf, runOf}
-use Rattle.intake.specs.Codes.{formatCode, submitCode}
+use Rattle.formatting.specs.Codes.{formatCode}
+use Rattle.intake.specs.Codes.{submitCode}
 use Rattle.turn.specs.Codes.{turnCode, turnDetail}
 use Rattle.run.specs.Codes.{endCode}
 use Rattle.soundness.specs.declared.Refusal.the-variants.{Image as NotAnImage, Record, Lock}

@@ -4,11 +4,11 @@ use mathlib.Core.Bool.{cond}
 use lib.Dec.{eqb}
 use Rattle.image.specs.Image.{Image}
 use Rattle.working.specs.declared.Cursors.{Cursors}
-use Rattle.intake.specs.declared.Standing.{Standing}
-use Rattle.intake.specs.declared.Standing.the-variants.{NotBegun, Begun, Finished as StandsFinished, Refused}
+use Rattle.asking.specs.declared.Standing.{Standing}
+use Rattle.asking.specs.declared.Standing.the-variants.{NotBegun, Begun, Finished as StandsFinished, Refused}
 use Rattle.edition.specs.Edition.{mark, ownWords}
 use Rattle.working.specs.Cursor.{isIdle, cursorAt}
-use Rattle.intake.specs.Asking.{standingOf, askCode as asked, finishedOf}
+use Rattle.asking.specs.Asking.{standingOf, askCode as asked, finishedOf}
 
 -- the number that a question about worker d returns: causes 10 and 1, or 0
 abbrev pub askCode : Image → ℕ → ℕ

@@ -9,12 +9,12 @@ use Rattle.section.specs.Check.{codeOf, check}
 use Rattle.tally.specs.declared.Tally.{Tally}
 use Rattle.working.specs.declared.Cursors.{Cursors}
 use Rattle.turn.specs.declared.Answer.{Answer}
-use Rattle.intake.specs.declared.Formatted.{Formatted}
+use Rattle.formatting.specs.declared.Formatted.{Formatted}
 use Rattle.intake.specs.declared.Submitted.{Submitted}
 use Rattle.edition.specs.Edition.{mark, ownWords}
 use Rattle.working.specs.World.{World, world}
 use Rattle.turn.specs.Call.{answerOf, leaves, outcome}
-use Rattle.intake.specs.Format.{formatAnswer, formatLeaves, formatLeft}
+use Rattle.formatting.specs.Format.{formatAnswer, formatLeaves, formatLeft}
 use Rattle.intake.specs.Submit.{submitAnswer, submitLeaves}
 use Rattle.working.specs.Cursor.{allIdle}
 use Rattle.run.specs.Run.{Ran, runOf}

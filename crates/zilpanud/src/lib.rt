@@ -1,11 +1,12 @@
 // What C and Rust link: the engine's entry points and three questions, over slices, arrays and numbers. An answer crosses as a
 // number and a detail (`codes` of the crates that answer, `cause` and `step` of section); the cursors as two arrays, a step and a turn for each worker.
-mod asking;
+mod answers;
 mod cursors;
 
 ghost use mathlib.Core.Path.{_≡_};
 ghost use Rattle.section.specs.Check.{causeOf, stepOf};
-ghost use Rattle.intake.specs.Codes.{formatCode, submitCode, submitDetail};
+ghost use Rattle.formatting.specs.Codes.{formatCode};
+ghost use Rattle.intake.specs.Codes.{submitCode, submitDetail};
 ghost use Rattle.turn.specs.Codes.{turnCode, turnDetail};
 ghost use Rattle.run.specs.Codes.{endCode, endDetail};
 ghost use Rattle.soundness.specs.Codes.{recoverCode, recoverDetail};
@@ -31,7 +32,7 @@ pub extern "C" fn zilpanud_format(
     let next = r.cursors;
     cursors::leave(next, step, turn);
     let a = r.answer;
-    intake::codes::format_code(a)
+    formatting::codes::format_code(a)
 }
 
 // The check of a section: 0, or 4 to 9, with the step.
@@ -172,7 +173,7 @@ pub extern "C" fn zilpanud_is_idle(
         return no;
     }
     let c = cursors::lent(step, turn);
-    *answer = asking::idle(c, worker);
+    *answer = answers::idle(c, worker);
     0
 }
 
@@ -198,7 +199,7 @@ pub extern "C" fn zilpanud_standing(
     ensures answer { λ r. ⌜ now (answer .exit) ≡ told (now (image .entry)) worker (stands (now (image .entry)) worker number) ⌝ }
 {
     let s = edition::standing(image, worker, number);
-    *answer = asking::standing_no(s);
+    *answer = answers::standing_no(s);
     edition::asked(image, worker)
 }
 

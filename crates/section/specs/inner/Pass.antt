@@ -2,35 +2,16 @@
 -- pass, and looked up there.
 use Prim.Native.Nat.{ℕ, _<_, _≤_}
 use mathlib.Core.Path.{_≡_}
-use mathlib.Core.Bool.{Bool, true, cond}
+use mathlib.Core.Bool.{true, cond}
 use mathlib.Core.List.{List}
 use lib.ListN.{length, getD}
-use lib.Dec.{ltb, eqb}
-use Rattle.code.specs.declared.Op.{Op}
-use Rattle.code.specs.declared.Op.the-variants.{Acquire, Release, Assign, Jump, Finish, Unknown}
+use lib.Dec.{ltb}
 use Rattle.section.specs.declared.Verdict.{Verdict}
 use Rattle.section.specs.declared.Verdict.the-variants.{Pass, Length, Malformed, Unbracketed, Unordered, Unguarded, Unlevel}
 use Rattle.code.specs.Op.{opOf}
 use Rattle.section.specs.Check.{Code, codeOf, heldBefore, firstOf, formOf, check}
 use Rattle.code.specs.Form.{lockOk}
-
--- a jump's target is a step of n
-abbrev pub lands : ℕ → Op → Bool
-lands n (Acquire a) = true
-lands n (Release a) = true
-lands n (Assign a e) = true
-lands n (Jump a b) = ltb b n
-lands n Finish = true
-lands n Unknown = true
-
--- cause 9, the target's held set looked up
-abbrev pub levelIn : List ℕ → ℕ → Op → Bool
-levelIn held h (Acquire a) = true
-levelIn held h (Release a) = true
-levelIn held h (Assign a e) = true
-levelIn held h (Jump a b) = eqb (getD held b 0) h
-levelIn held h Finish = true
-levelIn held h Unknown = true
+use Rattle.rules.specs.inner.Looked.{lands}
 
 -- step i can be judged: its lock and its target are such as cause 5 leaves them, and the held sets are those before each step
 pub record Judgeable (ws held : List ℕ) (i : ℕ) : Type 0 where

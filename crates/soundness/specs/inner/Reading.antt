@@ -10,8 +10,8 @@ use Rattle.image.specs.Place.{field, Memory}
 use Rattle.image.specs.Image.{Image, lengthOf, at, workers}
 use Rattle.code.specs.Form.{inRange}
 use Rattle.section.specs.Check.{heldBefore}
-use Rattle.plan.specs.Turn.{codeIn}
-use Rattle.soundness.specs.Sound.{claimants, namedStep, owed}
+use Rattle.log.specs.Log.{codeIn}
+use Rattle.owed.specs.Owed.{claimants, namedStep, owed}
 
 -- ---- a section that is begun
 
@@ -42,12 +42,3 @@ Helds n rd d k held = (j : ℕ) → j < k → getD held j 0 ≡ heldBefore (code
 -- worker d's owed set; empty for one that the image has not
 abbrev pub owedAt : ℕ → Memory → ℕ → ℕ → ℕ
 owedAt n rd D d = cond (ltb d D) (owed n rd d) 0
-
--- the sets of a list
-abbrev pub setsIn : List ℕ → ℕ → ℕ
-setsIn l d = getD l d 0
-
--- the lowest lock, of k from b on, that two of the first n sets have; b + k where there is none
-unfoldable pub sharedFrom : (ℕ → ℕ) → ℕ → ℕ → ℕ → ℕ
-sharedFrom sets n b zero = b
-sharedFrom sets n b (suc k) = cond (leb (claimants sets b n) 1) (sharedFrom sets n (b + 1) k) b

@@ -7,8 +7,8 @@ use Rattle.image.specs.Image.{Image, at, put}
 use Rattle.working.specs.declared.Cursors.{Cursors}
 use Rattle.working.specs.Cursor.{setAt}
 use Rattle.working.specs.World.{World, world}
-use Rattle.plan.specs.declared.Plan.{Plan}
-use Rattle.plan.specs.declared.Plan.the-variants.{Store, Pass, Wait}
+use Rattle.log.specs.declared.Plan.{Plan}
+use Rattle.log.specs.declared.Plan.the-variants.{Store, Pass, Wait}
 use Rattle.plan.specs.Turn.{Outcome, stored, jumped, unheld, waiting, resting, refused, ready}
 use Rattle.plan.specs.inner.Plan.{planOf}
 use Rattle.turn.specs.declared.Gate.{Gate}

@@ -1,7 +1,7 @@
 -- `zilpanud_format` meets its contract: the number of the engine's answer, and all workers idle.
 use borrow.Author.Needs.{needs}
 use mathlib.Core.Path.{ap, _∙_}
-use Rattle.intake.specs.Codes.{formatCode}
+use Rattle.formatting.specs.Codes.{formatCode}
 use Rattle.zilpanud.proofs.zilpanud_format.Statement.{statement}
 use Rattle.zilpanud.proofs.zilpanud_format.Tie as tie
 

@@ -3,7 +3,7 @@ use borrow.Author.Needs.{needs}
 use native.Mathlib.Omega.{arith}
 use denote.Ref.{now}
 use Rattle.image.specs.Place.{step}
-use Rattle.intake.proofs.Rows.{row-words, assigns-length}
+use Rattle.intake.proofs.Assigns.{row-words, assigns-length}
 use Rattle.intake.proofs.Submission.{step-next}
 use Rattle.intake.proofs.submitting.store_steps.Statement.{statement}
 use Rattle.intake.proofs.submitting.store_steps.Tie as tie

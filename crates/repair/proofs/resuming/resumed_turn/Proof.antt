@@ -5,7 +5,7 @@ use borrow.Author.Needs.{needs}
 use native.Mathlib.Omega.{arith}
 use denote.Ref.{now}
 use Rattle.image.specs.Image.{at}
-use Rattle.soundness.specs.Sound.{namedStep, namedOp}
+use Rattle.owed.specs.Owed.{namedStep, namedOp}
 use Rattle.repair.specs.Plan.{resumed}
 use Rattle.soundness.proofs.Legible.{pc-low}
 use Rattle.repair.proofs.resuming.resumed_turn.Statement.{statement}

@@ -10,7 +10,8 @@ use Rattle.base.proofs.Bools.{denied, granted}
 use Rattle.image.specs.Image.{at, workers}
 use Rattle.soundness.specs.inner.Tests.{byLock}
 use Rattle.soundness.specs.Sound.{badLock}
-use Rattle.soundness.proofs.Sets.{shared-told, lock-single, lock-shared, bad-on, bad-here, bad-none}
+use Rattle.owed.proofs.Sharing.{shared-told}
+use Rattle.soundness.proofs.Sets.{lock-single, lock-shared, bad-on, bad-here, bad-none}
 use Rattle.soundness.proofs.locks.locks.Statement.{statement}
 use Rattle.soundness.proofs.locks.locks.Tie as tie
 

@@ -10,7 +10,8 @@ use denote.Ref.{now}
 use Rattle.base.proofs.Bools.{denied, granted}
 use Rattle.image.specs.Image.{at}
 use Rattle.code.proofs.Ranges.{in-range, lock-ok}
-use Rattle.soundness.specs.Sound.{owed, pcOk}
+use Rattle.owed.specs.Owed.{owed}
+use Rattle.soundness.specs.Sound.{pcOk}
 use Rattle.soundness.proofs.Legible.{pc-rest, section-reads, pc-tests, owed-begun}
 use Rattle.soundness.proofs.records.pc_ok.Statement.{statement}
 use Rattle.soundness.proofs.records.pc_ok.Tie as tie

@@ -7,7 +7,7 @@ use borrow.Author.Needs.{needs}
 use denote.Ref.{now}
 use Rattle.base.proofs.Bools.{denied, granted}
 use Rattle.image.specs.Image.{at}
-use Rattle.plan.specs.Turn.{codeIn}
+use Rattle.log.specs.Log.{codeIn}
 use Rattle.soundness.specs.Sound.{sectionOk}
 use Rattle.soundness.proofs.Legible.{check-long}
 use Rattle.soundness.proofs.records.section_ok.Statement.{statement}

@@ -13,7 +13,7 @@ use Rattle.section.specs.Check.{Code, codeOf, heldBefore, check, passes}
 use Rattle.section.proofs.Facts.{check-cong}
 use Rattle.section.proofs.Held.{held-cong}
 use Rattle.section.proofs.Left.{left-passed}
-use Rattle.plan.specs.Turn.{codeIn}
+use Rattle.log.specs.Log.{codeIn}
 use Rattle.soundness.proofs.records.section_passes.Statement.{statement}
 use Rattle.soundness.proofs.records.section_passes.Tie as tie
 
