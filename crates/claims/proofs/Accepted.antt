@@ -22,7 +22,7 @@ use Rattle.working.specs.Cursor.{idle, on}
 use Rattle.log.specs.Log.{codeIn, activeAddr, activeVal}
 use Rattle.owed.specs.Owed.{targetOf, owedOf, owed, namedStep, namedOp, entryOk}
 use Rattle.soundness.specs.Sound.{sectionOk, pcOk}
-use Rattle.repair.specs.Plan.{targetTurn, resumed}
+use Rattle.resuming.specs.Resumed.{targetTurn, resumed}
 use Rattle.claims.specs.Reference.{Given}
 use Rattle.claims.proofs.Invariant.{opAt, heldAt, Sectioned, logsHeld, Named, Due, Phase, resting, due}
 use Rattle.claims.proofs.LiveCrashed.{owed-none}

@@ -21,7 +21,7 @@ use Rattle.plan.specs.Turn.{Outcome, stored, jumped, unheld, waiting, resting, 
 use Rattle.intake.specs.Submit.{submission}
 use Rattle.working.proofs.Placed.{sayable}
 use Rattle.intake.proofs.Submission.{submission-length}
-use Rattle.repair.specs.Plan.{resumed}
+use Rattle.resuming.specs.Resumed.{resumed}
 use Rattle.claims.specs.Events.{but}
 use Rattle.claims.specs.Calls.{Traced, turnBy}
 use Rattle.claims.proofs.Turns.{Stepped}

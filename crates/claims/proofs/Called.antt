@@ -24,7 +24,8 @@ use Rattle.working.specs.World.{World, world}
 use Rattle.intake.specs.Submit.{submission, free, submitAnswer, isTaken}
 use Rattle.working.proofs.Placed.{idle-is}
 use Rattle.intake.proofs.Submission.{submission-length, accepted as met}
-use Rattle.repair.specs.Plan.{plan, resumedAll}
+use Rattle.resuming.specs.Resumed.{resumedAll}
+use Rattle.repair.specs.Plan.{plan}
 use Rattle.recovery.specs.Recovery.{recovery, accepted}
 use Rattle.owed.specs.Owed.{owed}
 use Rattle.claims.specs.Reference.{Given, given}

@@ -17,7 +17,8 @@ use Rattle.image.specs.Place.{lock, field, Memory}
 use Rattle.image.specs.Image.{Image, at, workers, headerOk}
 use Rattle.owed.specs.Owed.{covers, owed, claimants, ownerOk}
 use Rattle.soundness.specs.Sound.{sectionOk, pcOk, sound, unsound, lockOk, badLock}
-use Rattle.repair.specs.Plan.{plan, resumedAll}
+use Rattle.resuming.specs.Resumed.{resumedAll}
+use Rattle.repair.specs.Plan.{plan}
 use Rattle.recovery.specs.Recovery.{accepted, recovery}
 use Rattle.claims.proofs.Invariant.{Crashed}
 

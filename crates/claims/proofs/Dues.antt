@@ -26,7 +26,7 @@ use Rattle.working.specs.Cursor.{on}
 use Rattle.log.specs.Log.{operand, codeIn, activeVal}
 use Rattle.plan.specs.Turn.{opTurn, turnAt, stored, unheld}
 use Rattle.owed.specs.Owed.{targetOf}
-use Rattle.repair.specs.Plan.{targetTurn}
+use Rattle.resuming.specs.Resumed.{targetTurn}
 use Rattle.claims.specs.Reference.{Given}
 use Rattle.claims.proofs.Invariant.{opAt, heldAt, Sectioned, Named, Due, stay, resting, unlocking, unlocked}
 use Rattle.claims.proofs.Turns.{inRecord, ownWord, ownCell, frees, Stepped}

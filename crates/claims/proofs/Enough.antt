@@ -29,7 +29,8 @@ use Rattle.intake.specs.Submit.{submission, free, submitAnswer, submitLeaves, i
 use Rattle.intake.proofs.Submission.{accepted as met, submission-length}
 use Rattle.recovery.specs.Recovery.{Recovered, accepted, misshapen, byLocks, byRecords, recovery}
 use Rattle.soundness.specs.Sound.{badLock, unsound}
-use Rattle.repair.specs.Plan.{plan, resumedAll}
+use Rattle.resuming.specs.Resumed.{resumedAll}
+use Rattle.repair.specs.Plan.{plan}
 use Rattle.claims.specs.Reference.{given}
 use Rattle.claims.specs.Calls.{Trace, Traced, traced, taking, forgetful, turnBy, turnedAt, refuses, round, rounds, ranBy, submitTrace, recoveredBy}
 use Rattle.claims.specs.Calls.{Call, submits, turns, runs, recovers, call, lent, callable}

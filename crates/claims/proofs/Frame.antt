@@ -27,7 +27,7 @@ use Rattle.code.proofs.Ranges.{expr-range}
 use Rattle.working.specs.Cursor.{Cursor, on}
 use Rattle.log.specs.Log.{operand, codeIn, wordIn, spareAddr, spareVal, activeAddr, activeVal}
 use Rattle.owed.specs.Owed.{targetOf}
-use Rattle.repair.specs.Plan.{targetTurn}
+use Rattle.resuming.specs.Resumed.{targetTurn}
 use Rattle.claims.specs.Reference.{Given}
 use Rattle.claims.proofs.Invariant.{opAt, heldAt, Sectioned, Nearing, Due, Jumps, stay, leap, Phase, resting, fresh, due, unlocking, unlocked, between}
 use Rattle.claims.proofs.Invariant.{ended}

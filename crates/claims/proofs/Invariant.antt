@@ -22,7 +22,7 @@ use Rattle.working.specs.Cursor.{Cursor, idle, on}
 use Rattle.log.specs.Log.{operand, codeIn, wordIn, spareAddr, spareVal, activeAddr, activeVal}
 use Rattle.owed.specs.Owed.{targetOf, namedStep}
 use Rattle.soundness.specs.Sound.{sound, lockOk}
-use Rattle.repair.specs.Plan.{targetTurn}
+use Rattle.resuming.specs.Resumed.{targetTurn}
 use Rattle.claims.specs.Reference.{Given, Job, State}
 use Rattle.claims.proofs.Virtual.{virtual}
 

@@ -22,7 +22,7 @@ use Rattle.log.specs.Log.{operand, wordIn, spareAddr, spareVal, activeVal, swit
 use Rattle.plan.specs.Turn.{Outcome, stored, jumped, unheld, waiting, resting, refused, logged}
 use Rattle.plan.specs.Turn.{lockTurn, unlockTurn, acquireTurn, releaseTurn, finishTurn, turnAt}
 use Rattle.owed.specs.Owed.{targetOf}
-use Rattle.repair.specs.Plan.{targetTurn}
+use Rattle.resuming.specs.Resumed.{targetTurn}
 use Rattle.claims.specs.Reference.{Given, Job, State, follow, enqueue, initial}
 use Rattle.claims.specs.Calls.{isPc}
 use Rattle.claims.proofs.Invariant.{opAt, heldAt, Sectioned, logsHeld, Nearing, Jumps, Lodged, Phase, resting as rests, fresh, due, unlocking, unlocked}

@@ -28,7 +28,7 @@ use Rattle.working.specs.Cursor.{on}
 use Rattle.log.specs.Log.{operand, codeIn, wordIn, spareAddr, spareVal, switched}
 use Rattle.plan.specs.Turn.{opTurn, turnAt, stored, waiting}
 use Rattle.owed.specs.Owed.{targetOf}
-use Rattle.repair.specs.Plan.{targetTurn}
+use Rattle.resuming.specs.Resumed.{targetTurn}
 use Rattle.claims.specs.Reference.{Given}
 use Rattle.claims.proofs.Invariant.{opAt, heldAt, Sectioned, logsHeld, Named, Nearing, Due, leap, Phase, due, ended}
 use Rattle.claims.proofs.Turns.{inRecord, takes, Stepped}

@@ -18,7 +18,7 @@ use Rattle.working.specs.declared.Refusal.the-variants.{Cursor as CursorRefused
 use Rattle.log.specs.Log.{operand, codeIn}
 use Rattle.plan.specs.Turn.{Outcome, stored, jumped, unheld, waiting, resting, refused, logged, lockTurn, unlockTurn, acquireTurn, releaseTurn}
 use Rattle.plan.specs.Turn.{finishTurn, opTurn, ready, turnAt}
-use Rattle.repair.specs.Plan.{targetTurn}
+use Rattle.resuming.specs.Resumed.{targetTurn}
 use Rattle.claims.specs.Reference.{Given}
 use Rattle.claims.specs.Calls.{isPc}
 use Rattle.claims.proofs.Invariant.{opAt, Sectioned, Nearing, Phase, resting as rests, fresh, due, unlocking, unlocked, between, ended}

@@ -19,7 +19,8 @@ use Rattle.image.specs.declared.Field.the-variants.{Count, Pc, Intent}
 use Rattle.image.specs.Place.{Place, lock, field, Memory}
 use Rattle.image.specs.inner.Same.{same, updAll}
 use Rattle.image.proofs.Lists.{allValid}
-use Rattle.repair.specs.Plan.{_≔_, rows, unbegun, intended, intend, withdraw, relock, relocks, unlock, plan, resumed}
+use Rattle.resuming.specs.Resumed.{resumed}
+use Rattle.repair.specs.Plan.{_≔_, rows, unbegun, intended, intend, withdraw, relock, relocks, unlock, plan}
 use Rattle.owed.specs.Owed.{owed}
 use Rattle.claims.specs.Reference.{Given}
 use Rattle.claims.proofs.Invariant.{Phase, Live, Crashed}

@@ -13,7 +13,7 @@ use Rattle.section.proofs.Held.{held-cong}
 use Rattle.log.specs.Log.{codeIn, activeAddr, activeVal}
 use Rattle.owed.specs.Owed.{owed, namedStep, namedOp, entryOk}
 use Rattle.soundness.specs.Sound.{sectionOk, pcOk}
-use Rattle.repair.specs.Plan.{resumed}
+use Rattle.resuming.specs.Resumed.{resumed}
 use Rattle.claims.proofs.Fields.{active-addr-kept, active-val-kept}
 use Rattle.claims.proofs.Entries.{named-cong}
 

@@ -25,7 +25,7 @@ use Rattle.working.proofs.Placed.{Full, sayable}
 use Rattle.repair.specs.Plan.{rows, unbegun, intended, intend, withdraw, relock, relocks, unlock, plan}
 use Rattle.owed.specs.Owed.{owed}
 use Rattle.owed.specs.Owed.{namedStep, namedOp}
-use Rattle.repair.specs.Plan.{targetTurn, resumed, resumedAt, resumedAll}
+use Rattle.resuming.specs.Resumed.{targetTurn, resumed, resumedAt, resumedAll}
 use Rattle.soundness.proofs.Sets.{eight-at}
 use Rattle.claims.specs.Reference.{Given}
 use Rattle.claims.proofs.Invariant.{Live, Crashed}

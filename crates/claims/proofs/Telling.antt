@@ -19,7 +19,7 @@ use Rattle.image.proofs.Places.{upd-same}
 use Rattle.intake.specs.declared.Submitted.the-variants.{Taken}
 use Rattle.working.specs.Cursor.{Cursor, on, cursorAt}
 use Rattle.plan.specs.Turn.{Outcome, stored, jumped, unheld, waiting, resting, refused}
-use Rattle.repair.specs.Plan.{resumed}
+use Rattle.resuming.specs.Resumed.{resumed}
 use Rattle.claims.specs.Reference.{Given}
 use Rattle.claims.specs.Events.{but}
 use Rattle.claims.specs.Calls.{Traced, isPc, turnBy, recording, submits, Move, whole}

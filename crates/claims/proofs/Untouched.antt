@@ -29,7 +29,7 @@ use Rattle.intake.specs.Submit.{assigns, submission, submitAnswer, submitLeaves
 use Rattle.repair.specs.Plan.{_≔_, when, rows, unbegun, intended, intend, withdraw, relock, relocks, unlock, plan}
 use Rattle.owed.specs.Owed.{owed}
 use Rattle.recovery.specs.Recovery.{Recovered, accepted, misshapen, unsoundRecord, wrongLock, byLocks, byRecords, recovery}
-use Rattle.repair.specs.Plan.{resumedAll}
+use Rattle.resuming.specs.Resumed.{resumedAll}
 use Rattle.soundness.specs.Sound.{badLock, unsound}
 use Rattle.claims.specs.Calls.{Traced, turnedAt, refuses, recoveredBy, Call, submits, turns, runs, recovers}
 use Rattle.claims.specs.Calls.{Move, whole, cut, call, lent, move, recovering, from, legal, callable, machine}

@@ -21,8 +21,10 @@ use Rattle.formatting.specs.Format.{formatted}
 use Rattle.intake.specs.Submit.{assigns, submission, free, submitAnswer}
 use Rattle.owed.specs.Owed.{covers, namedStep, namedOp, owed, claimants}
 use Rattle.soundness.specs.Sound.{sectionOk, pcOk, sound, unsound, lockOk, badLock}
-use Rattle.repair.specs.Plan.{resumed, intended}
-use Rattle.repair.specs.Plan.{rows, intend, withdraw, relocks, unlock, plan, resumedAll}
+use Rattle.resuming.specs.Resumed.{resumed}
+use Rattle.repair.specs.Plan.{intended}
+use Rattle.resuming.specs.Resumed.{resumedAll}
+use Rattle.repair.specs.Plan.{rows, intend, withdraw, relocks, unlock, plan}
 use Rattle.recovery.specs.Recovery.{recovery}
 use Rattle.claims.specs.Calls.{Traced, traced, forgetful, submits, turns, recovers, whole, cut, call, move}
 use Rattle.intake.specs.declared.Submitted.{Submitted}

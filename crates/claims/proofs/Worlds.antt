@@ -21,7 +21,7 @@ use Rattle.working.specs.Cursor.{Cursor, cursorAt, placed}
 use Rattle.plan.specs.Turn.{Outcome, stored, jumped, unheld, waiting, resting as rests, refused, turnAt}
 use Rattle.turn.specs.Call.{leaves}
 use Rattle.working.proofs.Placed.{Full, sayable}
-use Rattle.repair.specs.Plan.{targetTurn}
+use Rattle.resuming.specs.Resumed.{targetTurn}
 use Rattle.claims.specs.Reference.{Given, State, follow, initial}
 use Rattle.claims.specs.Events.{but}
 use Rattle.claims.specs.Calls.{Traced, recording, isPc, turnTrace, turnBy}

@@ -19,7 +19,7 @@ use Rattle.plan.specs.Turn.{Outcome, stored, jumped, unheld, waiting, resting a
 use Rattle.log.specs.Log.{switched}
 use Rattle.plan.specs.Turn.{logged, lockTurn, unlockTurn, opTurn, turnAt}
 use Rattle.owed.specs.Owed.{namedStep}
-use Rattle.repair.specs.Plan.{targetTurn}
+use Rattle.resuming.specs.Resumed.{targetTurn}
 use Rattle.claims.specs.Reference.{Given}
 use Rattle.claims.proofs.Invariant.{opAt, heldAt, Sectioned, Named, Nearing, Due, Jumps, stay, leap, Lodged}
 use Rattle.claims.proofs.Invariant.{Phase, resting, fresh, due, unlocking, unlocked, between, ended}

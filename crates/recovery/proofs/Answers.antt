@@ -15,7 +15,8 @@ use Rattle.working.specs.declared.Cursors.{Cursors}
 use Rattle.working.specs.Cursor.{allIdle}
 use Rattle.soundness.specs.declared.Refusal.the-variants.{Image as ImageRefused}
 use Rattle.soundness.specs.declared.Answer.the-variants.{Refused}
-use Rattle.repair.specs.Plan.{rows, plan, resumedAll}
+use Rattle.resuming.specs.Resumed.{resumedAll}
+use Rattle.repair.specs.Plan.{rows, plan}
 use Rattle.soundness.specs.Sound.{unsound, badLock}
 use Rattle.recovery.specs.Recovery.{byLocks, byRecords, recovery}
 use Rattle.recovery.specs.Recovery.{Recovered, accepted, misshapen, unsoundRecord, wrongLock}

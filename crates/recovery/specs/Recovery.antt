@@ -6,7 +6,8 @@ use Rattle.image.specs.Place.{Store}
 use Rattle.image.specs.Image.{Image, at, workers, headerOk}
 use Rattle.working.specs.declared.Cursors.{Cursors}
 use Rattle.soundness.specs.Sound.{unsound, badLock}
-use Rattle.repair.specs.Plan.{plan, resumedAll}
+use Rattle.resuming.specs.Resumed.{resumedAll}
+use Rattle.repair.specs.Plan.{plan}
 
 -- what a recovery answers: its stores and cursors, or the refusal (10; 12 by worker; 13 by lowest lock)
 pub data Recovered : Type 0 where

@@ -77,7 +77,7 @@ fn planned(image: &[u64], mark: u64, own: usize) -> Restored
     let sets = j.owed;
     Restored {
         answer: a,
-        cursors: repair::resuming::resumed_all(image, own),
+        cursors: resuming::resumed_all(image, own),
         repair: repair::stock::repair(image, sets, own),
     }
 }

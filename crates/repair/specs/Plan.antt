@@ -1,17 +1,12 @@
--- The stores of an accepted recovery, in order, and where the workers go on.
+-- The stores of an accepted recovery, in order.
 use Prim.Native.Nat.{ℕ, suc, zero, _+_}
 use mathlib.Core.List.{List, [], _∷_, _++_}
 use mathlib.Core.Bool.{Bool, false, cond, _&&_, _||_, not}
-use lib.Dec.{ltb, eqb}
+use lib.Dec.{eqb}
 use Rattle.mask.specs.Mask.{has}
 use Rattle.image.specs.declared.Field.the-variants.{Count, Pc, Intent}
 use Rattle.image.specs.Place.{Place, lock, field, Memory, Store}
-use Rattle.code.specs.declared.Op.{Op}
-use Rattle.code.specs.declared.Op.the-variants.{Acquire, Release, Assign, Jump, Finish, Unknown}
-use Rattle.working.specs.declared.Cursors.{Cursors}
-use Rattle.working.specs.Cursor.{Cursor, idle, on, stepNo, turnNo}
-use Rattle.owed.specs.Owed.{namedStep, namedOp, owed}
-use Rattle.soundness.specs.Sound.{eight}
+use Rattle.owed.specs.Owed.{owed}
 
 infixl 60 _≔_
 abbrev pub _≔_ : Place → ℕ → Store
@@ -25,15 +20,6 @@ when t s = cond t (s ∷ []) []
 unfoldable pub rows : (ℕ → List Store) → ℕ → ℕ → List Store
 rows f i zero = []
 rows f i (suc k) = f i ++ rows f (i + 1) k
-
--- the turn of an instruction's logged store; of the others the first is named
-abbrev pub targetTurn : Op → ℕ
-targetTurn (Acquire a) = 5
-targetTurn (Release a) = 3
-targetTurn (Assign a e) = 3
-targetTurn (Jump a b) = 0
-targetTurn Finish = 0
-targetTurn Unknown = 0
 
 -- worker d has a section that is not begun
 abbrev pub unbegun : Memory → ℕ → Bool
@@ -68,14 +54,3 @@ module _ (n : ℕ) (rd : Memory) where
   -- the stores of an accepted recovery of D workers, in order
   unfoldable pub plan : ℕ → List Store
   plan D = rows (unlock D) 0 64 ++ (rows intend 0 D ++ (rows withdraw 0 D ++ rows relocks 0 D))
-
-  -- where worker d goes on
-  unfoldable pub resumed : ℕ → Cursor
-  resumed d = cond (eqb (rd (field Pc d)) 0) idle (on (namedStep n rd d) (targetTurn (namedOp n rd d)))
-
-  -- the cursors after it: the begun go on, all others are idle
-  abbrev pub resumedAt : ℕ → ℕ → Cursor
-  resumedAt D d = cond (ltb d D) (resumed d) idle
-
-  unfoldable pub resumedAll : ℕ → Cursors
-  resumedAll D = record { step = eight (λ d. stepNo (resumedAt D d)); turn = eight (λ d. turnNo (resumedAt D d)) }

@@ -1,6 +1,5 @@
 // What an accepted recovery does: its stores in their order, worked out before the first of them, so that a caller can look at them one slot
-// after the other; and where the workers go on.
-pub mod resuming;
+// after the other.
 pub mod stock;
 pub mod storing;
 

@@ -1,4 +1,4 @@
--- `repair::resuming::resumed_all` meets its contract. The loop's invariant: the first d elements of both arrays are the
+-- `resuming::resumed_all` meets its contract. The loop's invariant: the first d elements of both arrays are the
 -- definition's.
 use Prim.Native.Nat.{ℕ, _-_, _≤_, _<_}
 use mathlib.Core.Path.{_≡_, refl, _∙_}
@@ -8,10 +8,10 @@ use lib.ListN.{length, getD, length-set}
 use Rattle.base.proofs.Filling.{filled-next}
 use Rattle.image.specs.Image.{at, workers}
 use Rattle.working.specs.Cursor.{stepNo, turnNo}
-use Rattle.repair.specs.Plan.{resumedAt, resumedAll}
+use Rattle.resuming.specs.Resumed.{resumedAt, resumedAll}
 use Rattle.soundness.proofs.Sets.{eight-is}
-use Rattle.repair.proofs.resuming.resumed_all.Statement.{statement}
-use Rattle.repair.proofs.resuming.resumed_all.Tie as tie
+use Rattle.resuming.proofs.resumed_all.Statement.{statement}
+use Rattle.resuming.proofs.resumed_all.Tie as tie
 
 abbrev Inv-loop : tie.InvT-loop
 Inv-loop image own step₀ turn₀ d₀ step turn d =

@@ -1,4 +1,4 @@
--- `repair::resuming::resumed_turn` meets its contract: idle where the pc is 0, else the turn of the named instruction's
+-- `resuming::resumed_turn` meets its contract: idle where the pc is 0, else the turn of the named instruction's
 -- target store.
 use borrow.Author.Tests.{eq-eqb, ne-eqb}
 use borrow.Author.Needs.{needs}
@@ -6,10 +6,10 @@ use native.Mathlib.Omega.{arith}
 use denote.Ref.{now}
 use Rattle.image.specs.Image.{at}
 use Rattle.owed.specs.Owed.{namedStep, namedOp}
-use Rattle.repair.specs.Plan.{resumed}
+use Rattle.resuming.specs.Resumed.{resumed}
 use Rattle.soundness.proofs.Legible.{pc-low}
-use Rattle.repair.proofs.resuming.resumed_turn.Statement.{statement}
-use Rattle.repair.proofs.resuming.resumed_turn.Tie as tie
+use Rattle.resuming.proofs.resumed_turn.Statement.{statement}
+use Rattle.resuming.proofs.resumed_turn.Tie as tie
 
 read-field-requires : tie.Need-read-field-requires
 read-field-requires c κs = search needs

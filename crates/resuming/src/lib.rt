@@ -7,7 +7,7 @@ ghost use mathlib.Core.Path.{_≡_};
 ghost use Rattle.image.specs.Image.{at, workers};
 ghost use Rattle.image.specs.inner.Inside.{Inside};
 ghost use Rattle.working.specs.Cursor.{stepNo, turnNo};
-ghost use Rattle.repair.specs.Plan.{targetTurn, resumed, resumedAt, resumedAll};
+ghost use Rattle.resuming.specs.Resumed.{targetTurn, resumed, resumedAt, resumedAll};
 ghost use Rattle.soundness.specs.inner.Reading.{Legible, Restorable};
 
 // The step at which worker d goes on.

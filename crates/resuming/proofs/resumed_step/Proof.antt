@@ -1,14 +1,14 @@
--- `repair::resuming::resumed_step` meets its contract: step 0 where the pc is 0, else the step that it names.
+-- `resuming::resumed_step` meets its contract: step 0 where the pc is 0, else the step that it names.
 use borrow.Author.Tests.{eq-eqb, ne-eqb}
 use borrow.Author.Needs.{needs}
 use native.Mathlib.Omega.{arith}
 use denote.Ref.{now}
 use Rattle.image.specs.Image.{at}
 use Rattle.owed.specs.Owed.{namedStep}
-use Rattle.repair.specs.Plan.{resumed}
+use Rattle.resuming.specs.Resumed.{resumed}
 use Rattle.soundness.proofs.Legible.{pc-low}
-use Rattle.repair.proofs.resuming.resumed_step.Statement.{statement}
-use Rattle.repair.proofs.resuming.resumed_step.Tie as tie
+use Rattle.resuming.proofs.resumed_step.Statement.{statement}
+use Rattle.resuming.proofs.resumed_step.Tie as tie
 
 read-field-requires : tie.Need-read-field-requires
 read-field-requires c κs = search needs
