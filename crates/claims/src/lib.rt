@@ -1,1 +1,1 @@
-// The claims of demands 2 and 3 as statements in specs/ and theorems in proofs/; no code.
+// Demand 3, and the first half of demand 2, as statements in specs/ and theorems in proofs/; no code.

@@ -1,0 +1,79 @@
+-- The user's demands 2 and 3, at the edition that the entry points serve, and what a planner may be told by them.
+use native.Mathlib.Omega.{arith}
+use Rattle.edition.specs.Edition.{mark, ownWords}
+use Rattle.claims.specs.Claims.{FormattedRests, DurableAlways, Linearizable, RunsAreTurns, EveryOrderHad}
+use Rattle.told.specs.Once.{OnceAlways, ToldAlways, AskedAlways, BegunFinishes, ThroughAlways, RetriedAlways, ExactlyOnce}
+use Rattle.told.specs.Moments.{UntouchedAlways}
+use Rattle.told.specs.Enough.{EnoughIsWhole}
+use Rattle.claims.proofs.Durable.{durable-always, formatted-rests}
+use Rattle.claims.proofs.Linear.{linearizable}
+use Rattle.told.proofs.RunTurns as run-turns
+use Rattle.told.proofs.EveryOrder.{every-order-had}
+use Rattle.told.proofs.Untouched.{untouched-always}
+use Rattle.told.proofs.Enough.{enough-is-whole}
+use Rattle.told.proofs.Once.{admitted-always, once-always, told-always, asked-always}
+use Rattle.told.proofs.Finishes.{begun-finishes}
+use Rattle.told.proofs.Through.{through-always}
+use Rattle.told.proofs.Retry.{retried-always, exactly-once}
+
+-- a finished formatting leaves an image at rest, from which the others start
+pub formatting-rests : FormattedRests mark ownWords
+formatting-rests = formatted-rests mark ownWords
+
+-- ---- demand 2
+
+-- what the calls leave is what the reference machine gives in some order
+pub orders-kept : Linearizable mark ownWords
+orders-kept = linearizable mark ownWords (omega arith) (omega arith)
+
+-- every order that the reference machine allows is had
+pub orders-had : EveryOrderHad mark ownWords
+orders-had = every-order-had mark ownWords (omega arith) (omega arith)
+
+-- a run is turns
+pub runs-are-turns : RunsAreTurns mark ownWords
+runs-are-turns = run-turns.runs-are-turns mark ownWords
+
+-- ---- demand 3
+
+-- whatever is called and cut, nothing is refused that should not be, and every section begun is carried to its end once
+pub sections-kept : DurableAlways mark ownWords
+sections-kept = durable-always mark ownWords (omega arith) (omega arith) (admitted-always mark ownWords (omega arith) (omega arith))
+
+-- a cell changes only by a worker whose section is begun and that has the cell's lock, at any moment
+pub cells-guarded : UntouchedAlways mark ownWords
+cells-guarded = untouched-always mark ownWords (omega arith) (omega arith)
+
+-- an uncut call may be lent any number of stores that suffices
+pub enough-stores : EnoughIsWhole mark ownWords
+enough-stores = enough-is-whole mark ownWords (omega arith) (omega arith)
+
+-- ---- what a planner may be told
+
+-- each section taken is begun at most once, under rising numbers
+pub begun-once : OnceAlways mark ownWords
+begun-once = once-always mark ownWords (omega arith) (omega arith)
+
+-- a worker's record tells the last of them
+pub records-tell : ToldAlways mark ownWords
+records-tell = told-always mark ownWords (omega arith) (omega arith)
+
+-- and so do the answers about a number
+pub answers-tell : AskedAlways mark ownWords
+answers-tell = asked-always mark ownWords (omega arith) (omega arith)
+
+-- what is begun will be told to be finished
+pub begun-ends : BegunFinishes mark ownWords
+begun-ends = begun-finishes mark ownWords (omega arith) (omega arith)
+
+-- what is taken and not cut off is begun and finished
+pub taken-ends : ThroughAlways mark ownWords
+taken-ends = through-always mark ownWords (omega arith) (omega arith)
+
+-- with numbers one after the other, finished means begun
+pub numbers-follow : RetriedAlways mark ownWords
+numbers-follow = retried-always mark ownWords (omega arith) (omega arith)
+
+-- a section handed in until the answer is 3 is begun once
+pub handed-once : ExactlyOnce mark ownWords
+handed-once = exactly-once mark ownWords (omega arith) (omega arith)
