@@ -23,7 +23,7 @@ fn play_from(names: &[u8], from: usize) -> usize
 {
     let to = names.len();
     let left = &names[from..];
-    let end = from + day::line_end(left);
+    let end = from + buffers::line_end(left);
     play(&names[from..end]);
     if end < to { end + 1 } else { to }
 }

@@ -18,7 +18,7 @@ use Rattle.working.specs.Cursor.{idle, cursorAt}
 use Rattle.plan.specs.Turn.{Outcome, stored, jumped, unheld, waiting, resting, refused, turnAt}
 use Rattle.working.specs.World.{World}
 use Rattle.turn.specs.Call.{answerOf, outcomeAt, outcome}
-use Rattle.run.specs.Run.{anyOpen, Counting, counting, Ran, ran, Sweep, turned, swept, sweep, afterSweep, roundsOf, runOf}
+use Rattle.run.specs.Run.{anyOpen, Counting, counting, Course, ran, Sweep, turned, swept, sweep, afterSweep, roundsOf, runOf}
 use Rattle.working.proofs.Placed.{idle-is}
 use Rattle.claims.specs.Calls.{Traced, turnedAt, refuses, round, rounds, runs, whole, call, lent, move}
 use Rattle.claims.specs.Claims.{isHalted, runEnd}
@@ -72,7 +72,7 @@ module _ (mark n : ℕ) where
   module _ (D : ℕ) (cells : List ℕ) where
     -- a round, and what follows it
     round-end :
-        (rest : Traced → Traced) (more : Counting → Ran)
+        (rest : Traced → Traced) (more : Counting → Course)
         → ((v : Traced) (t : Tally) → Spare mark n D cells v → more (counting (v .world) t) .end ≡ cond (anyOpen D 0 (rest v .world .cursors)) Spent AllIdle)
         → (k d : ℕ) (w : Traced) (t : Tally) → d + k ≤ D → Spare mark n D cells w
         → afterSweep n more (sweep n k d (counting (w .world) t)) .end ≡ cond (anyOpen D 0 (round mark n rest w d k .world .cursors)) Spent AllIdle
@@ -116,5 +116,5 @@ module _ (mark n : ℕ) where
     unfolding move call
     run-end r w h =
         let v = lent mark n (plenty mark n D cells) w in
-        ap (λ (x : Ran). x .end) (run-rounds r (v .world) (h .reached .header) (h .reached .many))
+        ap (λ (x : Course). x .end) (run-rounds r (v .world) (h .reached .header) (h .reached .many))
         ∙ rw (ran-is mark n D cells v r (h .reached)) (end-agrees r v none (spare-lent mark n D cells w (plenty mark n D cells) h (omega arith)))

@@ -13,12 +13,14 @@ use Rattle.base.proofs.Bools.{and-right}
 use Rattle.lines.specs.declared.Job.{Job}
 use Rattle.lines.specs.declared.Job.the-variants.{Turns, Stores, Next, Stop}
 use Rattle.lines.specs.Play.{Stage}
-use Rattle.day.specs.Input.{lineOf, restOf, complete, completeAt}
-use Rattle.day.specs.Pieces.{ended, lineOn, Point, point, dawn, readyFor, ready, pieceFor, piece, bytesOf, advance, piecesLeft}
+use Rattle.buffers.specs.Input.{lineOf, restOf, complete, completeAt}
+use Rattle.buffers.specs.Output.{bytesOf}
+use Rattle.stages.specs.Begun.{ended, lineOn}
+use Rattle.pieces.specs.Pieces.{Point, point, dawn, readyFor, ready, pieceFor, piece, advance, piecesLeft}
 use Rattle.day.specs.Days.{rest, dayOf, Feed, feeds, bytesIn, Honest}
-use Rattle.day.proofs.Advances.{printedBy, rests, goes}
+use Rattle.pieces.proofs.Advances.{printedBy, rests, goes}
 use Rattle.day.proofs.Drains.{rest-none, rest-goes}
-use Rattle.day.proofs.Longer.{line-stays, rest-stays, complete-stays, line-grows, complete-long, long-first, long-frame}
+use Rattle.buffers.proofs.Longer.{line-stays, rest-stays, complete-stays, line-grows, complete-long, long-first, long-frame}
 
 -- ---- a line over 4,096 bytes
 

@@ -4,10 +4,10 @@ use mathlib.Core.Path.{_≡_, refl, sym, ap, _∙_}
 use mathlib.Core.Bool.{Bool, true, false}
 use mathlib.Core.List.{List, [], _++_}
 use native.Mathlib.Omega.{arith}
-use Rattle.day.specs.Pieces.{Point, ready, piece, piecesLeft}
+use Rattle.pieces.specs.Pieces.{Point, ready, piece, piecesLeft}
 use Rattle.day.specs.Days.{drain, rest}
-use Rattle.day.proofs.Weights.{piece-less}
-use Rattle.day.proofs.Advances.{printedBy}
+use Rattle.pieces.proofs.Weights.{piece-less}
+use Rattle.pieces.proofs.Advances.{printedBy}
 
 -- no piece is made
 drain-rests : (f : ℕ) (q : Point) → ready false q ≡ false → drain f q ≡ []

@@ -13,11 +13,11 @@ use Rattle.lines.specs.declared.Job.{Job}
 use Rattle.lines.specs.declared.Job.the-variants.{Turns, Stores, Next, Stop}
 use Rattle.day.specs.declared.Want.{Want}
 use Rattle.day.specs.declared.Want.the-variants.{Room, Nothing}
-use Rattle.day.specs.Pieces.{Point, readyFor, ready, piece, Progress, progress, after, advance, piecesLeft, whole}
+use Rattle.pieces.specs.Pieces.{Point, readyFor, ready, piece, Progress, progress, after, advance, piecesLeft, whole}
 use Rattle.day.specs.Wants.{inputFor, wantOf}
 use Rattle.day.specs.Days.{rest}
-use Rattle.day.proofs.Weights.{piece-less}
-use Rattle.day.proofs.Advances.{printedBy, rests, goes}
+use Rattle.pieces.proofs.Weights.{piece-less}
+use Rattle.pieces.proofs.Advances.{printedBy, rests, goes}
 use Rattle.day.proofs.Drains.{rest-none}
 
 -- no piece follows what was put out

@@ -8,14 +8,19 @@ use native.Mathlib.Omega.{arith}
 use borrow.Author.Tests.{lt-leb, le-leb}
 use lib.ListN.{length, take, drop}
 use lib.Seq.{length-take-le}
-use Rattle.day.specs.declared.Day.{Day}
-use Rattle.day.specs.declared.Piece.{Piece}
+use Rattle.stages.specs.declared.Day.{Day}
+use Rattle.pieces.specs.declared.Piece.{Piece}
+use Rattle.pieces.specs.declared.Run.{Run}
 use Rattle.day.specs.declared.Stretch.{Stretch}
-use Rattle.day.specs.Pieces.{Point, ready, piece, bytesOf, after, piecesLeft, whole}
-use Rattle.day.specs.Core.{pointOf, Buffered, Pieced, Puts, Advanced}
-use Rattle.day.proofs.Buffers.{same-buffered, buffered-then, behind-later}
-use Rattle.day.proofs.Weights.{piece-less, piece-none}
-use Rattle.day.proofs.Advances.{loop-next, loop-over}
+use Rattle.buffers.specs.Output.{bytesOf}
+use Rattle.pieces.specs.Pieces.{Point, ready, piece, after, piecesLeft, whole}
+use Rattle.buffers.specs.Output.{Puts}
+use Rattle.stages.specs.Buffer.{Buffered}
+use Rattle.pieces.specs.Pieced.{pointOf, Pieced, RunsOn}
+use Rattle.day.specs.Core.{Advanced}
+use Rattle.stages.proofs.Buffers.{same-buffered, buffered-then, behind-later}
+use Rattle.pieces.proofs.Weights.{piece-less, piece-none}
+use Rattle.pieces.proofs.Advances.{loop-next, loop-over}
 
 -- m, o and d are the image's buffer, the output's and the day at the start, k, u and s now; of the input l so much is taken
 pub record Going (m k l o u : List ℕ) (more : Bool) (d s : Day) (taken used : ℕ) : Type 0 where
@@ -98,3 +103,16 @@ module _ (m l o : List ℕ) (more : Bool) (d : Day) where
                   ap (λ (y : Point). after (take to v) (whole more (length v - to) y)) (p .point)
                   ∙ loop-next more q u used _ (g .so) v to (rw same at b) x h (sym (p .done) ∙ e);
             }
+
+-- a line gone on with in the loop
+pub going-runs : (m k j l o u v : List ℕ) (more : Bool) (d s : Day) (taken used : ℕ) (r : Run) → Going m k l o u more d s taken used
+    → RunsOn k j u v used s r → length j ≡ length k → length v ≡ length u → Going m j l o v more d (r .day) taken (r .used)
+going-runs m k j l o u v more d s taken used r g t w x = record {
+  words = w ∙ g .words;
+  bytes = x ∙ g .bytes;
+  inside = g .inside;
+  room = t .room;
+  keeps = buffered-then m k j (d .words) (s .words) (r .day .words) (g .keeps) (t .keeps);
+  behind = t .behind ∙ behind-later u o used (r .used) (t .from) (g .behind);
+  so = t .so more (drop taken l) ∙ g .so;
+}

@@ -1,13 +1,5 @@
-pub mod Words
-pub mod Lines
-pub mod Buffers
-pub mod Parts
-pub mod Weights
-pub mod Advances
 pub mod Going
-pub mod Runs
 pub mod Drains
-pub mod Longer
 pub mod Anyhow
 pub mod Ends
 pub mod Printout

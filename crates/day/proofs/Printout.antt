@@ -29,33 +29,17 @@ use Rattle.lines.specs.declared.Played.{Played}
 use Rattle.lines.specs.Play.{Stage, stage, played, uncut, goesOn, turnStage, slotStage, recovered, beginFrame, goOn, goOnJob}
 use Rattle.lines.specs.Whole.{Output, output, shown, pieces, storesLine}
 use Rattle.lines.proofs.Whole.{next-rests, turns-whole, recovery-whole}
-use Rattle.day.specs.Input.{lineOf, restOf, linesOf, ontoFirst, complete, completeAt}
-use Rattle.day.specs.Pieces.{fresh, ended, formatStage, opened, lineOn, Point, point, dawn, ready, piece, bytesOf, jobPieces, isGoing}
+use Rattle.buffers.specs.Input.{lineOf, restOf, linesOf, complete, completeAt}
+use Rattle.buffers.specs.Output.{bytesOf}
+use Rattle.stages.specs.Begun.{fresh, ended, formatStage, opened, lineOn}
+use Rattle.pieces.specs.Pieces.{Point, point, dawn, ready, piece, jobPieces, isGoing}
 use Rattle.day.specs.Days.{rest, dayOf, Feed, feeds, bytesIn, Honest}
 use Rattle.day.specs.Printout.{Following, then, lineWhole, firstWhole, linesWhole, texts, printout}
-use Rattle.day.proofs.Lines.{rest-less}
-use Rattle.day.proofs.Longer.{complete-long}
+use Rattle.buffers.proofs.Lines.{rest-less, lines-first}
+use Rattle.buffers.proofs.Longer.{complete-long}
 use Rattle.day.proofs.Drains.{rest-none, rest-goes}
-use Rattle.day.proofs.Runs.{on-ready, on-piece, on-less}
+use Rattle.pieces.proofs.Runs.{on-ready, on-piece, on-less}
 use Rattle.day.proofs.Anyhow.{stopped, day-anyhow}
-
--- ---- the lines of an input
-
-lines-first : (b : ℕ) (bs : List ℕ) → linesOf (b ∷ bs) ≡ lineOf (b ∷ bs) ∷ linesOf (restOf (b ∷ bs))
-unfolding linesOf lineOf restOf
-lines-first b [] = by (eqb b 10) refl
-  where
-    by : (t : Bool) → eqb b 10 ≡ t → linesOf (b ∷ []) ≡ lineOf (b ∷ []) ∷ linesOf (restOf (b ∷ []))
-    by true e = rw e
-    by false e = rw e
-lines-first b (d ∷ ds) = by (eqb b 10) refl (lines-first d ds)
-  where
-    by : (t : Bool) → eqb b 10 ≡ t → linesOf (d ∷ ds) ≡ lineOf (d ∷ ds) ∷ linesOf (restOf (d ∷ ds))
-        → linesOf (b ∷ d ∷ ds) ≡ lineOf (b ∷ d ∷ ds) ∷ linesOf (restOf (b ∷ d ∷ ds))
-    by true e more = rw e
-    by false e more =
-        let k : suc (length (lineOf (d ∷ ds))) + 1 ≡ suc (length (lineOf (d ∷ ds)) + 1) = omega arith in
-        rw (e, k) (ap (ontoFirst b) more)
 
 -- ---- bytes
 

@@ -4,7 +4,8 @@ use Prim.Native.Nat.{ℕ, zero, suc}
 use mathlib.Core.Path.{_≡_}
 use mathlib.Core.List.{List, [], _∷_, _++_}
 use mathlib.Core.Bool.{Bool, false, cond}
-use Rattle.day.specs.Pieces.{Point, point, dawn, ready, piece, bytesOf, Progress, progress, after, whole, piecesLeft}
+use Rattle.buffers.specs.Output.{bytesOf}
+use Rattle.pieces.specs.Pieces.{Point, point, dawn, ready, piece, Progress, progress, after, whole, piecesLeft}
 
 -- ---- without buffers
 

@@ -1,5 +1,3 @@
-pub mod Input
-pub mod Pieces
 pub mod Core
 pub mod Wants
 pub mod Days

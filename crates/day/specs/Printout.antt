@@ -24,8 +24,8 @@ use Rattle.frames.specs.Print.{malformed, refusal}
 use Rattle.lines.specs.Play.{Stage, submitStage}
 use Rattle.lines.specs.Answers.{recoverPrints}
 use Rattle.lines.specs.Whole.{Output, output, shown, turnsLine, storesLine}
-use Rattle.day.specs.Input.{linesOf}
-use Rattle.day.specs.Pieces.{bytesOf}
+use Rattle.buffers.specs.Input.{linesOf}
+use Rattle.buffers.specs.Output.{bytesOf}
 
 -- the lines that follow, by the image and the cursors that they find
 abbrev pub Following : Type 0

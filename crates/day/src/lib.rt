@@ -1,40 +1,14 @@
 // A day of frame lines, without input and output of its own: the complete lines of an input buffer are played on an image buffer, and
 // what they print is put into an output buffer. Whoever calls it reads, writes and calls again.
 use lines::Job;
-use lines::Played;
-
-mod input;
-mod playing;
-mod printing;
-
-pub use input::line_end;
-pub use playing::dawn;
+use stages::Day;
 ghost use mathlib.Core.Path.{_≡_};
 ghost use lib.ListN.{length};
-ghost use Rattle.day.specs.Pieces.{whole};
-ghost use Rattle.day.specs.Core.{pointOf, Holds, Advanced};
+ghost use Rattle.stages.specs.Buffer.{Holds};
+ghost use Rattle.pieces.specs.Pieces.{whole};
+ghost use Rattle.pieces.specs.Pieced.{pointOf};
+ghost use Rattle.day.specs.Core.{Advanced};
 ghost use Rattle.day.specs.Wants.{wantOf};
-
-// Where a day stands.
-pub struct Day {
-    // The words of the image; 0 before the first line.
-    pub words: usize,
-    // Where the playing of a line stands; its job is `Stop` where the day is over.
-    pub played: Played,
-}
-
-// A piece of a day: whether there was one to be made, where the day then stands, and where its input goes on.
-pub struct Piece {
-    pub done: bool,
-    pub day: Day,
-    pub from: usize,
-}
-
-// A line gone on with: where the day then stands, and the bytes of output used.
-pub struct Run {
-    pub day: Day,
-    pub used: usize,
-}
 
 // What the core has done: where the day stands, the bytes of input taken, and the bytes of output used.
 pub struct Stretch {
@@ -64,7 +38,7 @@ pub fn advance(image: &mut [u64], d: Day, input: &[u8], more: bool, out: &mut [u
     let mut from: usize = 0;
     let mut used: usize = 0;
     while 22 <= out.len() - used {
-        let p = playing::piece(image, s, input, from, more);
+        let p = pieces::make(image, s, input, from, more);
         s = p.day;
         from = p.from;
         if !p.done {
@@ -76,8 +50,8 @@ pub fn advance(image: &mut [u64], d: Day, input: &[u8], more: bool, out: &mut [u
         }
         let played = s.played;
         let printed = played.printed;
-        used = printing::print(out, used, printed);
-        let r = playing::run_on(image, s, out, used);
+        used = buffers::print(out, used, printed);
+        let r = pieces::run_on(image, s, out, used);
         s = r.day;
         used = r.used;
     }

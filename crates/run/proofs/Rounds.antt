@@ -17,7 +17,7 @@ use Rattle.plan.specs.Turn.{Outcome, stored, jumped, unheld, waiting, resting, 
 use Rattle.turn.specs.Call.{isRefused}
 use Rattle.working.specs.World.{World}
 use Rattle.turn.specs.Call.{answerOf, leaves, outcomeAt}
-use Rattle.run.specs.Run.{anyOpen, counted, Counting, counting, Ran, ran, Sweep, through, halted, turned, swept, sweep, afterSweep, roundsOf, runOf}
+use Rattle.run.specs.Run.{anyOpen, counted, Counting, counting, Course, ran, Sweep, through, halted, turned, swept, sweep, afterSweep, roundsOf, runOf}
 
 -- ---- a turn by its answer
 
@@ -90,11 +90,11 @@ module _ (n D : ℕ) where
   unfolding roundsOf
   rounds-on k i s h e = rw (left-step k i h, e)
 
-pub after-through : (n : ℕ) (more : Counting → Ran) (s : Counting) → afterSweep n more (through s) ≡ more s
+pub after-through : (n : ℕ) (more : Counting → Course) (s : Counting) → afterSweep n more (through s) ≡ more s
 unfolding afterSweep
 after-through n more s = refl
 
-pub after-halted : (n : ℕ) (more : Counting → Ran) (r : Refusal) (s : Counting) → afterSweep n more (halted r s) ≡ ran (Halted r) s
+pub after-halted : (n : ℕ) (more : Counting → Course) (r : Refusal) (s : Counting) → afterSweep n more (halted r s) ≡ ran (Halted r) s
 unfolding afterSweep
 after-halted n more r s = refl
 

@@ -44,11 +44,11 @@ abbrev pub counting : World → Tally → Counting
 counting w t = record { world = w; tally = t }
 
 -- how a run ends, and what it leaves
-pub record Ran : Type 0 where
+pub record Course : Type 0 where
   pub end : End
   pub after : Counting
 
-abbrev pub ran : End → Counting → Ran
+abbrev pub ran : End → Counting → Course
 ran e s = record { end = e; after = s }
 
 -- a round's end: through all workers, or halted by a refusal
@@ -75,16 +75,16 @@ module _ (n : ℕ) where
   sweep zero d s = through s
   sweep (suc k) d s = swept (outcomeAt n (s .world) d) s (sweep k (d + 1) (turned s d))
 
-  unfoldable pub afterSweep : (Counting → Ran) → Sweep → Ran
+  unfoldable pub afterSweep : (Counting → Course) → Sweep → Course
   afterSweep more (through s) = more s
   afterSweep more (halted r s) = ran (Halted r) s
 
   -- so many rounds of D workers
-  unfoldable pub roundsOf : ℕ → ℕ → Counting → Ran
+  unfoldable pub roundsOf : ℕ → ℕ → Counting → Course
   roundsOf zero D s = cond (anyOpen D 0 (s .world .cursors)) (ran Spent s) (ran AllIdle s)
   roundsOf (suc r) D s = cond (anyOpen D 0 (s .world .cursors)) (afterSweep (roundsOf r D) (sweep D 0 s)) (ran AllIdle s)
 
 -- a run: cause 10, then the rounds; the tally starts at 0
-unfoldable pub runOf : ℕ → ℕ → World → ℕ → Ran
+unfoldable pub runOf : ℕ → ℕ → World → ℕ → Course
 runOf mark n w rounds =
     cond (headerOk mark n (w .image)) (roundsOf n rounds (workers (w .image)) (counting w none)) (ran (Halted ImageRefused) (counting w none))

@@ -2,7 +2,7 @@
 use Prim.Native.Nat.{ℕ, _≤_}
 use mathlib.Core.List.{List}
 use lib.ListN.{length}
-use Rattle.day.specs.Core.{Holds}
+use Rattle.stages.specs.Buffer.{Holds}
 use Rattle.stream.specs.declared.Stream.{Stream}
 
 -- the image lies in its buffer, and the input not taken yet in its own

@@ -1,7 +1,7 @@
 // A day of frame lines from a descriptor, and what it prints to another. All that is done here is reading into a buffer, handing it to the
 // core (`day::advance`), writing what that put out, and moving what it left down; what is played and printed is the core's.
-use day::Day;
 use day::Want;
+use stages::Day;
 
 mod input;
 mod output;
@@ -71,7 +71,7 @@ pub fn play(input: i32, output: i32) {
     let mut buf = io::large_buffer();
     let mut out = io::large_buffer();
     let mut s = Stream {
-        day: day::dawn(),
+        day: stages::dawn(),
         from: 0,
         to: 0,
         more: true,

@@ -11,7 +11,7 @@ use Rattle.plan.specs.Turn.{Outcome, stored, jumped, unheld, waiting, resting, 
 use Rattle.working.specs.World.{World, world}
 use Rattle.turn.specs.Call.{leaves, outcomeAt, outcome}
 use Rattle.intake.specs.Submit.{submitAnswer, submitLeaves}
-use Rattle.run.specs.Run.{anyOpen, Counting, counting, Ran, ran, Sweep, turned, swept, sweep, afterSweep, roundsOf, runOf}
+use Rattle.run.specs.Run.{anyOpen, Counting, counting, Course, ran, Sweep, turned, swept, sweep, afterSweep, roundsOf, runOf}
 use Rattle.recovery.specs.Recovery.{Recovered, accepted, misshapen, unsoundRecord, wrongLock, recovery}
 use Rattle.recovery.specs.Recover.{cursorsOf, recoveryLeaves, recoveryLeft}
 use Rattle.claims.specs.Calls.{Traced, turnedAt, refuses, round, rounds, ranBy, call, recoveredBy, submits, turns, runs, recovers}
@@ -42,7 +42,7 @@ recover-agrees mark n w = by (recovery mark n (w .world .image))
 
 module _ (mark n : ℕ) where
   swept-agrees :
-      (more : Counting → Ran) (o : Outcome) (w x : Traced) (s : Counting) (y : Sweep) → w .world ≡ s .world → x .world ≡ afterSweep n more y .after .world
+      (more : Counting → Course) (o : Outcome) (w x : Traced) (s : Counting) (y : Sweep) → w .world ≡ s .world → x .world ≡ afterSweep n more y .after .world
       → cond (refuses mark n o) w x .world ≡ afterSweep n more (swept n o s y) .after .world
   unfolding afterSweep
   swept-agrees more (stored p v c) w x s y e h = h
@@ -58,7 +58,7 @@ module _ (mark n : ℕ) where
 
   -- a round, and what follows it
   round-agrees :
-      (rest : Traced → Traced) (more : Counting → Ran) → ((v : Traced) (s : Counting) → v .world ≡ s .world → rest v .world ≡ more s .after .world)
+      (rest : Traced → Traced) (more : Counting → Course) → ((v : Traced) (s : Counting) → v .world ≡ s .world → rest v .world ≡ more s .after .world)
       → (k d : ℕ) (w : Traced) (s : Counting) → w .world ≡ s .world → round mark n rest w d k .world ≡ afterSweep n more (sweep n k d s) .after .world
   unfolding round sweep afterSweep
   round-agrees rest more follows zero d w s e = follows w s e

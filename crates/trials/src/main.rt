@@ -36,22 +36,13 @@
 //
 // What it must print stands in the file stdout. That comes from rust/twin's program `trials`, which plays the same files over another
 // implementation of document 01, and never from a run of this program; the command stands in its head.
+use trial_stage::say;
+use trial_text::text;
 ghost use Prim.Native.Nat.{_<_};
 ghost use lib.ListN.{length};
 
-mod answers;
-mod calls;
-mod cuts;
-mod fold;
-mod lists;
-mod numbers;
 mod playing;
-mod say;
 mod script;
-mod showing;
-mod stage;
-mod text;
-mod verbs;
 
 // Plays one script, of a long one the first 65,536 bytes.
 fn play(name: &[u8]) {

@@ -1,16 +1,16 @@
 // Calls of a script: made, told turn by turn, and cut.
-use crate::answers;
-use crate::calls;
-use crate::calls::Call;
-use crate::calls::Made;
-use crate::cuts;
-use crate::lists;
-use crate::say;
-use crate::stage::ROOM;
-use crate::stage::Stage;
-use crate::text;
-use crate::verbs::Verb;
 use asking::Standing;
+use trial_calls::calls;
+use trial_calls::calls::Call;
+use trial_calls::calls::Made;
+use trial_calls::cuts;
+use trial_calls::lists;
+use trial_stage::answers;
+use trial_stage::say;
+use trial_stage::stage::ROOM;
+use trial_stage::stage::Stage;
+use trial_text::text;
+use trial_text::verbs::Verb;
 
 // What a verb and its numbers ask for.
 pub enum Asked {
@@ -162,8 +162,9 @@ fn stands(a: Standing) {
 }
 
 // Standing D NUMBER: how a worker stands to the section of this number.
-pub fn standing(image: &[u64], s: Stage, d: u64, number: u64) {
+pub fn standing(image: &[u64], s: Stage, d: u64, number: u64) -> Stage {
     let words = text::least(s.words, image.len());
     stands(edition::standing(&image[0..words], d as usize, number));
     say::end();
+    s
 }

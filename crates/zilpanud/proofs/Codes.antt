@@ -36,7 +36,7 @@ use Rattle.working.specs.World.{World}
 use Rattle.turn.specs.Call.{outcomeAt}
 use Rattle.formatting.specs.Format.{formattable, formatAnswer}
 use Rattle.intake.specs.Submit.{verdictAnswer, isTaken, free, submitAnswer}
-use Rattle.run.specs.Run.{Counting, counting, Ran, Sweep, through, halted, anyOpen, turned, swept, sweep, afterSweep, roundsOf, runOf}
+use Rattle.run.specs.Run.{Counting, counting, Course, Sweep, through, halted, anyOpen, turned, swept, sweep, afterSweep, roundsOf, runOf}
 use Rattle.formatting.specs.Codes.{formatCode}
 use Rattle.intake.specs.Codes.{submitCode}
 use Rattle.turn.specs.Codes.{turnCode, turnDetail}
@@ -192,10 +192,10 @@ isAllIdle Spent = false
 isAllIdle (Halted r) = false
 
 -- 0 is the code of this end exactly if all are idle
-abbrev Ending : Ran → Type 0
+abbrev Ending : Course → Type 0
 Ending x = isAllIdle (x .end) ≡ eqb (endCode (x .end)) 0
 
-private-ending : (b : Bool) (x y : Ran) → Ending x → Ending y → Ending (cond b x y)
+private-ending : (b : Bool) (x y : Course) → Ending x → Ending y → Ending (cond b x y)
 private-ending true x y g h = g
 private-ending false x y g h = h
 
@@ -215,7 +215,7 @@ module _ (n : ℕ) where
       private-swept (outcomeAt n (s .world) d) s _ (private-turn n (at n (s .world .image)) d (cursorAt (s .world .cursors) d))
       (private-sweep k (d + 1) (turned n s d))
 
-  private-after : (more : Counting → Ran) (x : Sweep) → ((s : Counting) → Ending (more s)) → Halting x → Ending (afterSweep n more x)
+  private-after : (more : Counting → Course) (x : Sweep) → ((s : Counting) → Ending (more s)) → Halting x → Ending (afterSweep n more x)
   unfolding afterSweep
   private-after more (through s) g h = g s
   private-after more (halted r s) g h = rw h

@@ -17,7 +17,7 @@ use Rattle.turn.specs.Call.{answerOf, leaves, outcome}
 use Rattle.formatting.specs.Format.{formatAnswer, formatLeaves, formatLeft}
 use Rattle.intake.specs.Submit.{submitAnswer, submitLeaves}
 use Rattle.working.specs.Cursor.{allIdle}
-use Rattle.run.specs.Run.{Ran, runOf}
+use Rattle.run.specs.Run.{Course, runOf}
 use Rattle.soundness.specs.declared.Answer.{Answer as Recovery}
 use Rattle.recovery.specs.Recovery.{recovery}
 use Rattle.recovery.specs.Recover.{answerOf as recoveryAnswer, cursorsOf, recoveryLeaves, recoveryLeft}
@@ -60,7 +60,7 @@ turnsTo w d = leaves ownWords w d (outcome mark ownWords w d)
 
 -- ---- a run: its end, the world after it, and its tally as three numbers
 
-abbrev pub running : World → ℕ → Ran
+abbrev pub running : World → ℕ → Course
 running w rounds = runOf mark ownWords w rounds
 
 abbrev pub counts : Tally → List ℕ

@@ -3,10 +3,9 @@ use borrow.Author.Tests.{not-true, not-false}
 use native.Mathlib.Omega.{arith}
 use mathlib.Core.Path.{_∙_}
 use lib.ListN.{drop}
-use Rattle.day.specs.Pieces.{piecesLeft}
-use Rattle.day.specs.Core.{pointOf}
-use Rattle.day.proofs.Going.{Going, going-starts, going-over, going-none, going-less, going-next}
-use Rattle.day.proofs.Runs.{going-runs}
+use Rattle.pieces.specs.Pieces.{piecesLeft}
+use Rattle.pieces.specs.Pieced.{pointOf}
+use Rattle.day.proofs.Going.{Going, going-starts, going-over, going-none, going-less, going-next, going-runs}
 use Rattle.day.proofs.advance.Statement.{statement}
 use Rattle.day.proofs.advance.Tie as tie
 
@@ -25,14 +24,14 @@ loop-holds c =
 sub-loop : tie.Need-sub-loop Inv-loop μ-loop
 sub-loop c = c .loop .inv .room
 
-piece-requires : tie.Need-piece-requires Inv-loop μ-loop
-piece-requires c κs =
+make-requires : tie.Need-make-requires Inv-loop μ-loop
+make-requires c κs =
     let b6 = c .before .before .before .before .before .before in
     let L = c .before .before .loop in
     (L .inv .inside, record { words = L .inv .keeps .words; largest = omega (arith, L .inv .words, b6 .pre .largest) })
 
 same-length : tie.Need-same-length Inv-loop μ-loop
-same-length c = c .before .before .before .before .before .piece .kept .0 ∙ c .before .before .before .before .before .before .before .before .loop .inv .words
+same-length c = c .before .before .before .before .before .make .kept .0 ∙ c .before .before .before .before .before .before .before .before .loop .inv .words
 
 same-length-2 : tie.Need-same-length-2 Inv-loop μ-loop
 same-length-2 c = c .before .before .before .before .before .before .before .before .loop .inv .bytes
@@ -46,7 +45,7 @@ returns c =
     let S = b12 in
     let A = S .args in
     let L = b8 .loop in
-    let P = b5 .piece in
+    let P = b5 .make in
     going-none (A .image .now) (A .input .now) (A .out .now) (A .more) (A .d) (L .image) (L .out) (L .s) (L .from) (L .used) (L .inv) (P .last .0)
     (P .result) (P .ensures) (b7 .loop-test .taken) (not-true _ (c .if1 .taken))
 
@@ -59,7 +58,7 @@ run-on-requires : tie.Need-run-on-requires Inv-loop μ-loop
 run-on-requires c κs =
     let b4 = c .before .before .before .before in
     let b12 = b4 .before .before .before .before .before .before .before .before in
-    (b12 .piece .ensures .keeps .words, b4 .print .ensures .room)
+    (b12 .make .ensures .keeps .words, b4 .print .ensures .room)
 
 loop-less : tie.Need-loop-less Inv-loop μ-loop
 loop-less c =
@@ -71,7 +70,7 @@ loop-less c =
     let S = b25 in
     let A = S .args in
     let L = b21 .loop in
-    let P = b18 .piece in
+    let P = b18 .make in
     let R = b5 .run-on in
     let e = not-false _ (b13 .if1 .left) in
     omega (
@@ -93,7 +92,7 @@ loop-again c =
     let S = b25 in
     let A = S .args in
     let L = b21 .loop in
-    let P = b18 .piece in
+    let P = b18 .make in
     let R = b5 .run-on in
     let e = not-false _ (b13 .if1 .left) in
     let T = b10 .print in
@@ -126,7 +125,7 @@ advance-spec =
     μ-loop
     loop-holds
     sub-loop
-    piece-requires
+    make-requires
     same-length
     same-length-2
     returns

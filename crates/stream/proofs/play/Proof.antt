@@ -5,7 +5,7 @@ use Prim.Native.Nat.{_≤_}
 use mathlib.Core.Path.{_≡_, ap}
 use lib.ListN.{length}
 use Rattle.edition.specs.Edition.{largest}
-use Rattle.day.specs.declared.Day.{Day}
+use Rattle.stages.specs.declared.Day.{Day}
 use Rattle.stream.specs.Within.{Within}
 use Rattle.stream.proofs.play.Statement.{statement}
 use Rattle.stream.proofs.play.Tie as tie

@@ -1,7 +1,7 @@
 -- `zilpanud_run` meets its contract: its parts are those of the engine's one equation.
 use borrow.Author.Needs.{needs}
 use mathlib.Core.Path.{ap, _∙_}
-use Rattle.run.specs.Run.{Ran}
+use Rattle.run.specs.Run.{Course}
 use Rattle.run.specs.Codes.{endCode, endDetail}
 use Rattle.zilpanud.specs.Lent.{counts}
 use Rattle.zilpanud.proofs.zilpanud_run.Statement.{statement}
@@ -30,10 +30,10 @@ returns c =
     let v = c .before .before .before .before in
     let t = v .before .before .before .before .before .before in
     let e = rw (t .before .before .before .lent .ensures) at (t .run .ensures) in (
-      c .end-code .ensures ∙ ap (λ (x : Ran). endCode (x .end)) e,
+      c .end-code .ensures ∙ ap (λ (x : Course). endCode (x .end)) e,
       (
-        c .before .end-detail .ensures ∙ ap (λ (x : Ran). endDetail (x .end)) e,
-        (rw (v .leave .ensures) (ap (λ (x : Ran). x .after .world) e), ap (λ (x : Ran). counts (x .after .tally)) e),
+        c .before .end-detail .ensures ∙ ap (λ (x : Course). endDetail (x .end)) e,
+        (rw (v .leave .ensures) (ap (λ (x : Course). x .after .world) e), ap (λ (x : Course). counts (x .after .tally)) e),
       ),
     )
 

@@ -1,0 +1,4 @@
+pub mod Parts
+pub mod Weights
+pub mod Advances
+pub mod Runs

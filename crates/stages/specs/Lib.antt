@@ -1,0 +1,2 @@
+pub mod Begun
+pub mod Buffer
