@@ -1,16 +1,25 @@
 /*
  * Zilpanud: sections of instructions that survive a cut, over an image of 64-bit words that the caller lends.
  *
- * Link libzilpanud.a (rt staticlib zilpanud). The library keeps nothing between calls: all it knows is the image, the
- * cursors and the numbers that a call is lent. It allocates nothing and calls nothing but
- * memcpy and memset.
+ * For C99, C++17 and later. Link libzilpanud.a (-lzilpanud), which `rt staticlib zilpanud` writes. It allocates
+ * nothing and calls nothing but memcpy and memset. docs/MANUAL.md has the image, the kinds of instructions, the
+ * causes and the frame lines of the program board; examples/board.c is a program to copy from.
  *
- * Words: a worker is document 01's desk, a section its ticket, a lock its bay, a cell its board word; to submit is its
- * hand-in, a cursor its working place.
+ * Words: a worker is a desk of the board, a section its ticket, an instruction a step of it, a lock a bay, a cell a
+ * board word; to submit is to hand in, to acquire and to release are to take and to drop, a cursor is a working place.
  *
- * What the caller owes, since C cannot say it: a pointer and its length name that many words; step and turn name 8 bytes,
- * args 8 words, tally 3 words; no two of a call's pointers name the same memory (only args and words, which are read alone,
- * may), and none is null: with a length of 0 too, the pointer is one to a word of the caller's.
+ * What the caller owes, since C cannot say it: a pointer and its length name that many words; step and turn name
+ * 8 bytes, args 8 words, tally 3 words; no two of a call's pointers name the same memory (only args and words, which
+ * are read alone, may), and none is null; a pointer to words is aligned to 8. With a length of 0 the pointer is not
+ * read, and any pointer that is not null and is aligned to 8 will do.
+ *
+ * Threads: the library keeps nothing between calls; all it knows is the image, the cursors and the numbers that a call
+ * is lent. So calls on different images, each with its cursors, may be made from different threads at once. On one
+ * image and its cursors it is one call at a time, by one process: two at once lose moves or hang. Threads that share
+ * an image hold a lock of their own around each call, the questions too. One thread may make the turns of all workers.
+ *
+ * Cuts: a call stores one word after the other, in a fixed order, and flushes nothing. So the image belongs in memory
+ * that keeps every store made, in that order, when the power goes: battery-kept, and its caches with it.
  */
 #ifndef ZILPANUD_H
 #define ZILPANUD_H
@@ -18,62 +27,167 @@
 #include <stddef.h>
 #include <stdint.h>
 
-#ifdef __cplusplus
-extern "C" {
-#endif
+/* ---- version: 1,000,000 x major + 1,000 x minor + patch
+ *
+ * The macros say which header this is, zilpanud_version() which archive was linked, since the two may come from
+ * different installs. A program compares them when it starts; examples/board.c does.
+ */
+
+#define ZILPANUD_VERSION 1000
+#define ZILPANUD_VERSION_TEXT "0.1.0"
 
 /* ---- sizes */
 
 #define ZILPANUD_WORKERS 8    /* an image has 1 to 8 workers */
 #define ZILPANUD_CELLS 512
-#define ZILPANUD_LOCKS 64
+#define ZILPANUD_LOCKS 64     /* lock l guards cells 8l to 8l + 7 */
 #define ZILPANUD_ARGS 8
 #define ZILPANUD_STEPS_MIN 3
 #define ZILPANUD_STEPS_MAX 64
 #define ZILPANUD_IDLE 255     /* turn[d] of an idle worker d */
 
-/* the words of an image of so many workers */
-#define ZILPANUD_IMAGE_WORDS(workers) ((size_t)584 + (size_t)82 * (size_t)(workers))
+/* a conversion that neither language warns of */
+#ifdef __cplusplus
+#define ZILPANUD_AS(type, value) (static_cast<type>(value))
+#else
+#define ZILPANUD_AS(type, value) ((type)(value))
+#endif
 
-/* ---- what a call returns: done, a refusal's cause (document 01, 'When the engine says no'), or another answer */
+/* the words of an image of so many workers */
+#define ZILPANUD_IMAGE_WORDS(workers) (ZILPANUD_AS(size_t, 584) + 82 * ZILPANUD_AS(size_t, workers))
+
+/* where the image has a cell, 0 to 511, and the owner word of a lock, 0 to 63: 0 if free, d + 1 if worker d has it */
+#define ZILPANUD_CELL_INDEX(cell) (ZILPANUD_AS(size_t, 8) + ZILPANUD_AS(size_t, cell))
+#define ZILPANUD_OWNER_INDEX(lock) (ZILPANUD_AS(size_t, 520) + ZILPANUD_AS(size_t, lock))
+
+/* ---- instructions
+ *
+ * An instruction is one word: a kind and fields a, b, c, of 16 bits each. A 'word' below is a word number: 0 to 511 is
+ * a cell, whose lock must be held; 512 to 519 is an own word of the worker. A section starts with its arguments as own
+ * words. Sums are modulo 2^64, comparisons unsigned. A field that a kind does not name must be 0.
+ *
+ * A section starts with an acquire, and a finish is its last step and no other. Locks are acquired in rising order;
+ * something is held before each step but the first and the finish, and nothing before those. Steps count from 0.
+ */
+
+#define ZILPANUD_ACQUIRE 1    /* lock a, above all held; waits while another has it. 6 turns */
+#define ZILPANUD_RELEASE 2    /* lock a, which is held. 6 turns */
+#define ZILPANUD_SET 3        /* word a := 65,536 x b + c, b and c being numbers up to 65,535. 4 turns */
+#define ZILPANUD_ADD 4        /* word a := word b + word c. 4 turns */
+#define ZILPANUD_SUBTRACT 5   /* word a := word b - word c. 4 turns */
+#define ZILPANUD_LESS 6       /* word a := 1 if word b < word c, else 0. 4 turns */
+#define ZILPANUD_JUMP 7       /* if word a is 0, on at step b: a later one with the same locks held before it. 1 turn */
+#define ZILPANUD_FINISH 8     /* the last step, and no other. 3 turns */
+
+/* An instruction word, in constant expressions too. Each part is 0 to 65,535; a larger one spills into the next. */
+#define ZILPANUD_INSTRUCTION(kind, a, b, c)                                          \
+    (ZILPANUD_AS(uint64_t, kind) << 48 | ZILPANUD_AS(uint64_t, a) << 32 |            \
+     ZILPANUD_AS(uint64_t, b) << 16 | ZILPANUD_AS(uint64_t, c))
+
+/* the word number of own word i, 0 to 7 */
+#define ZILPANUD_OWN(i) (512 + (i))
+
+/* ---- what a call returns: done, the cause of a refusal, or another answer; zilpanud_text() has a line for each */
 
 #define ZILPANUD_DONE 0            /* formatted, passed the check, taken, recovered, all idle; a question answered */
 
 #define ZILPANUD_NO_WORKER 1       /* the worker is not below the image's number of workers */
-#define ZILPANUD_BUSY 2            /* submit: the worker is not idle, or its count or pc is not 0 */
+#define ZILPANUD_BUSY 2            /* submit: the worker is not idle, or its record's count or pc is not 0 */
 #define ZILPANUD_NUMBER 3          /* submit: the section's number is not above the last finished one */
 #define ZILPANUD_LENGTH 4          /* the number of steps is not 3 to 64 */
-#define ZILPANUD_MALFORMED 5       /* a step of unknown kind, or a field outside its range or position; detail: the step */
+#define ZILPANUD_MALFORMED 5       /* a step of unknown kind, or a field outside its range or position.
+                                      detail, of 5 to 9: the step */
 #define ZILPANUD_UNBRACKETED 6     /* the first step does not acquire, a later one but a finish has nothing held, or a
-                                      finish has something held; detail: the step */
-#define ZILPANUD_UNORDERED 7       /* an acquire not above all held, or a release of a lock not held; detail: the step */
-#define ZILPANUD_UNGUARDED 8       /* a cell whose lock is not held; detail: the step */
-#define ZILPANUD_UNLEVEL 9         /* a jump to a step with another held set; detail: the step */
+                                      finish has something held */
+#define ZILPANUD_UNORDERED 7       /* an acquire not above all held, or a release of a lock not held */
+#define ZILPANUD_UNGUARDED 8       /* a cell whose lock is not held */
+#define ZILPANUD_UNLEVEL 9         /* a jump to a step with another held set */
 #define ZILPANUD_IMAGE 10          /* the image's length, its words 0 to 7, or the number of workers is wrong */
-#define ZILPANUD_CURSOR 11         /* turn, run: a worker that is not idle has a count not 3 to 64, or a cursor past the
-                                      count, on a step that fails 5 or on a turn that its kind lacks; detail: the worker */
-#define ZILPANUD_RECORD 12         /* recover: a record is not sound; detail: the worker */
+#define ZILPANUD_CURSOR 11         /* turn, run: a worker that is not idle has a count not 3 to 64, or a cursor past
+                                      the count, on a step that fails 5 or on a turn that its kind lacks.
+                                      detail: the worker */
+#define ZILPANUD_RECORD 12         /* recover: a record is not sound. detail: the worker */
 #define ZILPANUD_LOCK 13           /* recover: two workers are owed the lock, or its owner word names no worker that
-                                      intends it; detail: the lock */
+                                      intends it. detail: the lock */
+#define ZILPANUD_LINE 14           /* the program board prints it for a malformed frame line; no call returns it */
 
-#define ZILPANUD_STORED 16         /* turn: one word was stored; detail: its index */
+#define ZILPANUD_STORED 16         /* turn: one word was stored. detail: its index */
 #define ZILPANUD_PASSED 17         /* turn: there was nothing to store */
-#define ZILPANUD_WAITING 18        /* turn: the lock is another's; detail: the lock */
+#define ZILPANUD_WAITING 18        /* turn: the lock is another's. detail: the lock */
 #define ZILPANUD_IDLE_WORKER 19    /* turn: the worker is idle */
 #define ZILPANUD_SPENT 20          /* run: the rounds are over and a worker is not idle */
+
+/* what zilpanud_standing writes */
+#define ZILPANUD_NOT_BEGUN 0
+#define ZILPANUD_BEGUN 1
+#define ZILPANUD_FINISHED 2
+
+/* One line that says what an answer means, for a log or a screen; it is never null. */
+static inline const char *zilpanud_text(uint64_t answer)
+{
+    switch (answer) {
+    case ZILPANUD_DONE: return "done";
+    case ZILPANUD_NO_WORKER: return "the image has no such worker";
+    case ZILPANUD_BUSY: return "the worker is not idle, or its record still has a section";
+    case ZILPANUD_NUMBER: return "the section's number is not above the last one that the worker finished";
+    case ZILPANUD_LENGTH: return "a section has 3 to 64 steps";
+    case ZILPANUD_MALFORMED: return "the step is of unknown kind, or has a field outside its range or position";
+    case ZILPANUD_UNBRACKETED: return "the step stands where no lock is held, or finishes with a lock held";
+    case ZILPANUD_UNORDERED: return "the step acquires a lock not above all held, or releases one that is not held";
+    case ZILPANUD_UNGUARDED: return "the step names a cell whose lock is not held";
+    case ZILPANUD_UNLEVEL: return "the step jumps to one with other locks held";
+    case ZILPANUD_IMAGE: return "this is no image: its length, its first eight words or the number of workers is wrong";
+    case ZILPANUD_CURSOR: return "the worker's cursor is on no turn of its section";
+    case ZILPANUD_RECORD: return "the worker's record is not sound";
+    case ZILPANUD_LOCK: return "two workers are owed the lock, or its owner does not intend it";
+    case ZILPANUD_LINE: return "the frame line is malformed";
+    case ZILPANUD_STORED: return "one word was stored";
+    case ZILPANUD_PASSED: return "the turn had nothing to store";
+    case ZILPANUD_WAITING: return "the worker waits for a lock that another has";
+    case ZILPANUD_IDLE_WORKER: return "the worker is idle";
+    case ZILPANUD_SPENT: return "the rounds are over and a worker is not idle";
+    default: return "no answer of this version";
+    }
+}
+
+/* ---- the stores left of a call that is not to be cut: a pointer to a number that is enough for any call
+ *
+ *     zilpanud_turn(image, words, step, turn, 0, ZILPANUD_ALL, &detail)
+ *
+ * The number is a new one at each use (in C++ the thread has one, and each use fills it again). A caller's own, lower
+ * number is for tests alone: a call that ran out of stores was cut, and a recovery is due.
+ */
+#ifdef __cplusplus
+inline uint64_t *zilpanud_all()
+{
+    static thread_local uint64_t left;
+    left = UINT64_MAX;
+    return &left;
+}
+#define ZILPANUD_ALL (zilpanud_all())
+#else
+#define ZILPANUD_ALL (&(uint64_t){UINT64_MAX})
+#endif
+
+#ifdef __cplusplus
+extern "C" {
+#endif
+
+/* the archive's own version, as ZILPANUD_VERSION */
+uint64_t zilpanud_version(void);
 
 /* ---- the calls
  *
  * step[d] and turn[d] are worker d's cursor, kept by the caller beside the image and lost in a cut.
  * *left is the number of stores that the call may still make: each store takes one off, and with none left it changes
  * nothing. A call given k is that call cut after its k-th store; its answer and the cursors then count for nothing.
- * UINT64_MAX is enough for any call.
  * *detail is always written: with what the comment at the answer says, else 0.
- * A refused call leaves image, cursors and *left as they were, but for: format and recover, which leave all workers idle;
- * run, which keeps its earlier turns and their tally.
+ * A refused call leaves image, cursors and *left as they were, but for: format and recover, which leave all workers
+ * idle; run, which keeps its earlier turns and their tally.
  */
 
-/* 0, or 10. All workers are idle after it, also where it is refused. */
+/* 0, or 10. All workers are idle after it, also where it is refused. It is for a new image: one that a recovery refuses
+ * is kept for those who can mend it, since formatting would lose it. */
 uint64_t zilpanud_format(uint64_t *image, size_t image_words, uint64_t workers, uint8_t *step, uint8_t *turn,
                          uint64_t *left);
 
@@ -81,16 +195,18 @@ uint64_t zilpanud_format(uint64_t *image, size_t image_words, uint64_t workers, 
 uint64_t zilpanud_check(const uint64_t *words, size_t words_len, uint64_t *detail);
 
 /* Submits a section for a worker: 0, or 10, 1, 2, 3, 4 to 9, tested in this order. */
-uint64_t zilpanud_submit(uint64_t *image, size_t image_words, uint8_t *step, uint8_t *turn, size_t worker, uint64_t number,
-                         const uint64_t *args, const uint64_t *words, size_t words_len, uint64_t *left, uint64_t *detail);
+uint64_t zilpanud_submit(uint64_t *image, size_t image_words, uint8_t *step, uint8_t *turn, size_t worker,
+                         uint64_t number, const uint64_t *args, const uint64_t *words, size_t words_len,
+                         uint64_t *left, uint64_t *detail);
 
 /* One turn of a worker, with at most one store: 16 to 19, or 10, 1, 11. */
-uint64_t zilpanud_turn(uint64_t *image, size_t image_words, uint8_t *step, uint8_t *turn, size_t worker, uint64_t *left,
-                       uint64_t *detail);
+uint64_t zilpanud_turn(uint64_t *image, size_t image_words, uint8_t *step, uint8_t *turn, size_t worker,
+                       uint64_t *left, uint64_t *detail);
 
-/* Rounds of turns until all workers are idle: 0, 20, or 10, 11. tally: turns, waits and stores of this run. */
-uint64_t zilpanud_run(uint64_t *image, size_t image_words, uint8_t *step, uint8_t *turn, uint16_t rounds, uint64_t *tally,
-                      uint64_t *left, uint64_t *detail);
+/* Rounds of turns until all workers are idle: 0, 20, or 10, 11. tally: turns, waits and stores of this run. 384 rounds
+ * for each worker of the image end any sections; more cost nothing, since a run stops where all are idle. */
+uint64_t zilpanud_run(uint64_t *image, size_t image_words, uint8_t *step, uint8_t *turn, uint16_t rounds,
+                      uint64_t *tally, uint64_t *left, uint64_t *detail);
 
 /* After a cut: 0, or 10, 12, 13. step and turn are only written: begun sections go on, all other workers are idle. */
 uint64_t zilpanud_recover(uint64_t *image, size_t image_words, uint8_t *step, uint8_t *turn, uint64_t *left,
@@ -99,20 +215,22 @@ uint64_t zilpanud_recover(uint64_t *image, size_t image_words, uint8_t *step, ui
 /* ---- questions: 0, or 10, 1, and then 0 is written */
 
 /* 1: the worker is idle; 0: it is not */
-uint64_t zilpanud_is_idle(const uint64_t *image, size_t image_words, const uint8_t *step, const uint8_t *turn, size_t worker,
-                          uint64_t *answer);
+uint64_t zilpanud_is_idle(const uint64_t *image, size_t image_words, const uint8_t *step, const uint8_t *turn,
+                          size_t worker, uint64_t *answer);
 
 /* the number of the last section that the worker finished; 0: none yet */
 uint64_t zilpanud_finished(const uint64_t *image, size_t image_words, size_t worker, uint64_t *number);
 
 /* how the worker stands to the section of this number; 0: not begun, 1: begun, 2: finished
  *
- * For a caller that numbers a worker's sections one by one, each one above the last finished, and after a cut does not know
- * what became of the last one: recover, then ask. Not begun: submit the same section again, under the same number. Begun:
- * turns or a run will bring it to its end. Finished: it is done, and the next number is due. No section is then left out,
- * and none is carried out twice.
+ * For the one caller that submits to this worker, numbers its sections one by one, each one above the last finished,
+ * with the worker idle, and after a cut does not know what became of the last one: recover, then ask, before any other
+ * is submitted. Not begun: submit the same section again, under the same number. Begun: turns or a run will bring it to
+ * its end. Finished: it is done, and the next number is due. No section is then left out, and none is carried out
+ * twice. (Two callers that take the same number for different sections cannot tell whose was carried out.)
  */
-uint64_t zilpanud_standing(const uint64_t *image, size_t image_words, size_t worker, uint64_t number, uint64_t *answer);
+uint64_t zilpanud_standing(const uint64_t *image, size_t image_words, size_t worker, uint64_t number,
+                           uint64_t *answer);
 
 #ifdef __cplusplus
 }

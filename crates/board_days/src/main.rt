@@ -12,7 +12,7 @@ fn play(name: &[u8]) {
         os::fail(name);
         return;
     }
-    stream::play(fd, STDOUT_FILENO);
+    stream::play(fd, STDOUT_FILENO, -1);
     libc::close(fd);
 }
 

@@ -1,9 +1,9 @@
 // The edition of images that is served: the mark in word 0 is 1, and a record has eight own words. Both stand here and nowhere else. Its
 // entry points take any image, any working record and any number of stores left, and refuse with document 01's numbers; what they do is in the
 // crates below, which take mark and own words as they are given.
+use asking::Standing;
 use formatting::Cleared;
 use intake::Entered;
-use asking::Standing;
 use recovery::Restored;
 use repair::Repair;
 use repair::Slot;

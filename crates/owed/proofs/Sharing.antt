@@ -20,6 +20,7 @@ use Rattle.image.specs.Place.{lock, field, Memory}
 use Rattle.owed.specs.Owed.{owed, claimants, ownerOk}
 use Rattle.owed.specs.inner.Shared.{setsIn, sharedFrom}
 use Rattle.mask.proofs.Members.{has-and, has-or}
+
 claimants-zero : (sets : ℕ → ℕ) (b : ℕ) → claimants sets b 0 ≡ 0
 unfolding claimants
 claimants-zero sets b = refl

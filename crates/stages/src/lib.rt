@@ -1,8 +1,8 @@
 // Where a day stands: a stage of `lines` whose image is the first words of a buffer. A line is begun there, the first one or another, and
 // gone on with.
+use formatting::Formatted;
 use frames::Opening;
 use frames::Printed;
-use formatting::Formatted;
 use lines::Job;
 use lines::Played;
 ghost use mathlib.Core.Path.{_≡_};

@@ -1,1 +1,2 @@
 pub mod Moving
+pub mod Counted

@@ -1,5 +1,6 @@
 // The input's buffer filled.
 use crate::Stream;
+use crate::telling;
 ghost use mathlib.Core.Path.{_≡_};
 ghost use Prim.Native.Nat.{_+_, _≤_};
 ghost use lib.ListN.{length, take, drop};
@@ -23,7 +24,7 @@ fn read_on(fd: i32, buf: &mut [u8], n: usize) -> usize
 {
     let got = libc::read(fd, &mut buf[n..]);
     if got < 0 {
-        os::fail(b"standard input");
+        os::fail(b"board: standard input");
     }
     io::count(got, &buf[n..])
 }
@@ -35,11 +36,13 @@ pub fn more(fd: i32, buf: &mut [u8], s: Stream) -> Stream
 {
     let from = s.from;
     let n = s.to - from;
+    let ended = telling::ends_in(buf, from);
     move_down(buf, from, n);
     let got = read_on(fd, buf, n);
     let mut r = s;
     r.from = 0;
     r.to = n + got;
+    r.lines = std::num::wrapping_add_u64(s.lines, ended);
     r.more = got > 0;
     r
 }

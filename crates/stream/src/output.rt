@@ -8,7 +8,7 @@ pub fn flush(fd: i32, out: &[u8], used: usize) -> bool
 {
     let written = io::write_all(fd, &out[..used]);
     if !written {
-        os::fail(b"standard output");
+        os::fail(b"board: standard output");
     }
     written
 }

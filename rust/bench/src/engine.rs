@@ -1,6 +1,6 @@
 //! The two engines behind one interface: ours through the wrapper crate, the twin through its functions.
 
-/// What the work calls of an engine. Calls are given enough stores, and none of them may be refused.
+/// What the work calls of an engine. No call is cut, and none may be refused.
 pub trait Engine {
     type Places: Copy;
 
@@ -23,9 +23,7 @@ impl Engine for Ours {
     type Places = zilpanud::Cursors;
 
     fn format(image: &mut [u64], workers: u64) -> Self::Places {
-        let (mut places, mut left) = (zilpanud::Cursors::IDLE, u64::MAX);
-        zilpanud::format(image, workers, &mut places, &mut left).unwrap();
-        places
+        zilpanud::format(image, workers as usize).unwrap()
     }
 
     fn check(section: &[u64]) {
@@ -33,25 +31,19 @@ impl Engine for Ours {
     }
 
     fn submit(image: &mut [u64], places: &mut Self::Places, worker: usize, number: u64, section: &[u64]) {
-        let mut left = u64::MAX;
-        zilpanud::submit(image, places, worker, number, &ARGS, section, &mut left).unwrap();
+        zilpanud::submit(image, places, worker, number, &ARGS, section).unwrap();
     }
 
     fn turn(image: &mut [u64], places: &mut Self::Places, worker: usize) -> bool {
-        let mut left = u64::MAX;
-        zilpanud::turn(image, places, worker, &mut left).unwrap() != zilpanud::Turn::Idle
+        zilpanud::turn(image, places, worker).unwrap() != zilpanud::Turn::Idle
     }
 
     fn run(image: &mut [u64], places: &mut Self::Places, rounds: u16) -> u64 {
-        let (mut tally, mut left) = (zilpanud::Tally::default(), u64::MAX);
-        zilpanud::run(image, places, rounds, &mut tally, &mut left).unwrap();
-        tally.turns
+        zilpanud::run(image, places, rounds).unwrap().tally.turns
     }
 
     fn recover(image: &mut [u64]) -> Self::Places {
-        let (mut places, mut left) = (zilpanud::Cursors::IDLE, u64::MAX);
-        zilpanud::recover(image, &mut places, &mut left).unwrap();
-        places
+        zilpanud::recover(image).unwrap()
     }
 }
 

@@ -1,7 +1,7 @@
 //! A call, as ours and as the twin's, and all that it gives.
 
 use twin::{Left, Refusal, Working};
-use zilpanud::{Cursors, End, Standing, Tally, Turn};
+use zilpanud::{cut, Cursors, End, Standing, Tally, Turn};
 
 #[derive(Clone, Debug)]
 pub enum Call {
@@ -65,7 +65,7 @@ fn told_turn(answer: Turn) -> (u64, u64) {
     match answer {
         Turn::Stored(index) => (16, index as u64),
         Turn::Passed => (17, 0),
-        Turn::Waiting(lock) => (18, lock),
+        Turn::Waiting(lock) => (18, lock as u64),
         Turn::Idle => (19, 0),
     }
 }
@@ -77,18 +77,19 @@ pub fn ours(call: &Call, image: &mut [u64], lent: Lent) -> Given {
     let mut tally = Tally::default();
     let done = |()| (0, 0);
     let (answer, detail) = match call {
-        Call::Format { workers } => of_ours(zilpanud::format(image, *workers, &mut at, &mut left), done),
+        Call::Format { workers } => of_ours(cut::format(image, *workers as usize, &mut at, &mut left), done),
         Call::Check { section } => of_ours(zilpanud::check(section), done),
         Call::Submit { worker, number, args, section } => {
-            let taken = zilpanud::submit(image, &mut at, *worker, *number, args, section, &mut left);
+            let taken = cut::submit(image, &mut at, *worker, *number, args, section, &mut left);
             of_ours(taken, done)
         }
-        Call::Turn { worker } => of_ours(zilpanud::turn(image, &mut at, *worker, &mut left), told_turn),
+        Call::Turn { worker } => of_ours(cut::turn(image, &mut at, *worker, &mut left), told_turn),
         Call::Run { rounds } => {
-            let end = zilpanud::run(image, &mut at, *rounds, &mut tally, &mut left);
-            of_ours(end, |end| (if end == End::Spent { 20 } else { 0 }, 0))
+            let run = cut::run(image, &mut at, *rounds, &mut left);
+            tally = run.map_or_else(|no| no.tally, |run| run.tally);
+            of_ours(run.map_err(|no| no.refusal), |run| (if run.end == End::Spent { 20 } else { 0 }, 0))
         }
-        Call::Recover => of_ours(zilpanud::recover(image, &mut at, &mut left), done),
+        Call::Recover => of_ours(cut::recover(image, &mut at, &mut left), done),
         Call::IsIdle { worker } => of_ours(zilpanud::is_idle(image, &at, *worker), |idle| (0, idle as u64)),
         Call::Finished { worker } => of_ours(zilpanud::finished(image, *worker), |n| (0, n)),
         Call::Standing { worker, number } => {
@@ -190,8 +191,8 @@ fn told_ticket(standing: twin::Standing) -> (u64, u64) {
     }
 }
 
-/// The questions that the twin has not: causes 10 and 1, and whether a desk is idle, are those of a turn of it; the last
-/// finished number is read in its record.
+/// The questions that the twin has not: causes 10 and 1, and whether a desk is idle, are those of a turn of it; the
+/// last finished number is read in its record.
 fn asked(call: &Call, worker: usize, image: &[u64], at: Working) -> (u64, u64) {
     let turned = twin::turn(&mut image.to_vec(), at, worker as u64, 0).0;
     if let Err(no @ Refusal { number: 1 | 10, .. }) = turned {

@@ -1,7 +1,12 @@
 //! The exported functions as C sees them. Nothing compares these lines with the library's source but the tests: keep
 //! them the same as `include/zilpanud.h`.
+//!
+//! What a caller owes: a pointer and its length name that many words, and no two pointers of a call name the same
+//! memory (only args and words, which are read alone, may). With a length of 0 the pointer is not read, and any pointer
+//! that is not null and is aligned to 8 will do; that of an empty slice is so.
 
 unsafe extern "C" {
+    pub safe fn zilpanud_version() -> u64;
     pub fn zilpanud_format(
         image: *mut u64,
         len: usize,

@@ -2,18 +2,17 @@
 
 mod common;
 
-use common::{Board, CELL_24, COUNT, LOCK_3, NUMBER, OWN, STEPS, TICKET};
-use zilpanud::{Cursors, End, Tally, Turn, ENOUGH};
+use common::{World, CELL_24, COUNT, LOCK_3, NUMBER, OWN, STEPS, TICKET};
+use zilpanud::cut::{self, ENOUGH};
+use zilpanud::{Cursors, End, Turn};
 
 /// The turns that a recovery and a run to the end make.
-fn carried_on(board: &mut Board) -> u64 {
-    board.at = Cursors::IDLE;
-    board.recover().unwrap();
-    let mut tally = Tally::default();
-    let Board { image, at, left } = board;
-    assert_eq!(zilpanud::run(image, at, 384, &mut tally, left), Ok(End::AllIdle));
-    assert_eq!(image[LOCK_3], 0);
-    tally.turns
+fn carried_on(world: &mut World) -> u64 {
+    world.at = Cursors::IDLE;
+    world.recover().unwrap();
+    let run = world.run(384).unwrap();
+    assert_eq!((run.end, world.image[LOCK_3]), (End::AllIdle, 0));
+    run.tally.turns
 }
 
 /// What is left to do after a cut: nothing before the fifth turn, since the section is withdrawn; then the target
@@ -32,11 +31,11 @@ fn turns_left(cut: usize) -> u64 {
 #[test]
 fn after_each_turn() {
     for cut in 0..=19 {
-        let mut board = Board::after_turns(cut);
-        assert_eq!(carried_on(&mut board), turns_left(cut), "cut after {cut}");
+        let mut world = World::after_turns(cut);
+        assert_eq!(carried_on(&mut world), turns_left(cut), "cut after {cut}");
         let begun = cut >= 5;
-        assert_eq!(board.image[CELL_24], if begun { 5 } else { 0 });
-        assert_eq!(zilpanud::finished(&board.image, 0), Ok(begun as u64));
+        assert_eq!(world.image[CELL_24], if begun { 5 } else { 0 });
+        assert_eq!(zilpanud::finished(&world.image, 0), Ok(begun as u64));
     }
 }
 
@@ -44,24 +43,24 @@ fn after_each_turn() {
 #[test]
 fn a_turn_without_a_store_changes_nothing() {
     for cut in 0..19 {
-        let mut board = Board::after_turns(cut);
-        let before = board.image.clone();
-        board.left = 0;
-        board.turn(0).unwrap();
-        assert_eq!((board.image, board.left), (before, 0));
+        let mut world = World::after_turns(cut);
+        let before = world.image.clone();
+        world.left = 0;
+        world.turn(0).unwrap();
+        assert_eq!((world.image, world.left), (before, 0));
     }
 }
 
 /// Document 01's row "after 15: 6 more turns, the second passes".
 #[test]
 fn after_15_the_second_turn_passes() {
-    let mut board = Board::after_turns(15);
-    board.recover().unwrap();
-    let answers: Vec<Turn> = (0..6).map(|_| board.turn(0).unwrap()).collect();
+    let mut world = World::after_turns(15);
+    world.recover().unwrap();
+    let answers: Vec<Turn> = (0..6).map(|_| world.turn(0).unwrap()).collect();
     assert_eq!(answers[1], Turn::Passed);
     let stored = |a: &&Turn| matches!(a, Turn::Stored(_));
     assert_eq!(answers.iter().filter(stored).count(), 5);
-    assert_eq!(board.turn(0), Ok(Turn::Idle));
+    assert_eq!(world.turn(0), Ok(Turn::Idle));
 }
 
 /// The order of a submit's stores: number, eight own words, the instructions, the count.
@@ -73,18 +72,17 @@ fn in_the_submit() {
     stores.extend((0..4).map(|i| (STEPS + i, TICKET[i])));
     stores.push((COUNT, 4));
     for k in 0..=stores.len() {
-        let mut board = Board::formatted(1);
-        let mut expected = board.image.clone();
+        let mut world = World::formatted(1);
+        let mut expected = world.image.clone();
         for (index, value) in &stores[..k] {
             expected[*index] = *value;
         }
-        board.left = k as u64;
-        let Board { image, at, left } = &mut board;
-        zilpanud::submit(image, at, 0, 1, &args, &TICKET, left).unwrap();
-        assert_eq!((&board.image, board.left), (&expected, 0));
-        board.left = ENOUGH;
-        assert_eq!(carried_on(&mut board), 0);
-        assert_eq!(board.image[CELL_24], 0);
+        world.left = k as u64;
+        world.submit_with(0, 1, &args, &TICKET).unwrap();
+        assert_eq!((&world.image, world.left), (&expected, 0));
+        world.left = ENOUGH;
+        assert_eq!(carried_on(&mut world), 0);
+        assert_eq!(world.image[CELL_24], 0);
     }
 }
 
@@ -95,7 +93,7 @@ fn in_the_formatting() {
     for k in 0..=len + 1 {
         let mut image = vec![7; len];
         let (mut at, mut left) = (Cursors::IDLE, k as u64);
-        zilpanud::format(&mut image, 1, &mut at, &mut left).unwrap();
+        cut::format(&mut image, 1, &mut at, &mut left).unwrap();
         let expected: Vec<u64> = (0..len)
             .map(|i| match i {
                 0 if k == len + 1 => 1,
@@ -113,12 +111,12 @@ fn in_the_formatting() {
 fn in_the_recovery() {
     for cut in 0..=19 {
         for k in 0..=4 {
-            let mut board = Board::after_turns(cut);
-            board.left = k;
-            board.recover().unwrap();
-            board.left = ENOUGH;
-            assert_eq!(carried_on(&mut board), turns_left(cut));
-            assert_eq!(board.image[CELL_24], if cut >= 5 { 5 } else { 0 });
+            let mut world = World::after_turns(cut);
+            world.left = k;
+            world.recover().unwrap();
+            world.left = ENOUGH;
+            assert_eq!(carried_on(&mut world), turns_left(cut));
+            assert_eq!(world.image[CELL_24], if cut >= 5 { 5 } else { 0 });
         }
     }
 }

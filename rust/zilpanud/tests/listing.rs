@@ -2,8 +2,8 @@
 
 mod common;
 
-use common::{Board, CELL_24, FINISHED, LOCK_3};
-use zilpanud::{Cursors, End, Standing, Tally, Turn};
+use common::{World, CELL_24, FINISHED, LOCK_3};
+use zilpanud::{cut, Cursors, End, Run, Standing, Tally, Turn};
 
 /// The listing's lines, as they stand in document 01: five of turns, three of the recovery.
 const LISTING: &str = "\
@@ -28,20 +28,20 @@ fn lines() -> Vec<(usize, u64)> {
 
 #[test]
 fn turns_store_what_the_listing_says() {
-    let mut board = Board::after_turns(0);
+    let mut world = World::after_turns(0);
     for (index, value) in &lines()[..5] {
-        let before = board.image.clone();
-        assert_eq!(board.turn(0).unwrap(), Turn::Stored(*index));
+        let before = world.image.clone();
+        assert_eq!(world.turn(0).unwrap(), Turn::Stored(*index));
         let mut expected = before;
         expected[*index] = *value;
-        assert_eq!(board.image, expected);
+        assert_eq!(world.image, expected);
     }
 }
 
 /// The recovery's stores, found by cutting it after each of them.
 #[test]
 fn recovery_stores_what_the_listing_says() {
-    let start = Board::after_turns(5).image;
+    let start = World::after_turns(5).image;
     let stores = &lines()[5..];
     for k in 0..=stores.len() {
         let mut expected = start.clone();
@@ -49,97 +49,88 @@ fn recovery_stores_what_the_listing_says() {
             expected[*index] = *value;
         }
         let (mut image, mut at, mut left) = (start.clone(), Cursors::IDLE, k as u64);
-        zilpanud::recover(&mut image, &mut at, &mut left).unwrap();
+        cut::recover(&mut image, &mut at, &mut left).unwrap();
         assert_eq!((image, left), (expected, 0));
     }
 }
 
 #[test]
 fn recovery_makes_no_further_store() {
-    let mut board = Board::after_turns(5);
-    board.left = 10;
-    board.recover().unwrap();
-    assert_eq!(board.left, 7);
-    assert_eq!((board.at.step[0], board.at.turn[0]), (0, 5));
+    let mut world = World::after_turns(5);
+    world.left = 10;
+    world.recover().unwrap();
+    assert_eq!(world.left, 7);
+    assert_eq!((world.at.step[0], world.at.turn[0]), (0, 5));
 }
 
 #[test]
 fn uncut_it_takes_19_turns() {
-    let mut board = Board::after_turns(0);
-    let mut tally = Tally::default();
-    let end = zilpanud::run(&mut board.image, &mut board.at, 19, &mut tally, &mut board.left);
-    assert_eq!(end, Ok(End::AllIdle));
-    let expected = Tally { turns: 19, waits: 0, stores: 19 };
-    assert_eq!(tally, expected);
-    assert_eq!(board.image[CELL_24], 5);
-    assert_eq!(board.image[LOCK_3], 0);
-    assert_eq!(board.turn(0), Ok(Turn::Idle));
+    let mut world = World::after_turns(0);
+    let tally = Tally { turns: 19, waits: 0, stores: 19 };
+    assert_eq!(world.run(19), Ok(Run { end: End::AllIdle, tally }));
+    assert_eq!(world.image[CELL_24], 5);
+    assert_eq!(world.image[LOCK_3], 0);
+    assert_eq!(world.turn(0), Ok(Turn::Idle));
 }
 
 #[test]
 fn a_run_of_18_rounds_is_spent() {
-    let mut board = Board::after_turns(0);
-    let mut tally = Tally::default();
-    let Board { image, at, left } = &mut board;
-    assert_eq!(zilpanud::run(image, at, 18, &mut tally, left), Ok(End::Spent));
-    assert_eq!(tally.turns, 18);
-    assert_eq!(zilpanud::run(image, at, 0, &mut tally, left), Ok(End::Spent));
-    assert_eq!(tally, Tally::default());
-    assert_eq!(zilpanud::run(image, at, 1, &mut tally, left), Ok(End::AllIdle));
+    let mut world = World::after_turns(0);
+    let run = world.run(18).unwrap();
+    assert_eq!((run.end, run.tally.turns), (End::Spent, 18));
+    assert_eq!(world.run(0), Ok(Run { end: End::Spent, tally: Tally::default() }));
+    assert_eq!(world.run(1).unwrap().end, End::AllIdle);
 }
 
 /// Two workers at one lock: the second waits, and a waiting turn counts as a turn and as a wait.
 #[test]
 fn a_second_worker_waits() {
-    let mut board = Board::formatted(2);
-    board.submit(0, 1, &common::TICKET).unwrap();
-    board.submit(1, 1, &common::TICKET).unwrap();
+    let mut world = World::formatted(2);
+    world.submit(0, 1, &common::TICKET).unwrap();
+    world.submit(1, 1, &common::TICKET).unwrap();
     for _ in 0..2 {
-        board.turn(0).unwrap();
+        world.turn(0).unwrap();
     }
-    assert!(matches!(board.turn(1), Ok(Turn::Stored(_))));
-    assert_eq!(board.turn(1), Ok(Turn::Waiting(3)));
-    let mut tally = Tally::default();
-    let Board { image, at, left } = &mut board;
-    let end = zilpanud::run(image, at, 768, &mut tally, left);
-    assert_eq!(end, Ok(End::AllIdle));
+    assert!(matches!(world.turn(1), Ok(Turn::Stored(_))));
+    assert_eq!(world.turn(1), Ok(Turn::Waiting(3)));
+    let run = world.run(768);
     // 17 and 18 turns are left, and worker 1 waits in every round up to the one in which worker 0, whose turns come
     // first, makes its 15th turn and frees the lock: rounds 1 to 12.
-    let expected = Tally { turns: 17 + 18 + 12, waits: 12, stores: 17 + 18 };
-    assert_eq!(tally, expected);
+    let tally = Tally { turns: 17 + 18 + 12, waits: 12, stores: 17 + 18 };
+    assert_eq!(run, Ok(Run { end: End::AllIdle, tally }));
 }
 
 #[test]
 fn questions_follow_the_section() {
-    let mut board = Board::formatted(1);
-    let standing = |b: &Board, number| zilpanud::standing(&b.image, 0, number).unwrap();
-    let idle = |b: &Board| zilpanud::is_idle(&b.image, &b.at, 0).unwrap();
-    assert_eq!((standing(&board, 9), idle(&board)), (Standing::NotBegun, true));
+    let mut world = World::formatted(1);
+    let standing = |w: &World, number| zilpanud::standing(&w.image, 0, number).unwrap();
+    let idle = |w: &World| zilpanud::is_idle(&w.image, &w.at, 0).unwrap();
+    assert_eq!((standing(&world, 9), idle(&world)), (Standing::NotBegun, true));
     // a worker that finished no section has 0 as its last finished number
-    assert_eq!(standing(&board, 0), Standing::Finished);
-    board.submit(0, 9, &common::TICKET).unwrap();
+    assert_eq!(standing(&world, 0), Standing::Finished);
+    world.submit(0, 9, &common::TICKET).unwrap();
     // the pc is stored in the fifth turn, the finished number in the 17th, and the pc is 0 again after the 18th
     let turns = [(5, Standing::NotBegun), (12, Standing::Begun), (2, Standing::Finished)];
     for (count, expected) in turns {
         for _ in 0..count {
-            assert_eq!((standing(&board, 9), idle(&board)), (expected, false));
-            board.turn(0).unwrap();
+            assert_eq!((standing(&world, 9), idle(&world)), (expected, false));
+            world.turn(0).unwrap();
         }
     }
-    assert_eq!((standing(&board, 9), idle(&board)), (Standing::Finished, true));
-    assert_eq!(zilpanud::finished(&board.image, 0), Ok(9));
-    assert_eq!(board.image[FINISHED], 9);
+    assert_eq!((standing(&world, 9), idle(&world)), (Standing::Finished, true));
+    assert_eq!(zilpanud::finished(&world.image, 0), Ok(9));
+    assert_eq!(world.image[FINISHED], 9);
 }
 
 #[test]
 fn a_begun_section_is_that_of_its_own_number() {
-    let mut board = Board::formatted(1);
-    board.image[FINISHED] = 7;
-    board.submit(0, 9, &common::TICKET).unwrap();
+    let mut world = World::formatted(1);
+    world.image[FINISHED] = 7;
+    world.submit(0, 9, &common::TICKET).unwrap();
     for _ in 0..5 {
-        board.turn(0).unwrap();
+        world.turn(0).unwrap();
     }
-    let asked = [7, 8, 9, 10, u64::MAX].map(|number| zilpanud::standing(&board.image, 0, number).unwrap());
+    let asked = [7, 8, 9, 10, u64::MAX].map(|number| zilpanud::standing(&world.image, 0, number).unwrap());
     let no = Standing::NotBegun;
     assert_eq!(asked, [Standing::Finished, no, Standing::Begun, no, no]);
 }

@@ -1,7 +1,8 @@
 -- `day::advance` meets its contract. The loop's invariant is `Going` of proofs/Going.antt; the pieces left fall with each turn of it.
 use borrow.Author.Tests.{not-true, not-false}
 use native.Mathlib.Omega.{arith}
-use mathlib.Core.Path.{_∙_}
+use mathlib.Core.Path.{_≡_, _∙_}
+use mathlib.Core.Bool.{true}
 use lib.ListN.{drop}
 use Rattle.pieces.specs.Pieces.{piecesLeft}
 use Rattle.pieces.specs.Pieced.{pointOf}
@@ -72,7 +73,7 @@ loop-less c =
     let L = b21 .loop in
     let P = b18 .make in
     let R = b5 .run-on in
-    let e = not-false _ (b13 .if1 .left) in
+    let e : P .result .done ≡ true = not-false _ (b13 .if1 .left) in
     omega (
       arith,
       R .ensures .pieces,

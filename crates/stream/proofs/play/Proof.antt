@@ -6,16 +6,16 @@ use mathlib.Core.Path.{_≡_, ap}
 use lib.ListN.{length}
 use Rattle.edition.specs.Edition.{largest}
 use Rattle.stages.specs.declared.Day.{Day}
-use Rattle.stream.specs.Within.{Within}
+use Rattle.stream.specs.InBuffers.{InBuffers}
 use Rattle.stream.proofs.play.Statement.{statement}
 use Rattle.stream.proofs.play.Tie as tie
 
 abbrev Inv-loop : tie.InvT-loop
-Inv-loop input output image₀ buf₀ out₀ s₀ turns₀ image buf out s turns =
-    (length image ≡ largest) × (length buf ≡ 65536) × (length out ≡ 65536) × Within image buf s
+Inv-loop input output messages image₀ buf₀ out₀ s₀ turns₀ image buf out s turns =
+    (length image ≡ largest) × (length buf ≡ 65536) × (length out ≡ 65536) × InBuffers image buf s
 
 abbrev μ-loop : tie.MeasureT-loop
-μ-loop input output image₀ buf₀ out₀ s₀ turns₀ image buf out s turns = turns
+μ-loop input output messages image₀ buf₀ out₀ s₀ turns₀ image buf out s turns = turns
 
 large-buffer-requires : tie.Need-large-buffer-requires Inv-loop μ-loop
 large-buffer-requires c κs = search needs

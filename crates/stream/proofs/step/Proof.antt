@@ -1,13 +1,19 @@
 -- `stream::step` meets its contract: each part leaves the stream within its buffers.
 use borrow.Author.Needs.{needs}
 use native.Mathlib.Omega.{arith}
-use Prim.Native.Nat.{_-_, _≤_}
+use Prim.Native.Nat.{ℕ, _+_, _-_, _≤_}
 use mathlib.Core.Path.{ap}
-use lib.ListN.{drop, length-drop}
+use mathlib.Core.List.{List}
+use lib.ListN.{length, take, drop, length-drop}
 use lib.Seq.{length-take-le}
 use Rattle.stages.specs.declared.Day.{Day}
 use Rattle.stream.proofs.step.Statement.{statement}
 use Rattle.stream.proofs.step.Tie as tie
+
+-- what the core takes of the bytes lent lies among them
+private-taken : (buf : List ℕ) (from to taken : ℕ) → from ≤ to → to ≤ length buf → taken ≤ length (take (to - from) (drop from buf)) → from + taken ≤ to
+private-taken buf from to taken rising held h =
+    omega (arith, h, length-take-le (to - from) (drop from buf) (omega (arith, length-drop from buf, held, rising)), rising)
 
 sub-advance : tie.Need-sub-advance
 sub-advance c = search needs
@@ -30,8 +36,13 @@ sub-wants c = search needs
 wants-requires : tie.Need-wants-requires
 wants-requires c κs = search needs
 
-add-t21 : tie.Need-add-t21
-add-t21 c = search needs
+add-t22 : tie.Need-add-t22
+add-t22 c =
+    let b8 = c .before .before .before .before .before .before .before .before in
+    let S = b8 .before .before .before .before .before .before .before .before .before in
+    let s = S .args .s in
+    let h = private-taken (S .args .buf .now) (s .from) (s .to) (b8 .advance .result .taken) (S .pre .rising) (S .pre .held) (b8 .advance .ensures .taken) in
+    search (needs, h)
 
 enum-told : tie.Need-enum-told
 enum-told c = search needs
@@ -98,19 +109,15 @@ same-length-9 c = search needs
 returns-3 : tie.Need-returns-3
 returns-3 c =
     let back = c .before .before .before .before .before .before .before .before .before in
-    let b11 = back .before .before in
+    let b11 = back .before .before .before in
     let b20 = b11 .before .before .before .before .before .before .before .before .before in
     let E = c .ended in
     let R = b11 .advance in
     let S = b20 in
-    let t : R .result .taken ≤ S .args .s .to - S .args .s .from = omega (
-      arith,
-      R .ensures .taken,
-      length-take-le (S .args .s .to - S .args .s .from) (drop (S .args .s .from) (S .args .buf .now))
-          (omega (arith, length-drop (S .args .s .from) (S .args .buf .now), S .pre .held, S .pre .rising)),
-    ) in
+    let s = S .args .s in
+    let t = private-taken (S .args .buf .now) (s .from) (s .to) (R .result .taken) (S .pre .rising) (S .pre .held) (R .ensures .taken) in
     record {
-      rising = omega (arith, E .ensures .1, E .ensures .2, S .pre .rising);
+      rising = omega (arith, E .ensures .1, E .ensures .2, t);
       held = omega (arith, E .ensures .2, S .pre .held);
       holds = record {
         words = omega (arith, ap (λ (d : Day). d .words) (E .ensures .0), R .ensures .keeps .words);
@@ -129,7 +136,7 @@ step-spec =
     flush-requires
     sub-wants
     wants-requires
-    add-t21
+    add-t22
     enum-told
     enum-told-2
     more-requires

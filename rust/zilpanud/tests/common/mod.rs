@@ -2,27 +2,13 @@
 
 #![allow(dead_code)]
 
-use zilpanud::{cell_index, image_len, instruction, Cursors, Turn, ENOUGH};
+use std::path::PathBuf;
+use std::{env, fs, process};
+use zilpanud::code::{acquire, finish, release, set};
+use zilpanud::cut::{self, ENOUGH};
+use zilpanud::{cell_index, image_len, Cursors, Refusal, RefusedRun, Run, Turn};
 
-pub const fn acquire(lock: u16) -> u64 {
-    instruction(1, lock, 0, 0)
-}
-
-pub const fn release(lock: u16) -> u64 {
-    instruction(2, lock, 0, 0)
-}
-
-pub const fn literal(word: u16, value: u16) -> u64 {
-    instruction(3, word, 0, value)
-}
-
-pub const fn jump(word: u16, to: u16) -> u64 {
-    instruction(7, word, to, 0)
-}
-
-pub const FINISH: u64 = instruction(8, 0, 0, 0);
-
-pub const TICKET: [u64; 4] = [acquire(3), literal(24, 5), release(3), FINISH];
+pub const TICKET: [u64; 4] = [acquire(3), set(24, 5), release(3), finish()];
 
 pub const CELL_24: usize = cell_index(24);
 
@@ -41,39 +27,85 @@ pub const FINISHED: usize = RECORD + 9;
 pub const OWN: usize = RECORD + 10;
 pub const STEPS: usize = RECORD + 18;
 
-pub struct Board {
+/// An image with what its calls are lent.
+pub struct World {
     pub image: Vec<u64>,
     pub at: Cursors,
     pub left: u64,
 }
 
-impl Board {
-    pub fn formatted(workers: usize) -> Board {
-        let mut board = Board { image: vec![7; image_len(workers)], at: Cursors::IDLE, left: ENOUGH };
-        zilpanud::format(&mut board.image, workers as u64, &mut board.at, &mut board.left).unwrap();
-        board
+impl World {
+    pub fn formatted(workers: usize) -> World {
+        let mut image = vec![7; image_len(workers)];
+        let at = zilpanud::format(&mut image, workers).unwrap();
+        World { image, at, left: ENOUGH }
     }
 
     /// One worker with the ticket submitted and so many turns made, each of which stores.
-    pub fn after_turns(turns: usize) -> Board {
-        let mut board = Board::formatted(1);
-        board.submit(0, 1, &TICKET).unwrap();
+    pub fn after_turns(turns: usize) -> World {
+        let mut world = World::formatted(1);
+        world.submit(0, 1, &TICKET).unwrap();
         for _ in 0..turns {
-            assert!(matches!(board.turn(0).unwrap(), Turn::Stored(_)));
+            assert!(matches!(world.turn(0).unwrap(), Turn::Stored(_)));
         }
-        board
+        world
     }
 
-    pub fn submit(&mut self, worker: usize, number: u64, section: &[u64]) -> Result<(), zilpanud::Refusal> {
-        let Board { image, at, left } = self;
-        zilpanud::submit(image, at, worker, number, &[0; 8], section, left)
+    pub fn submit(&mut self, worker: usize, number: u64, section: &[u64]) -> Result<(), Refusal> {
+        self.submit_with(worker, number, &[0; 8], section)
     }
 
-    pub fn turn(&mut self, worker: usize) -> Result<Turn, zilpanud::Refusal> {
-        zilpanud::turn(&mut self.image, &mut self.at, worker, &mut self.left)
+    pub fn submit_with(
+        &mut self,
+        worker: usize,
+        number: u64,
+        args: &[u64; 8],
+        section: &[u64],
+    ) -> Result<(), Refusal> {
+        let World { image, at, left } = self;
+        cut::submit(image, at, worker, number, args, section, left)
     }
 
-    pub fn recover(&mut self) -> Result<(), zilpanud::Refusal> {
-        zilpanud::recover(&mut self.image, &mut self.at, &mut self.left)
+    pub fn turn(&mut self, worker: usize) -> Result<Turn, Refusal> {
+        cut::turn(&mut self.image, &mut self.at, worker, &mut self.left)
+    }
+
+    pub fn run(&mut self, rounds: u16) -> Result<Run, RefusedRun> {
+        cut::run(&mut self.image, &mut self.at, rounds, &mut self.left)
+    }
+
+    pub fn recover(&mut self) -> Result<(), Refusal> {
+        cut::recover(&mut self.image, &mut self.at, &mut self.left)
+    }
+}
+
+/// A folder of a test's own, which goes away with it.
+pub struct Folder(PathBuf);
+
+impl Folder {
+    pub fn new(test: &str) -> Folder {
+        let folder = env::temp_dir().join(format!("zilpanud-test-{}-{test}", process::id()));
+        let _ = fs::remove_dir_all(&folder); // a process of this number may have been killed
+        fs::create_dir(&folder).unwrap();
+        Folder(folder)
+    }
+
+    pub fn path(&self, name: &str) -> PathBuf {
+        self.0.join(name)
+    }
+
+    /// The names of the files in it, in order.
+    pub fn names(&self) -> Vec<String> {
+        let entries = fs::read_dir(&self.0).unwrap();
+        let mut names: Vec<String> =
+            entries.map(|entry| entry.unwrap().file_name().into_string().unwrap()).collect();
+        names.sort();
+        names
+    }
+}
+
+impl Drop for Folder {
+    fn drop(&mut self) {
+        let _ = fs::remove_dir_all(&self.0);
     }
 }

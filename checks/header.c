@@ -1,0 +1,183 @@
+/*
+ * The header, as C99 and as C++17: every macro and every call of it is used, and what it says of the archive is tried.
+ * Exits with 1 at the first thing that is not so.
+ */
+#include "header_again.h"
+
+#include <stdio.h>
+#include <stdlib.h>
+#include <string.h>
+#include <zilpanud.h>
+
+/* ---- what must hold when this is compiled, in constant expressions */
+
+#define HOLDS(name, condition) typedef char name[(condition) ? 1 : -1]
+
+HOLDS(sizes, ZILPANUD_WORKERS == 8 && ZILPANUD_CELLS == 512 && ZILPANUD_LOCKS == 64 && ZILPANUD_ARGS == 8);
+HOLDS(steps, ZILPANUD_STEPS_MIN == 3 && ZILPANUD_STEPS_MAX == 64 && ZILPANUD_IDLE == 255);
+HOLDS(least_image, ZILPANUD_IMAGE_WORDS(1) == 666);
+HOLDS(largest_image, ZILPANUD_IMAGE_WORDS(ZILPANUD_WORKERS) == 1240);
+HOLDS(cells, ZILPANUD_CELL_INDEX(0) == 8 && ZILPANUD_CELL_INDEX(511) == 519);
+HOLDS(owners, ZILPANUD_OWNER_INDEX(0) == 520 && ZILPANUD_OWNER_INDEX(63) == 583);
+HOLDS(own_words, ZILPANUD_OWN(0) == 512 && ZILPANUD_OWN(7) == 519);
+HOLDS(packed, ZILPANUD_INSTRUCTION(0x1234, 0x5678, 0x9abc, 0xdef0) == UINT64_C(0x123456789abcdef0));
+HOLDS(kinds, ZILPANUD_INSTRUCTION(ZILPANUD_SUBTRACT, 1, 2, 3) == UINT64_C(0x0005000100020003));
+
+enum { WORKERS = 2, WORDS = ZILPANUD_IMAGE_WORDS(WORKERS) };
+
+/* Every kind once: 20 and 7 are the first two arguments. The jump goes on, since 7 < 20. */
+static const uint64_t section[] = {
+    ZILPANUD_INSTRUCTION(ZILPANUD_ACQUIRE, 3, 0, 0),
+    ZILPANUD_INSTRUCTION(ZILPANUD_SET, 24, 1, 5),
+    ZILPANUD_INSTRUCTION(ZILPANUD_ADD, 25, ZILPANUD_OWN(0), ZILPANUD_OWN(1)),
+    ZILPANUD_INSTRUCTION(ZILPANUD_SUBTRACT, 26, ZILPANUD_OWN(0), ZILPANUD_OWN(1)),
+    ZILPANUD_INSTRUCTION(ZILPANUD_LESS, 27, ZILPANUD_OWN(1), ZILPANUD_OWN(0)),
+    ZILPANUD_INSTRUCTION(ZILPANUD_JUMP, 27, 6, 0),
+    ZILPANUD_INSTRUCTION(ZILPANUD_RELEASE, 3, 0, 0),
+    ZILPANUD_INSTRUCTION(ZILPANUD_FINISH, 0, 0, 0),
+};
+
+enum { STEPS = sizeof section / sizeof section[0] };
+
+static const uint64_t args[ZILPANUD_ARGS] = {20, 7, 0, 0, 0, 0, 0, 0};
+
+static uint64_t image[WORDS];
+static uint8_t step[ZILPANUD_WORKERS];
+static uint8_t turn[ZILPANUD_WORKERS];
+static uint64_t detail;
+
+static void ensure(int holds, const char *what)
+{
+    if (!holds) {
+        fprintf(stderr, "header: not so: %s\n", what);
+        exit(1);
+    }
+}
+
+/* ---- texts and version */
+
+static void texts_differ(void)
+{
+    static const uint64_t known[] = {
+        ZILPANUD_DONE, ZILPANUD_NO_WORKER, ZILPANUD_BUSY, ZILPANUD_NUMBER,
+        ZILPANUD_LENGTH, ZILPANUD_MALFORMED, ZILPANUD_UNBRACKETED, ZILPANUD_UNORDERED,
+        ZILPANUD_UNGUARDED, ZILPANUD_UNLEVEL, ZILPANUD_IMAGE, ZILPANUD_CURSOR,
+        ZILPANUD_RECORD, ZILPANUD_LOCK, ZILPANUD_LINE, ZILPANUD_STORED,
+        ZILPANUD_PASSED, ZILPANUD_WAITING, ZILPANUD_IDLE_WORKER, ZILPANUD_SPENT,
+    };
+    const size_t count = sizeof known / sizeof known[0];
+    const char *const unknown = zilpanud_text(UINT64_MAX);
+    ensure(strlen(unknown) > 0 && strcmp(zilpanud_text(15), unknown) == 0, "unknown answers have a text");
+    for (size_t i = 0; i < count; i++) {
+        const char *const text = zilpanud_text(known[i]);
+        ensure(strlen(text) > 0 && strcspn(text, "\n") == strlen(text), "an answer has a text of one line");
+        ensure(strcmp(text, unknown) != 0, "an answer is known");
+        ensure(known[i] == (i < 15 ? i : i + 1), "answers are 0 to 14 and 16 to 20");
+        for (size_t j = 0; j < i; j++) {
+            ensure(strcmp(text, zilpanud_text(known[j])) != 0, "no two answers have one text");
+        }
+    }
+}
+
+static void versions_agree(void)
+{
+    char text[64];
+    const int number = ZILPANUD_VERSION;
+    snprintf(text, sizeof text, "%d.%d.%d", number / 1000000, number / 1000 % 1000, number % 1000);
+    ensure(strcmp(text, ZILPANUD_VERSION_TEXT) == 0, "the version's number and text agree");
+    ensure(zilpanud_version() == ZILPANUD_VERSION, "the archive is of the header's version");
+}
+
+/* ---- calls */
+
+static uint64_t submit(size_t worker, uint64_t number, size_t steps_given)
+{
+    return zilpanud_submit(image, WORDS, step, turn, worker, number, args, section, steps_given, ZILPANUD_ALL, &detail);
+}
+
+static uint64_t one_turn(size_t worker)
+{
+    return zilpanud_turn(image, WORDS, step, turn, worker, ZILPANUD_ALL, &detail);
+}
+
+static uint64_t standing(uint64_t number)
+{
+    uint64_t stands;
+    ensure(zilpanud_standing(image, WORDS, 0, number, &stands) == ZILPANUD_DONE, "standing is told");
+    return stands;
+}
+
+static void formatted(void)
+{
+    ensure(zilpanud_format(image, WORDS - 1, WORKERS, step, turn, ZILPANUD_ALL) == ZILPANUD_IMAGE, "10 for a length");
+    ensure(zilpanud_format(image, WORDS, WORKERS, step, turn, ZILPANUD_ALL) == ZILPANUD_DONE, "formatted");
+    ensure(image[0] == 1 && image[1] == WORKERS && turn[0] == ZILPANUD_IDLE, "an image of idle workers");
+}
+
+/* A length of 0, with a pointer that may not be read. */
+static void nothing_given(void)
+{
+    uint64_t told;
+    uint64_t *const end = image + WORDS;
+    ensure(zilpanud_check(end, 0, &detail) == ZILPANUD_LENGTH, "4 for no steps");
+    ensure(zilpanud_format(end, 0, 1, step, turn, ZILPANUD_ALL) == ZILPANUD_IMAGE, "10 for no words");
+    ensure(zilpanud_recover(end, 0, step, turn, ZILPANUD_ALL, &detail) == ZILPANUD_IMAGE, "10 for no words");
+    ensure(zilpanud_finished(end, 0, 0, &told) == ZILPANUD_IMAGE && told == 0, "10 for no words");
+}
+
+static void turns_made(void)
+{
+    uint64_t told;
+    ensure(zilpanud_check(section, STEPS, &detail) == ZILPANUD_DONE, "the section passes");
+    ensure(submit(0, 0, STEPS) == ZILPANUD_NUMBER && submit(WORKERS, 1, STEPS) == ZILPANUD_NO_WORKER, "3 and 1");
+    ensure(submit(0, 1, 2) == ZILPANUD_LENGTH && submit(0, 1, STEPS - 1) == ZILPANUD_MALFORMED, "4 and 5");
+    ensure(detail == STEPS - 2, "the step that fails");
+    ensure(submit(0, 1, STEPS) == ZILPANUD_DONE && submit(0, 2, STEPS) == ZILPANUD_BUSY, "taken, and then busy");
+    ensure(submit(1, 1, STEPS) == ZILPANUD_DONE, "worker 1 is given the same");
+    ensure(one_turn(0) == ZILPANUD_STORED && one_turn(0) == ZILPANUD_STORED, "two turns store");
+    ensure(detail == ZILPANUD_OWNER_INDEX(3) && image[detail] == 1, "worker 0 has lock 3");
+    ensure(one_turn(1) == ZILPANUD_STORED && one_turn(1) == ZILPANUD_WAITING && detail == 3, "worker 1 waits for it");
+    ensure(zilpanud_is_idle(image, WORDS, step, turn, 0, &told) == ZILPANUD_DONE && told == 0, "not idle");
+    ensure(standing(1) == ZILPANUD_NOT_BEGUN, "not begun");
+    ensure(one_turn(0) == ZILPANUD_STORED && one_turn(0) == ZILPANUD_STORED && one_turn(0) == ZILPANUD_STORED, "three");
+    ensure(standing(1) == ZILPANUD_BEGUN, "begun with the fifth store");
+}
+
+static void cut_and_run(void)
+{
+    uint64_t tally[3];
+    uint64_t told;
+    ensure(zilpanud_recover(image, WORDS, step, turn, ZILPANUD_ALL, &detail) == ZILPANUD_DONE, "recovered");
+    ensure(one_turn(1) == ZILPANUD_IDLE_WORKER, "worker 1's section was not begun and is withdrawn");
+    ensure(zilpanud_run(image, WORDS, step, turn, 1, tally, ZILPANUD_ALL, &detail) == ZILPANUD_SPENT, "one round");
+    ensure(zilpanud_run(image, WORDS, step, turn, 384 * WORKERS, tally, ZILPANUD_ALL, &detail) == ZILPANUD_DONE, "all");
+    ensure(tally[0] == tally[2] + 1 && tally[1] == 0, "the jump is the one turn that stores nothing");
+    ensure(standing(1) == ZILPANUD_FINISHED && standing(2) == ZILPANUD_NOT_BEGUN, "finished");
+    ensure(zilpanud_finished(image, WORDS, 0, &told) == ZILPANUD_DONE && told == 1, "number 1 is the last finished");
+    ensure(image[ZILPANUD_CELL_INDEX(24)] == 65541 && image[ZILPANUD_CELL_INDEX(25)] == 27, "set and sum");
+    ensure(image[ZILPANUD_CELL_INDEX(26)] == 13 && image[ZILPANUD_CELL_INDEX(27)] == 1, "difference and comparison");
+}
+
+static void stores_left(void)
+{
+    uint64_t left = 1;
+    uint64_t *const all = ZILPANUD_ALL;
+    ensure(*all == UINT64_MAX && left_elsewhere() == UINT64_MAX, "enough stores");
+    ensure(zilpanud_format(image, WORDS, WORKERS, step, turn, &left) == ZILPANUD_DONE && left == 0, "cut after one");
+    ensure(image[0] == 0, "its first store is 0 in word 0");
+    ensure(zilpanud_format(image, WORDS, WORKERS, step, turn, all) == ZILPANUD_DONE, "formatted again");
+    ensure(*all == UINT64_MAX - WORDS - 1 && *ZILPANUD_ALL == UINT64_MAX, "each use has enough");
+}
+
+int main(void)
+{
+    texts_differ();
+    versions_agree();
+    formatted();
+    nothing_given();
+    formatted();
+    turns_made();
+    cut_and_run();
+    stores_left();
+    return 0;
+}

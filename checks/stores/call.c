@@ -1,0 +1,52 @@
+#include "call.h"
+
+#include <inttypes.h>
+
+static uint64_t changing(const struct call *call, struct world *w)
+{
+    uint64_t *image = w->memory.image;
+    switch (call->name) {
+    case FORMAT: return zilpanud_format(image, call->words, call->workers, w->step, w->turn, &w->left);
+    case SUBMIT:
+        return zilpanud_submit(image, call->words, w->step, w->turn, call->worker, call->number, call->args,
+                               call->section, call->steps, &w->left, &w->detail);
+    case TURN: return zilpanud_turn(image, call->words, w->step, w->turn, call->worker, &w->left, &w->detail);
+    case RUN:
+        return zilpanud_run(image, call->words, w->step, w->turn, call->rounds, w->tally, &w->left, &w->detail);
+    default: return zilpanud_recover(image, call->words, w->step, w->turn, &w->left, &w->detail);
+    }
+}
+
+void perform(const struct call *call, struct world *w)
+{
+    const uint64_t *image = w->memory.image;
+    switch (call->name) {
+    case CHECK: w->answer = zilpanud_check(call->section, call->steps, &w->detail); break;
+    case IS_IDLE:
+        w->answer = zilpanud_is_idle(image, call->words, w->step, w->turn, call->worker, &w->told);
+        break;
+    case FINISHED: w->answer = zilpanud_finished(image, call->words, call->worker, &w->told); break;
+    case STANDING:
+        w->answer = zilpanud_standing(image, call->words, call->worker, call->number, &w->told);
+        break;
+    default: w->answer = changing(call, w);
+    }
+}
+
+void describe(FILE *to, const struct call *call)
+{
+    static const char *const names[NAMES] = {
+        "format", "check", "submit", "turn", "run", "recover", "is_idle", "finished", "standing",
+    };
+    fprintf(to, "%s of %zu words", names[call->name], call->words);
+    switch (call->name) {
+    case FORMAT: fprintf(to, ", workers %" PRIu64, call->workers); break;
+    case CHECK: fprintf(to, ", steps %zu", call->steps); break;
+    case SUBMIT:
+        fprintf(to, ", worker %zu, number %" PRIu64 ", steps %zu", call->worker, call->number, call->steps);
+        break;
+    case RUN: fprintf(to, ", rounds %d", call->rounds); break;
+    case RECOVER: break;
+    default: fprintf(to, ", worker %zu", call->worker);
+    }
+}

@@ -1,0 +1,55 @@
+/*
+ * A call of the library as data: the watched child makes it, and its parent makes it again on copies, cut after each of
+ * its stores.
+ */
+#ifndef STORES_CALL_H
+#define STORES_CALL_H
+
+#include <stddef.h>
+#include <stdint.h>
+#include <stdio.h>
+#include <zilpanud.h>
+
+#define LARGEST 1240    /* the words of an image of 8 workers */
+#define AROUND 8        /* words watched before and behind it, which no call may change */
+
+enum name { FORMAT, CHECK, SUBMIT, TURN, RUN, RECOVER, IS_IDLE, FINISHED, STANDING, NAMES };
+
+/* what a call is given by value or only reads */
+struct call {
+    enum name name;
+    size_t words;    /* the image's length that the call is told */
+    uint64_t workers;
+    size_t worker;
+    uint64_t number;
+    uint16_t rounds;
+    uint64_t args[ZILPANUD_ARGS];
+    size_t steps;
+    uint64_t section[ZILPANUD_STEPS_MAX + 1];
+};
+
+/* the words that are watched */
+struct memory {
+    uint64_t before[AROUND];
+    uint64_t image[LARGEST];
+    uint64_t behind[AROUND];
+};
+
+/* what a call is lent, and its answer. There is no room between the members, so that two of them compare by bytes. */
+struct world {
+    struct memory memory;
+    uint8_t step[ZILPANUD_WORKERS];
+    uint8_t turn[ZILPANUD_WORKERS];
+    uint64_t left;
+    uint64_t detail;
+    uint64_t tally[3];
+    uint64_t told;    /* what a question writes */
+    uint64_t answer;
+};
+
+void perform(const struct call *call, struct world *world);
+
+/* the call in a few words, for a message */
+void describe(FILE *to, const struct call *call);
+
+#endif

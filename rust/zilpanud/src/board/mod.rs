@@ -1,0 +1,212 @@
+//! Boards in files.
+
+mod error;
+mod file;
+mod mapping;
+
+pub use error::BoardError;
+
+use crate::{cell_index, image_len, owner_index, CELLS, LOCKS, WORKERS};
+use crate::{Cursors, Refusal, RefusedRun, Run, Standing, Turn};
+use mapping::Mapping;
+use std::fs::File;
+use std::path::Path;
+
+/// A board in a file that is mapped into memory, with the cursors of its workers: one process has it at a time.
+///
+/// Opening it recovers it. A section that was begun goes on with the turns and runs that follow; one that was submitted
+/// and not begun is withdrawn, as if it had not been.
+///
+/// ```
+/// use zilpanud::code::{acquire, add, finish, lock_of, own, release, sub};
+/// use zilpanud::{Board, End, Standing};
+///
+/// # let path = std::env::temp_dir().join(format!("zilpanud-board-page-{}", std::process::id()));
+/// # let _ = std::fs::remove_file(&path);
+/// // Moves own word 0 from cell 24 to cell 40.
+/// let (from, to) = (24, 40);
+/// let section = [
+///     acquire(lock_of(from)),
+///     acquire(lock_of(to)),
+///     sub(from, from, own(0)),
+///     add(to, to, own(0)),
+///     release(lock_of(to)),
+///     release(lock_of(from)),
+///     finish(),
+/// ];
+/// let args = [7, 0, 0, 0, 0, 0, 0, 0];
+///
+/// let mut board = Board::create(&path, 2)?;
+/// let number = board.finished(1)? + 1;
+/// board.submit(1, number, &args, &section)?;
+/// board.run(20)?;
+/// drop(board); // or the process is killed, here or anywhere
+///
+/// let mut board = Board::open(&path)?;
+/// match board.standing(1, number)? {
+///     Standing::NotBegun => board.submit(1, number, &args, &section)?,
+///     Standing::Begun | Standing::Finished => {} // it is not submitted again
+/// }
+/// let run = board.run_to_idle()?;
+/// assert_eq!(run.end, End::AllIdle);
+/// assert_eq!((board.cell(24), board.cell(40)), (Some(0u64.wrapping_sub(7)), Some(7)));
+/// # drop(board);
+/// # std::fs::remove_file(&path)?;
+/// # Ok::<(), Box<dyn std::error::Error>>(())
+/// ```
+///
+/// # What the file must be kept in
+///
+/// Nothing is flushed: a store is done when it is made in memory. What is proved holds where memory keeps every store
+/// in the order made when the power goes: battery-kept memory, or persistent memory mapped directly (a DAX file system)
+/// on a machine that keeps or flushes its caches then. On an ordinary file a killed process loses nothing, since the
+/// system has every store that it made; a real cut of the power may lose some and keep later ones, since the system's
+/// page cache is not battery-kept.
+///
+/// # The file
+///
+/// It is the image and nothing else, in the machine's own order of bytes: 8 × [`image_len`] of them. A board is made
+/// under another name, `NAME.PROCESS-NUMBER.new` in the same folder, and gets its own when it is formatted and on the
+/// disk. So a file under its name is a finished formatting, and one that a recovery refuses was changed by something
+/// else: it is left as it is, and never formatted. A process that is killed while it makes a board may leave a file of
+/// the other name; nobody reads it, and it may be removed. The folder's file system must have hard links.
+///
+/// The lock is the system's advisory one on the file. It goes when the board is dropped and when its process ends, and
+/// it binds those who ask for it: while a board is open, no other program may write or shorten its file.
+#[derive(Debug)]
+pub struct Board {
+    /// Dropped first: the file is unmapped, then closed and with that unlocked.
+    image: Mapping,
+    cursors: Cursors,
+    workers: usize,
+    _locked: File,
+}
+
+/// Making and opening.
+impl Board {
+    /// Makes a board of 1 to 8 workers, all cells 0. Refuses a path where there is a file already.
+    pub fn create(path: impl AsRef<Path>, workers: usize) -> Result<Board, BoardError> {
+        let path = path.as_ref();
+        let mut words = vec![0; image_len(workers.min(WORKERS))];
+        crate::format(&mut words, workers).map_err(BoardError::refused(path))?;
+        Board::recovered(file::make(path, &words)?, path, workers)
+    }
+
+    /// Opens and recovers the board in a file. One that is no board, or whose recovery is refused, is left as it was.
+    pub fn open(path: impl AsRef<Path>) -> Result<Board, BoardError> {
+        let path = path.as_ref();
+        let file = file::open(path)?;
+        let workers = file::workers(&file, path)?;
+        Board::recovered(file, path, workers)
+    }
+
+    /// Opens and recovers the board in a file, or makes it if there is no file. A board that is there must have this
+    /// number of workers.
+    pub fn open_or_create(path: impl AsRef<Path>, workers: usize) -> Result<Board, BoardError> {
+        let path = path.as_ref();
+        let file = match file::open(path) {
+            Err(error) if error.is_not_found() => match Board::create(path, workers) {
+                // another process was quicker
+                Err(BoardError::Exists { .. }) => file::open(path)?,
+                made => return made,
+            },
+            opened => opened?,
+        };
+        let found = file::workers(&file, path)?;
+        if found != workers {
+            return Err(BoardError::Workers { path: path.to_path_buf(), found, asked: workers });
+        }
+        Board::recovered(file, path, workers)
+    }
+
+    /// The board of a file that is locked and as long as one of so many workers.
+    fn recovered(file: File, path: &Path, workers: usize) -> Result<Board, BoardError> {
+        let mapped = Mapping::of(&file, image_len(workers));
+        let mut image = mapped.map_err(BoardError::io("mapped", path))?;
+        let cursors = crate::recover(image.words_mut()).map_err(BoardError::refused(path))?;
+        Ok(Board { image, cursors, workers, _locked: file })
+    }
+}
+
+/// Calls that change the board.
+impl Board {
+    /// Submits a section to a worker under a number above the last that it finished, with its arguments, which become
+    /// the worker's own words. Refuses with causes 1, 2, 3, then 4 to 9, and changes nothing.
+    pub fn submit(
+        &mut self,
+        worker: usize,
+        number: u64,
+        args: &[u64; 8],
+        section: &[u64],
+    ) -> Result<(), Refusal> {
+        crate::submit(self.image.words_mut(), &mut self.cursors, worker, number, args, section)
+    }
+
+    /// Submits a section under the worker's next number, one above the last finished, and gives the number. A caller
+    /// that must know after a crash which number it used notes it first, from [`finished`](Board::finished), and calls
+    /// [`submit`](Board::submit): here a crash can come before the number is told.
+    pub fn submit_next(&mut self, worker: usize, args: &[u64; 8], section: &[u64]) -> Result<u64, Refusal> {
+        let number = self.finished(worker)?.saturating_add(1);
+        self.submit(worker, number, args, section)?;
+        Ok(number)
+    }
+
+    /// One turn of a worker, with at most one store. Refuses with causes 1 and 11, and changes nothing.
+    pub fn turn(&mut self, worker: usize) -> Result<Turn, Refusal> {
+        crate::turn(self.image.words_mut(), &mut self.cursors, worker)
+    }
+
+    /// Rounds of turns, each worker that is not idle one turn a round by rising number, until all are idle or the
+    /// rounds are spent. If it is refused, with cause 11, the turns before that stand, and so does their tally.
+    pub fn run(&mut self, rounds: u16) -> Result<Run, RefusedRun> {
+        crate::run(self.image.words_mut(), &mut self.cursors, rounds)
+    }
+
+    /// A run of as many rounds as there can be. On a board that only this engine changed it ends with
+    /// [`End::AllIdle`](crate::End::AllIdle): every section that was submitted is finished, and every lock is free.
+    pub fn run_to_idle(&mut self) -> Result<Run, RefusedRun> {
+        self.run(u16::MAX)
+    }
+}
+
+/// Questions. Those about a worker refuse with cause 1 one that the board has not.
+impl Board {
+    /// The number of workers.
+    pub fn workers(&self) -> usize {
+        self.workers
+    }
+
+    /// Whether a worker is idle: it has no section to go on with.
+    pub fn is_idle(&self, worker: usize) -> Result<bool, Refusal> {
+        crate::is_idle(self.image.words(), &self.cursors, worker)
+    }
+
+    /// The number of the last section that a worker finished; 0 before its first.
+    pub fn finished(&self, worker: usize) -> Result<u64, Refusal> {
+        crate::finished(self.image.words(), worker)
+    }
+
+    /// How a worker stands to the section of this number: what to ask after a crash. One that is not begun is submitted
+    /// again, under the same number; one that is begun is left to its turns; one that is finished is done. With numbers
+    /// that follow one another, each one above the last finished, every section is carried out once.
+    pub fn standing(&self, worker: usize, number: u64) -> Result<Standing, Refusal> {
+        crate::standing(self.image.words(), worker, number)
+    }
+
+    /// The 512 cells.
+    pub fn cells(&self) -> &[u64] {
+        &self.image.words()[cell_index(0)..cell_index(CELLS)]
+    }
+
+    /// The value of a cell, 0 to 511; none for another number.
+    pub fn cell(&self, cell: usize) -> Option<u64> {
+        self.cells().get(cell).copied()
+    }
+
+    /// The worker that has a lock, 0 to 63; none if it is free, and for another number.
+    pub fn owner(&self, lock: usize) -> Option<usize> {
+        let owners = &self.image.words()[owner_index(0)..owner_index(LOCKS)];
+        let word = owners.get(lock)?;
+        word.checked_sub(1).map(|worker| worker as usize)
+    }
+}

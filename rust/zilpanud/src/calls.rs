@@ -1,0 +1,101 @@
+//! The calls on an image that the caller keeps, none of them cut: `&mut { ENOUGH }` lends a number that nobody looks at
+//! again.
+
+use crate::cut::{self, done, ENOUGH};
+use crate::{raw, Cause, Cursors, Refusal, RefusedRun, Run, Standing, Turn};
+
+/// Formats an image for so many workers, and gives the cursors, all idle. Refuses with cause 10 and stores nothing.
+///
+/// It is for a new image. One that a recovery refuses is better kept for those who can mend it: formatting loses it.
+pub fn format(image: &mut [u64], workers: usize) -> Result<Cursors, Refusal> {
+    let mut cursors = Cursors::IDLE;
+    cut::format(image, workers, &mut cursors, &mut { ENOUGH })?;
+    Ok(cursors)
+}
+
+/// The check of a section alone. Refuses with the first of causes 4 to 9 that the section fails.
+pub fn check(section: &[u64]) -> Result<(), Refusal> {
+    let mut detail = 0;
+    // SAFETY: here and below, every pointer comes from a live reference of its own, and every length is its slice's.
+    let answer = unsafe { raw::zilpanud_check(section.as_ptr(), section.len(), &mut detail) };
+    done(answer, detail)
+}
+
+/// Submits a section to a worker, with its number and its arguments, which become the worker's own words. Refuses with
+/// causes 10, 1, 2, 3, then 4 to 9, and leaves image and cursors as they were.
+pub fn submit(
+    image: &mut [u64],
+    cursors: &mut Cursors,
+    worker: usize,
+    number: u64,
+    args: &[u64; 8],
+    section: &[u64],
+) -> Result<(), Refusal> {
+    cut::submit(image, cursors, worker, number, args, section, &mut { ENOUGH })
+}
+
+/// One turn of a worker, with at most one store. Refuses with causes 10, 1, 11 and leaves image and cursors as they
+/// were.
+pub fn turn(image: &mut [u64], cursors: &mut Cursors, worker: usize) -> Result<Turn, Refusal> {
+    cut::turn(image, cursors, worker, &mut { ENOUGH })
+}
+
+/// Rounds of turns, each worker that is not idle one turn a round by rising number, until all are idle or the rounds
+/// are spent. 384 rounds for each worker of the image are proved to be enough for any sections, and more cost nothing:
+/// [`u16::MAX`] will do for every image.
+///
+/// Refuses with cause 10, then 11 as it meets it; the turns before that stand, and so does their tally.
+pub fn run(image: &mut [u64], cursors: &mut Cursors, rounds: u16) -> Result<Run, RefusedRun> {
+    cut::run(image, cursors, rounds, &mut { ENOUGH })
+}
+
+/// Recovery after a cut. It gives the cursors: a section that was begun goes on where it was, one that was submitted
+/// and not begun is withdrawn, and all other workers are idle. Refuses with causes 10, 12, 13 and leaves the image as
+/// it was.
+pub fn recover(image: &mut [u64]) -> Result<Cursors, Refusal> {
+    let mut cursors = Cursors::IDLE;
+    cut::recover(image, &mut cursors, &mut { ENOUGH })?;
+    Ok(cursors)
+}
+
+/// Whether a worker is idle. Refuses with causes 10, 1, as the questions below do.
+pub fn is_idle(image: &[u64], cursors: &Cursors, worker: usize) -> Result<bool, Refusal> {
+    let mut idle = 0;
+    let (step, turn) = (&cursors.step, &cursors.turn);
+    let (words, len) = (image.as_ptr(), image.len());
+    // SAFETY: as in `check`.
+    let answer = unsafe { raw::zilpanud_is_idle(words, len, step, turn, worker, &mut idle) };
+    done(answer, 0)?;
+    match idle {
+        0 => Ok(false),
+        1 => Ok(true),
+        answer => Err(Refusal(Cause::Unknown { answer })),
+    }
+}
+
+/// The number of the last section that a worker finished; 0 before its first.
+pub fn finished(image: &[u64], worker: usize) -> Result<u64, Refusal> {
+    let mut number = 0;
+    let (words, len) = (image.as_ptr(), image.len());
+    // SAFETY: as in `check`.
+    let answer = unsafe { raw::zilpanud_finished(words, len, worker, &mut number) };
+    done(answer, 0)?;
+    Ok(number)
+}
+
+/// How a worker stands to the section of this number: what a caller asks after a cut and a recovery. A section that is
+/// not begun is submitted again, under the same number; one that is begun is left to its turns; one that is finished is
+/// done. With numbers that follow one another, each one above the last finished, every section is carried out once.
+pub fn standing(image: &[u64], worker: usize, number: u64) -> Result<Standing, Refusal> {
+    let mut standing = 0;
+    let (words, len) = (image.as_ptr(), image.len());
+    // SAFETY: as in `check`.
+    let answer = unsafe { raw::zilpanud_standing(words, len, worker, number, &mut standing) };
+    done(answer, 0)?;
+    match standing {
+        0 => Ok(Standing::NotBegun),
+        1 => Ok(Standing::Begun),
+        2 => Ok(Standing::Finished),
+        answer => Err(Refusal(Cause::Unknown { answer })),
+    }
+}

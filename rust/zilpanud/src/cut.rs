@@ -1,0 +1,130 @@
+//! The five calls that store, given the number of stores that they may still make: for tests.
+//!
+//! Each store takes one off `left`, and with none left it changes nothing. So a call that is given k is that call cut
+//! after its k-th store, and the image is what the cut leaves; the answer and the cursors then count for nothing, and a
+//! recovery is due. The calls without `left`, in the [crate's root](crate), are these given [`ENOUGH`].
+//!
+//! ```
+//! use zilpanud::{code, cut, Cursors, Standing};
+//!
+//! let section = [code::acquire(3), code::set(24, 5), code::release(3), code::finish()];
+//! let mut image = vec![0; zilpanud::image_len(1)];
+//! let mut cursors = zilpanud::format(&mut image, 1)?;
+//! zilpanud::submit(&mut image, &mut cursors, 0, 1, &[0; 8], &section)?;
+//!
+//! // The power goes after the eighth store of the run; the fifth made the section begun.
+//! let mut left = 8;
+//! let _ = cut::run(&mut image, &mut cursors, u16::MAX, &mut left);
+//! assert_eq!(left, 0);
+//!
+//! let mut cursors = zilpanud::recover(&mut image)?;
+//! assert_eq!(zilpanud::standing(&image, 0, 1)?, Standing::Begun);
+//! zilpanud::run(&mut image, &mut cursors, 384)?;
+//! assert_eq!(image[zilpanud::cell_index(24)], 5);
+//! # Ok::<(), zilpanud::Refusal>(())
+//! ```
+
+use crate::{raw, Cursors, End, Refusal, RefusedRun, Run, Tally, Turn};
+
+/// More stores than any list of calls makes: a call that is given so many is not cut.
+pub const ENOUGH: u64 = u64::MAX;
+
+/// An answer that is done or refuses.
+pub(crate) fn done(answer: u64, detail: u64) -> Result<(), Refusal> {
+    if answer == 0 {
+        return Ok(());
+    }
+    Err(Refusal::of(answer, detail))
+}
+
+/// [`format`](crate::format). It leaves all cursors idle, also where it refuses.
+pub fn format(
+    image: &mut [u64],
+    workers: usize,
+    cursors: &mut Cursors,
+    left: &mut u64,
+) -> Result<(), Refusal> {
+    let (step, turn) = (&mut cursors.step, &mut cursors.turn);
+    let (words, len) = (image.as_mut_ptr(), image.len());
+    // SAFETY: here and below, every pointer comes from a live reference of its own, and every length is its slice's.
+    let answer = unsafe { raw::zilpanud_format(words, len, workers as u64, step, turn, left) };
+    done(answer, 0)
+}
+
+/// [`submit`](crate::submit).
+pub fn submit(
+    image: &mut [u64],
+    cursors: &mut Cursors,
+    worker: usize,
+    number: u64,
+    args: &[u64; 8],
+    section: &[u64],
+    left: &mut u64,
+) -> Result<(), Refusal> {
+    let mut detail = 0;
+    // SAFETY: as in `format`.
+    let answer = unsafe {
+        raw::zilpanud_submit(
+            image.as_mut_ptr(),
+            image.len(),
+            &mut cursors.step,
+            &mut cursors.turn,
+            worker,
+            number,
+            args,
+            section.as_ptr(),
+            section.len(),
+            left,
+            &mut detail,
+        )
+    };
+    done(answer, detail)
+}
+
+/// [`turn`](crate::turn).
+pub fn turn(
+    image: &mut [u64],
+    cursors: &mut Cursors,
+    worker: usize,
+    left: &mut u64,
+) -> Result<Turn, Refusal> {
+    let mut detail = 0;
+    let (step, turn) = (&mut cursors.step, &mut cursors.turn);
+    let (words, len) = (image.as_mut_ptr(), image.len());
+    // SAFETY: as in `format`.
+    let answer = unsafe { raw::zilpanud_turn(words, len, step, turn, worker, left, &mut detail) };
+    match answer {
+        16 => Ok(Turn::Stored(detail as usize)),
+        17 => Ok(Turn::Passed),
+        18 => Ok(Turn::Waiting(detail as usize)),
+        19 => Ok(Turn::Idle),
+        _ => Err(Refusal::of(answer, detail)),
+    }
+}
+
+/// [`run`](crate::run).
+pub fn run(image: &mut [u64], cursors: &mut Cursors, rounds: u16, left: &mut u64) -> Result<Run, RefusedRun> {
+    let mut detail = 0;
+    let mut counts = [0; 3];
+    let (step, turn) = (&mut cursors.step, &mut cursors.turn);
+    let (words, len) = (image.as_mut_ptr(), image.len());
+    // SAFETY: as in `format`.
+    let answer = unsafe { raw::zilpanud_run(words, len, step, turn, rounds, &mut counts, left, &mut detail) };
+    let [turns, waits, stores] = counts;
+    let tally = Tally { turns, waits, stores };
+    match answer {
+        0 => Ok(Run { end: End::AllIdle, tally }),
+        20 => Ok(Run { end: End::Spent, tally }),
+        _ => Err(RefusedRun { refusal: Refusal::of(answer, detail), tally }),
+    }
+}
+
+/// [`recover`](crate::recover). It reads no cursors, and leaves all idle where it refuses.
+pub fn recover(image: &mut [u64], cursors: &mut Cursors, left: &mut u64) -> Result<(), Refusal> {
+    let mut detail = 0;
+    let (step, turn) = (&mut cursors.step, &mut cursors.turn);
+    let (words, len) = (image.as_mut_ptr(), image.len());
+    // SAFETY: as in `format`.
+    let answer = unsafe { raw::zilpanud_recover(words, len, step, turn, left, &mut detail) };
+    done(answer, detail)
+}
