@@ -5,19 +5,19 @@ use mathlib.Core.List.{List, [], _∷_, _++_}
 use mathlib.Core.Bool.{Bool, true, false, cond, _&&_, _||_, not}
 use lib.ListN.{length, replicate}
 use lib.Dec.{ltb, eqb}
-use Rattle.image.specs.declared.Field.the-variants.{Count, Pc, Addr0, Val0, Addr1, Val1, Intent, Owned, Number, Finished}
-use Rattle.image.specs.declared.Field.{Field}
-use Rattle.image.specs.Place.{Place, cell, lock, field, own, step}
-use Rattle.image.specs.Image.{Image, at, workers, headerOk, putAll}
+use Rattle.image.specs.declared.Field.the-variants.{Pc}
+use Rattle.image.specs.Place.{offset, Place, cell, lock, field, own, step}
+use Rattle.image.specs.Image.{Image, at, workers, headerOk}
 use Rattle.intake.specs.declared.Submitted.{Submitted}
 use Rattle.intake.specs.declared.Submitted.the-variants.{Taken, Refused}
 use Rattle.working.specs.Cursor.{stepNo, cursorAt, allIdle}
 use Rattle.plan.specs.Turn.{Outcome, stored, jumped, unheld, waiting, resting, refused}
 use Rattle.working.specs.World.{World, world}
-use Rattle.turn.specs.Call.{leaves, outcomeAt, outcome}
+use Rattle.turn.specs.Call.{answerOf, leaves, outcomeAt, outcome, isRefused}
 use Rattle.intake.specs.Submit.{submitAnswer, submitLeaves}
 use Rattle.run.specs.Run.{anyOpen}
-use Rattle.recovery.specs.Recovery.{Recovered, accepted, misshapen, unsoundRecord, wrongLock, recovery}
+use Rattle.recovery.specs.Recovery.{Recovered, recovery}
+use Rattle.recovery.specs.Recover.{cursorsOf, recoveryLeaves, recoveryLeft}
 use Rattle.claims.specs.Reference.{Given, given}
 use Rattle.claims.specs.Events.{Event, taken, moved, waited, recorded, ended, lost, but}
 
@@ -79,19 +79,7 @@ taking g x =
 abbrev pub isPc : Place → Bool
 isPc (cell x) = false
 isPc (lock b) = false
-isPc (field f d) = isPcField f
-  where
-    isPcField : Field → Bool
-    isPcField Count = false
-    isPcField Pc = true
-    isPcField Addr0 = false
-    isPcField Val0 = false
-    isPcField Addr1 = false
-    isPcField Val1 = false
-    isPcField Intent = false
-    isPcField Owned = false
-    isPcField Number = false
-    isPcField Finished = false
+isPc (field f d) = eqb (offset f) (offset Pc)
 isPc (own d i) = false
 isPc (step d i) = false
 
@@ -146,12 +134,7 @@ module _ (mark n : ℕ) where
   turnedAt w d = turnBy w d (outcomeAt n (w .world) d)
 
   abbrev pub refuses : Outcome → Bool
-  refuses (stored p v c) = false
-  refuses (jumped c) = false
-  refuses (unheld c) = false
-  refuses (waiting b) = false
-  refuses resting = false
-  refuses (refused r) = true
+  refuses o = isRefused (answerOf n o)
 
   -- a turn of each of k workers from d on, and then the rest; a refused turn ends the run
   unfoldable pub round : (Traced → Traced) → Traced → ℕ → ℕ → Traced
@@ -170,10 +153,8 @@ module _ (mark n : ℕ) where
   submitTrace g x (Refused r) = g
 
   abbrev pub recoveredBy : Traced → Recovered → Traced
-  recoveredBy w (accepted ss cs) = traced (world (putAll n (w .world .left) (w .world .image) ss) cs (w .world .left - length ss)) (forgetful (w .trace))
-  recoveredBy w misshapen = traced (world (w .world .image) allIdle (w .world .left)) (forgetful (w .trace))
-  recoveredBy w (unsoundRecord d) = traced (world (w .world .image) allIdle (w .world .left)) (forgetful (w .trace))
-  recoveredBy w (wrongLock b) = traced (world (w .world .image) allIdle (w .world .left)) (forgetful (w .trace))
+  recoveredBy w r =
+      traced (world (recoveryLeaves n (w .world .left) (w .world .image) r) (cursorsOf r) (recoveryLeft (w .world .left) r)) (forgetful (w .trace))
 
   unfoldable pub call : Call → Traced → Traced
   call (submits d k args ws) w =

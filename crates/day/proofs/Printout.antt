@@ -13,7 +13,7 @@ use Rattle.working.specs.Cursor.{allIdle}
 use Rattle.turn.specs.Call.{outcome, answerOf}
 use Rattle.repair.specs.declared.Repair.{Repair}
 use Rattle.repair.specs.Repair.{noRepair}
-use Rattle.recovery.specs.Recovery.{Recovered, accepted, misshapen, unsoundRecord, wrongLock, recovery}
+use Rattle.recovery.specs.Recovery.{Recovered, accepted, rejected, recovery}
 use Rattle.recovery.specs.Recover.{repairBy, storesOf}
 use Rattle.edition.specs.Edition.{mark, ownWords}
 use Rattle.frames.specs.declared.Opening.{Opening}
@@ -161,14 +161,8 @@ module _ (y : List ℕ) (more : Following)
       ∙ recovery-whole 593 m (b .image) (b .played .cursors) Nothing (omega arith)
       ∙ ap (λ (g : Recovered). output (storesLine (storesOf g)) (b .image) (b .played .cursors)) e)
       ∙ rw e
-  private-recover m misshapen e =
-      let b = recovered m misshapen in
-      rw e (private-done (b .image) (b .played .cursors) (b .played .printed) (b .played .repair))
-  private-recover m (unsoundRecord d) e =
-      let b = recovered m (unsoundRecord d) in
-      rw e (private-done (b .image) (b .played .cursors) (b .played .printed) (b .played .repair))
-  private-recover m (wrongLock d) e =
-      let b = recovered m (wrongLock d) in
+  private-recover m (rejected r) e =
+      let b = recovered m (rejected r) in
       rw e (private-done (b .image) (b .played .cursors) (b .played .printed) (b .played .repair))
 
   private-line : (m : Image) (c : Cursors) (l : List ℕ) (f : Frame) → Prints (beginFrame m c l f) (lineWhole more m c l f)

@@ -2,23 +2,20 @@
 -- what the definition gives (`shared-is`, `shared-told`). At the end, an owner word that is not 0.
 use Prim.Native.Nat.{ℕ, suc, zero, _+_, _-_, _<_, _≤_}
 use borrow.Author.Tests.{lt-ltb, le-ltb, ltb-true, ltb-false, le-leb, lt-leb, leb-true, leb-false}
-use mathlib.Core.Path.{_≡_, refl, sym, ap, _∙_}
+use mathlib.Core.Path.{_≡_, refl, sym, _∙_}
 use mathlib.Core.Bool.{Bool, true, false, cond, _&&_, _||_}
-use mathlib.Core.List.{List, [], _∷_}
-use native.Mathlib.Decide.{decLt, ℕ-discrete}
+use mathlib.Core.List.{[], _∷_}
+use native.Mathlib.Decide.{ℕ-discrete}
 use native.Mathlib.Numerals.{add-one}
 use native.Mathlib.Omega.{arith}
-use lib.ListN.{length, getD, set, length-set}
-use lib.Seq.{ext-getD, getD-set-same, getD-set-other}
 use lib.Bits.{bitAnd, bitOr}
 use lib.Dec.{leb, ltb}
-use Rattle.base.proofs.Counting.{left-step, left-none}
 use Rattle.mask.specs.Mask.{has}
 use Rattle.mask.proofs.Laws.{has-none}
 use Rattle.image.specs.declared.Field.the-variants.{Intent}
-use Rattle.image.specs.Place.{lock, field, Memory}
-use Rattle.owed.specs.Owed.{owed, claimants, ownerOk}
-use Rattle.owed.specs.inner.Shared.{setsIn, sharedFrom}
+use Rattle.image.specs.Place.{field, Memory}
+use Rattle.owed.specs.Owed.{claimants, ownerOk}
+use Rattle.owed.specs.inner.Shared.{sharedFrom}
 use Rattle.mask.proofs.Members.{has-and, has-or}
 
 claimants-zero : (sets : ℕ → ℕ) (b : ℕ) → claimants sets b 0 ≡ 0

@@ -16,9 +16,8 @@ use Rattle.code.specs.Op.{opOf}
 use Rattle.code.specs.inner.Fits.{fits}
 use Rattle.code.specs.Form.{wellFormed}
 use Rattle.code.proofs.Ranges.{formed-range, in-range, turns-most}
-use Rattle.log.specs.declared.Plan.the-variants.{Store}
 use Rattle.working.specs.Cursor.{idle, on}
-use Rattle.log.specs.Log.{codeIn, activeVal}
+use Rattle.log.specs.Log.{codeIn}
 use Rattle.plan.specs.Turn.{stored, logged, acquireTurn, finishTurn, ready}
 use Rattle.log.specs.inner.Logged.{loggedPlan}
 use Rattle.plan.specs.inner.Plan.{planOf}

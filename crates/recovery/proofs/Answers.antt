@@ -13,13 +13,12 @@ use Rattle.image.proofs.Header.{header-true}
 use Rattle.image.proofs.Lists.{putAll-nil}
 use Rattle.working.specs.declared.Cursors.{Cursors}
 use Rattle.working.specs.Cursor.{allIdle}
-use Rattle.soundness.specs.declared.Refusal.the-variants.{Image as ImageRefused}
+use Rattle.soundness.specs.declared.Refusal.the-variants.{Image as ImageRefused, Record, Lock}
 use Rattle.soundness.specs.declared.Answer.the-variants.{Refused}
 use Rattle.resuming.specs.Resumed.{resumedAll}
 use Rattle.repair.specs.Plan.{rows, plan}
 use Rattle.soundness.specs.Sound.{unsound, badLock}
-use Rattle.recovery.specs.Recovery.{byLocks, byRecords, recovery}
-use Rattle.recovery.specs.Recovery.{Recovered, accepted, misshapen, unsoundRecord, wrongLock}
+use Rattle.recovery.specs.Recovery.{Recovered, accepted, rejected, byFirst, recovery}
 use Rattle.soundness.specs.inner.Reading.{Restorable}
 use Rattle.repair.specs.Repair.{noRepair, slotAt}
 use Rattle.soundness.specs.inner.Tests.{isDone, byRecord, byLock}
@@ -34,11 +33,11 @@ pub record-none : (l : List ℕ) → isDone (byRecord l) ≡ true → l ≡ []
 record-none [] e = refl
 record-none (d ∷ ds) e = absurd (false≢true e)
 
-record-found : (g : Recovered) (l : List ℕ) → isDone (byRecord l) ≡ false → byRecord l ≡ answerOf (byRecords g l)
+record-found : (g : Recovered) (l : List ℕ) → isDone (byRecord l) ≡ false → byRecord l ≡ answerOf (byFirst Record g l)
 record-found g [] e = absurd (true≢false e)
 record-found g (d ∷ ds) e = refl
 
-lock-found : (ss : List Store) (cs : Cursors) (l : List ℕ) → byLock l ≡ answerOf (byLocks (accepted ss cs) l)
+lock-found : (ss : List Store) (cs : Cursors) (l : List ℕ) → byLock l ≡ answerOf (byFirst Lock (accepted ss cs) l)
 lock-found ss cs [] = refl
 lock-found ss cs (b ∷ bs) = refl
 
@@ -58,7 +57,7 @@ module _ (mark n : ℕ) (m : Image) where
 
   pub by-record : headerOk mark n m ≡ true → isDone (byRecord Unsound) ≡ false → byRecord Unsound ≡ answerOf (recovery mark n m)
   unfolding recovery
-  by-record h e = rw h (record-found (byLocks Good Bad) Unsound e)
+  by-record h e = rw h (record-found (byFirst Lock Good Bad) Unsound e)
 
   pub by-lock : headerOk mark n m ≡ true → Unsound ≡ [] → byLock Bad ≡ answerOf (recovery mark n m)
   unfolding recovery
@@ -66,8 +65,8 @@ module _ (mark n : ℕ) (m : Image) where
 
   -- ---- what an answer says
 
-  private-done : (b : Bool) (g : Recovered) (us ls : List ℕ) → isDone (answerOf (cond b (byRecords (byLocks g ls) us) misshapen)) ≡ true
-      → (b ≡ true) × (us ≡ []) × (cond b (byRecords (byLocks g ls) us) misshapen ≡ g)
+  private-done : (b : Bool) (g : Recovered) (us ls : List ℕ) → isDone (answerOf (cond b (byFirst Record (byFirst Lock g ls) us) (rejected ImageRefused))) ≡ true
+      → (b ≡ true) × (us ≡ []) × (cond b (byFirst Record (byFirst Lock g ls) us) (rejected ImageRefused) ≡ g)
   private-done true g [] [] e = (refl, refl, refl)
   private-done true g [] (b ∷ bs) e = absurd (false≢true e)
   private-done true g (d ∷ ds) ls e = absurd (false≢true e)
@@ -87,20 +86,16 @@ module _ (mark n : ℕ) (m : Image) where
 -- one that is refused leaves all workers idle, and nothing to store
 pub refused-idle : (r : Recovered) → isDone (answerOf r) ≡ false → allIdle ≡ cursorsOf r
 refused-idle (accepted ss cs) e = absurd (true≢false e)
-refused-idle misshapen e = refl
-refused-idle (unsoundRecord d) e = refl
-refused-idle (wrongLock b) e = refl
+refused-idle (rejected r) e = refl
 
 pub refused-repair : (n : ℕ) (m : Image) (r : Recovered) → isDone (answerOf r) ≡ false → noRepair ≡ repairBy n m r
 refused-repair n m (accepted ss cs) e = absurd (true≢false e)
-refused-repair n m misshapen e = refl
-refused-repair n m (unsoundRecord d) e = refl
-refused-repair n m (wrongLock b) e = refl
+refused-repair n m (rejected r) e = refl
 
 -- ---- the stores
 
 private-stores : (n : ℕ) (m : Image) (g : Recovered) (us ls : List ℕ) → rows (slotAt (repairBy n m g)) 0 592 ≡ storesOf g
-    → rows (slotAt (repairBy n m (byRecords (byLocks g ls) us))) 0 592 ≡ storesOf (byRecords (byLocks g ls) us)
+    → rows (slotAt (repairBy n m (byFirst Record (byFirst Lock g ls) us))) 0 592 ≡ storesOf (byFirst Record (byFirst Lock g ls) us)
 private-stores n m g [] [] h = h
 private-stores n m g [] (b ∷ bs) h = empty-slots
 private-stores n m g (d ∷ ds) ls h = empty-slots
@@ -110,22 +105,18 @@ unfolding recovery
 stores-are mark n m = by (headerOk mark n m) refl
   where
     by : (b : Bool) → headerOk mark n m ≡ b
-        → rows (slotAt (repairBy n m (cond b (byRecords (byLocks (Good mark n m) (Bad mark n m)) (Unsound mark n m)) misshapen))) 0 592
-        ≡ storesOf (cond b (byRecords (byLocks (Good mark n m) (Bad mark n m)) (Unsound mark n m)) misshapen)
+        → rows (slotAt (repairBy n m (cond b (byFirst Record (byFirst Lock (Good mark n m) (Bad mark n m)) (Unsound mark n m)) (rejected ImageRefused)))) 0 592
+        ≡ storesOf (cond b (byFirst Record (byFirst Lock (Good mark n m) (Bad mark n m)) (Unsound mark n m)) (rejected ImageRefused))
     by true h = private-stores n m (Good mark n m) (Unsound mark n m) (Bad mark n m) (repair-slots n m (header-true mark n m h .few))
     by false h = empty-slots
 
 leaves-stores : (n left : ℕ) (m : Image) (r : Recovered) → putAll n left m (storesOf r) ≡ recoveryLeaves n left m r
 leaves-stores n left m (accepted ss cs) = refl
-leaves-stores n left m misshapen = putAll-nil n left m
-leaves-stores n left m (unsoundRecord d) = putAll-nil n left m
-leaves-stores n left m (wrongLock b) = putAll-nil n left m
+leaves-stores n left m (rejected r) = putAll-nil n left m
 
 left-stores : (left : ℕ) (r : Recovered) → left - length (storesOf r) ≡ recoveryLeft left r
 left-stores left (accepted ss cs) = refl
-left-stores left misshapen = omega arith
-left-stores left (unsoundRecord d) = omega arith
-left-stores left (wrongLock b) = omega arith
+left-stores left (rejected r) = omega arith
 
 -- what the slots of the repair leave
 module _ (mark n left : ℕ) (m : Image) where

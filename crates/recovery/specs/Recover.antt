@@ -7,49 +7,36 @@ use Rattle.image.specs.Image.{Image, putAll}
 use Rattle.working.specs.declared.Cursors.{Cursors}
 use Rattle.working.specs.Cursor.{allIdle}
 use Rattle.repair.specs.declared.Repair.{Repair}
-use Rattle.soundness.specs.declared.Refusal.the-variants.{Image as ImageRefused, Record, Lock}
 use Rattle.soundness.specs.declared.Answer.{Answer}
 use Rattle.soundness.specs.declared.Answer.the-variants.{Done, Refused}
-use Rattle.recovery.specs.Recovery.{Recovered, accepted, misshapen, unsoundRecord, wrongLock}
+use Rattle.recovery.specs.Recovery.{Recovered, accepted, rejected}
 use Rattle.repair.specs.Repair.{repairOf, noRepair}
 
 -- ---- answers
 
 abbrev pub answerOf : Recovered → Answer
 answerOf (accepted ss cs) = Done
-answerOf misshapen = Refused ImageRefused
-answerOf (unsoundRecord d) = Refused (Record d)
-answerOf (wrongLock b) = Refused (Lock b)
+answerOf (rejected r) = Refused r
 
 -- ---- what it leaves: an accepted one makes its stores, while stores are left, and resumes; any other makes none, and all
 -- workers are idle
 
 abbrev pub cursorsOf : Recovered → Cursors
 cursorsOf (accepted ss cs) = cs
-cursorsOf misshapen = allIdle
-cursorsOf (unsoundRecord d) = allIdle
-cursorsOf (wrongLock b) = allIdle
+cursorsOf (rejected r) = allIdle
 
 abbrev pub repairBy : ℕ → Image → Recovered → Repair
 repairBy n m (accepted ss cs) = repairOf n m
-repairBy n m misshapen = noRepair
-repairBy n m (unsoundRecord d) = noRepair
-repairBy n m (wrongLock b) = noRepair
+repairBy n m (rejected r) = noRepair
 
 abbrev pub storesOf : Recovered → List Store
 storesOf (accepted ss cs) = ss
-storesOf misshapen = []
-storesOf (unsoundRecord d) = []
-storesOf (wrongLock b) = []
+storesOf (rejected r) = []
 
 abbrev pub recoveryLeaves : ℕ → ℕ → Image → Recovered → Image
 recoveryLeaves n left m (accepted ss cs) = putAll n left m ss
-recoveryLeaves n left m misshapen = m
-recoveryLeaves n left m (unsoundRecord d) = m
-recoveryLeaves n left m (wrongLock b) = m
+recoveryLeaves n left m (rejected r) = m
 
 abbrev pub recoveryLeft : ℕ → Recovered → ℕ
 recoveryLeft left (accepted ss cs) = left - length ss
-recoveryLeft left misshapen = left
-recoveryLeft left (unsoundRecord d) = left
-recoveryLeft left (wrongLock b) = left
+recoveryLeft left (rejected r) = left

@@ -1,27 +1,20 @@
 -- The owed sets in a list: eight elements of a list are the list; the claimants of a lock are counted in the list of the owed sets, and
 -- the locks that have one or two of them are two sets. Further, where a loop finds the lowest lock that is wrong.
 use Prim.Native.Nat.{ℕ, suc, zero, _+_, _-_, _<_, _≤_}
-use borrow.Author.Tests.{lt-ltb, le-ltb, ltb-true, ltb-false, le-leb, lt-leb, leb-true, leb-false}
+use borrow.Author.Tests.{lt-ltb, le-ltb, le-leb, lt-leb}
 use mathlib.Core.Path.{_≡_, refl, sym, ap, _∙_}
-use mathlib.Core.Bool.{Bool, true, false, cond, _&&_, _||_}
+use mathlib.Core.Bool.{true, false, _&&_, _||_}
 use mathlib.Core.List.{List, [], _∷_}
 use native.Mathlib.Decide.{decLt, ℕ-discrete}
-use native.Mathlib.Numerals.{add-one}
 use native.Mathlib.Omega.{arith}
 use lib.ListN.{length, getD, set, length-set}
 use lib.Seq.{ext-getD, getD-set-same, getD-set-other}
-use lib.Bits.{bitAnd, bitOr}
-use lib.Dec.{leb, ltb}
 use Rattle.base.proofs.Counting.{left-step, left-none}
-use Rattle.mask.specs.Mask.{has}
-use Rattle.mask.proofs.Laws.{has-none}
-use Rattle.image.specs.declared.Field.the-variants.{Intent}
-use Rattle.image.specs.Place.{lock, field, Memory}
+use Rattle.image.specs.Place.{lock, Memory}
 use Rattle.owed.specs.Owed.{owed, claimants, ownerOk}
 use Rattle.soundness.specs.Sound.{eight, lockOk, badLock}
-use Rattle.owed.specs.inner.Shared.{setsIn, sharedFrom}
+use Rattle.owed.specs.inner.Shared.{setsIn}
 use Rattle.soundness.specs.inner.Reading.{owedAt}
-use Rattle.mask.proofs.Members.{has-and, has-or}
 
 -- ---- lists of eight
 

@@ -5,11 +5,8 @@ use image::Field;
 ghost use mathlib.Core.Path.{_≡_};
 ghost use Prim.Native.Nat.{_<_, _≤_};
 ghost use lib.ListN.{length};
-ghost use Rattle.image.specs.Place.{lock};
 ghost use Rattle.image.specs.Image.{at, workers, lengthOf};
-ghost use Rattle.owed.specs.Owed.{ownerOk};
 ghost use Rattle.soundness.specs.Sound.{eight, badLock};
-ghost use Rattle.owed.specs.inner.Shared.{setsIn, sharedFrom};
 ghost use Rattle.soundness.specs.inner.Reading.{owedAt};
 ghost use Rattle.soundness.specs.inner.Tests.{byLock};
 

@@ -12,7 +12,7 @@ use Rattle.working.specs.World.{World, world}
 use Rattle.turn.specs.Call.{leaves, outcomeAt, outcome}
 use Rattle.intake.specs.Submit.{submitAnswer, submitLeaves}
 use Rattle.run.specs.Run.{anyOpen, Counting, counting, Course, ran, Sweep, turned, swept, sweep, afterSweep, roundsOf, runOf}
-use Rattle.recovery.specs.Recovery.{Recovered, accepted, misshapen, unsoundRecord, wrongLock, recovery}
+use Rattle.recovery.specs.Recovery.{Recovered, accepted, rejected, recovery}
 use Rattle.recovery.specs.Recover.{cursorsOf, recoveryLeaves, recoveryLeft}
 use Rattle.claims.specs.Calls.{Traced, turnedAt, refuses, round, rounds, ranBy, call, recoveredBy, submits, turns, runs, recovers}
 
@@ -36,9 +36,7 @@ recover-agrees mark n w = by (recovery mark n (w .world .image))
   where
     by : (r : Recovered) → recoveredBy mark n w r .world ≡ recoveredWorld n (w .world) r
     by (accepted ss cs) = refl
-    by misshapen = refl
-    by (unsoundRecord d) = refl
-    by (wrongLock b) = refl
+    by (rejected r) = refl
 
 module _ (mark n : ℕ) where
   swept-agrees :

@@ -27,7 +27,8 @@ use Rattle.turn.specs.Call.{outcomeAt, outcome}
 use Rattle.run.specs.Run.{anyOpen}
 use Rattle.intake.specs.Submit.{submission, free, submitAnswer, submitLeaves, isTaken}
 use Rattle.intake.proofs.Submission.{accepted as met, submission-length}
-use Rattle.recovery.specs.Recovery.{Recovered, accepted, misshapen, byLocks, byRecords, recovery}
+use Rattle.recovery.specs.Recovery.{Recovered, accepted, rejected, byFirst, recovery}
+use Rattle.soundness.specs.declared.Refusal.the-variants.{Image as ImageRefused, Record, Lock}
 use Rattle.soundness.specs.Sound.{badLock, unsound}
 use Rattle.resuming.specs.Resumed.{resumedAll}
 use Rattle.repair.specs.Plan.{plan}
@@ -166,7 +167,7 @@ module _ (mark n : ℕ) where
       refusing = still (traced (world m allIdle 0) (forgetful (w .trace))) 592
 
       by : (b : Bool) → headerOk mark n m ≡ b → (bs ds : List ℕ)
-          → Steady (λ k. recoveredBy mark n (lent mark n k w) (cond b (byRecords (byLocks good bs) ds) misshapen)) 592
+          → Steady (λ k. recoveredBy mark n (lent mark n k w) (cond b (byFirst Record (byFirst Lock good bs) ds) (rejected ImageRefused))) 592
       by true h [] [] =
           within 592 (plan-length n (at n m) (workers m) (header-workers mark n m h .1))
           (list-steady m (plan n (at n m) (workers m)) (resumedAll n (at n m) (workers m)) (forgetful (w .trace)))

@@ -16,7 +16,6 @@ use Rattle.claims.specs.Calls.{Traced, isPc, turnBy, from, endsCut}
 use Rattle.claims.specs.Claims.{after, mended}
 use Rattle.told.specs.Once.{numbersOf, among, begunBy, BegunFinishes}
 use Rattle.claims.proofs.Turning.{still}
-use Rattle.claims.proofs.Called.{accepts}
 use Rattle.claims.proofs.Played.{Worth, Good, play-good}
 use Rattle.claims.proofs.Resting.{rested-running}
 use Rattle.told.proofs.Keeping.{nextTurn, Fed, recovered, Keeps, Kept}
@@ -59,7 +58,7 @@ module _ (mark n D : ℕ) (cells : List ℕ) (first : List Given) where
   still-extends w d (refused r) z x = x
 
   recovered-extends : (w : Traced) → Worth mark n D cells w → Extends w → Extends (recovered mark n w)
-  recovered-extends w k x = rw (accepts mark n D cells (w .world .image) _ _ k) x
+  recovered-extends w k x = x
 
   extends-keeps : Keeps mark n D cells Extends Extends Any
   extends-keeps =

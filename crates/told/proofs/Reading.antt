@@ -29,7 +29,7 @@ use Rattle.told.proofs.Writes.{Writes, Says, turn-writes}
 use Rattle.claims.proofs.Pending.{pend, pend-start, Passes, Pends, pends-turn}
 use Rattle.claims.proofs.Worlds.{Running}
 use Rattle.claims.proofs.Turning.{still}
-use Rattle.claims.proofs.Called.{TakenAs, accepts, dl}
+use Rattle.claims.proofs.Called.{TakenAs, dl}
 use Rattle.claims.proofs.Played.{Worth}
 use Rattle.claims.proofs.Moves.{args-full}
 use Rattle.told.proofs.Keeping.{nextTurn, Fed, submitted, recovered, Keeps}
@@ -332,7 +332,7 @@ module _ (mark n D : ℕ) (cells : List ℕ) where
 
   module _ (w : Traced) (k : Worth mark n D cells w) where
     recovered-off : ReadOff w → ReadOff (recovered mark n w)
-    recovered-off x = let a = accepts mark n D cells (w .world .image) _ _ k in lost-off w (recovered mark n w) (rw a) (rw a) (rw a) x
+    recovered-off = lost-off w (recovered mark n w) refl refl refl
 
     recovered-reads : ReadOff w → ReadsOff (recovered mark n w)
     recovered-reads x =
@@ -344,7 +344,7 @@ module _ (mark n D : ℕ) (cells : List ℕ) where
         }
       where
         events-lost : (e : ℕ) → readOff (recovered mark n w .trace .events) .pending e ≡ []
-        events-lost e = rw (accepts mark n D cells (w .world .image) _ _ k, read-snoc (w .trace .events) lost)
+        events-lost e = rw (read-snoc (w .trace .events) lost)
 
   -- ---- every call
 

@@ -35,7 +35,6 @@ use Rattle.claims.proofs.Pending.{Passes, Pends, pends-turn}
 use Rattle.told.proofs.Writes.{Writes, Says, turn-writes}
 use Rattle.claims.proofs.Worlds.{Running}
 use Rattle.claims.proofs.Turning.{still}
-use Rattle.claims.proofs.Called.{accepts}
 use Rattle.claims.proofs.Played.{Worth}
 use Rattle.told.proofs.Keeping.{nextTurn, Fed, recovered, Sorted, Keeps}
 use Rattle.told.proofs.FromRest.{kept-sorted}
@@ -174,7 +173,7 @@ module _ (mark n D : ℕ) (cells : List ℕ) (start : ℕ → ℕ) (d : ℕ) (dl
   still-row w e (refused r) z x = x
 
   recovered-row : (w : Traced) → Worth mark n D cells w → InRow w → InRow (recovered mark n w)
-  recovered-row w k x = rw (accepts mark n D cells (w .world .image) _ _ k) x
+  recovered-row w k x = x
 
   row-keeps : 8 ≤ n → n ≤ 64 → Keeps mark n D cells (λ (w : Traced). Ledger w × InRow w) (λ (w : Traced). Tell w × InRow w) (NextMove n d)
   row-keeps wide narrow =
@@ -286,7 +285,7 @@ module _ (mark n D : ℕ) (cells : List ℕ) (d : ℕ) (g : Given) where
   turn-one w e (refused r) x = x
 
   recovered-one : (w : Traced) → Worth mark n D cells w → OneTaken w → OneTaken (recovered mark n w)
-  recovered-one w k x = rw (accepts mark n D cells (w .world .image) _ _ k) x
+  recovered-one w k x = x
 
   one-keeps : Keeps mark n D cells OneTaken OneTaken OnlyMove
   one-keeps =

@@ -31,7 +31,7 @@ use Rattle.claims.proofs.Stages.{stays}
 use Rattle.claims.proofs.Submission.{aside}
 use Rattle.claims.proofs.Worlds.{Running}
 use Rattle.claims.proofs.Turning.{still}
-use Rattle.claims.proofs.Called.{TakenAs, accepts}
+use Rattle.claims.proofs.Called.{TakenAs}
 use Rattle.claims.proofs.Played.{plenty, Worth}
 use Rattle.claims.proofs.Moves.{args-full}
 use Rattle.told.proofs.Keeping.{nextTurn, Fed, submitted, recovered, Keeps}
@@ -304,7 +304,7 @@ module _ (mark n D : ℕ) (cells : List ℕ) (start : ℕ → ℕ) (Q : ℕ → 
     fixed = recovered-fixed mark n D cells w k
 
     recovered-begun : recovered mark n w .trace .begun ≡ w .trace .begun
-    recovered-begun = rw (accepts mark n D cells (w .world .image) _ _ k)
+    recovered-begun = refl
 
     recovered-tells : Tells w → Tells (recovered mark n w)
     recovered-tells t e l =

@@ -28,8 +28,9 @@ use Rattle.run.specs.Run.{anyOpen}
 use Rattle.intake.specs.Submit.{assigns, submission, submitAnswer, submitLeaves}
 use Rattle.repair.specs.Plan.{_≔_, when, rows, unbegun, intended, intend, withdraw, relock, relocks, unlock, plan}
 use Rattle.owed.specs.Owed.{owed}
-use Rattle.recovery.specs.Recovery.{Recovered, accepted, misshapen, unsoundRecord, wrongLock, byLocks, byRecords, recovery}
+use Rattle.recovery.specs.Recovery.{Recovered, accepted, rejected, byFirst, recovery}
 use Rattle.resuming.specs.Resumed.{resumedAll}
+use Rattle.soundness.specs.declared.Refusal.the-variants.{Image as ImageRefused, Record, Lock}
 use Rattle.soundness.specs.Sound.{badLock, unsound}
 use Rattle.claims.specs.Calls.{Traced, turnedAt, refuses, recoveredBy, Call, submits, turns, runs, recovers}
 use Rattle.claims.specs.Calls.{Move, whole, cut, call, lent, move, recovering, from, legal, callable, machine}
@@ -108,13 +109,11 @@ module _ (mark n : ℕ) where
   -- a recovery whose stores, if it is accepted, leave the cells
   abbrev AsideOf : Recovered → Type 0
   AsideOf (accepted ss cs) = Aside n ss
-  AsideOf misshapen = Unit {0}
-  AsideOf (unsoundRecord d) = Unit {0}
-  AsideOf (wrongLock b) = Unit {0}
+  AsideOf (rejected r) = Unit {0}
 
   -- whatever the header, the records and the locks are found to be
   found-aside :
-      (h : Bool) (ds bs : List ℕ) (ss : List Store) (cs : Cursors) → Aside n ss → AsideOf (cond h (byRecords (byLocks (accepted ss cs) bs) ds) misshapen)
+      (h : Bool) (ds bs : List ℕ) (ss : List Store) (cs : Cursors) → Aside n ss → AsideOf (cond h (byFirst Record (byFirst Lock (accepted ss cs) bs) ds) (rejected ImageRefused))
   found-aside true [] [] ss cs a = a
   found-aside true [] (b ∷ bs) ss cs a = tt
   found-aside true (d ∷ ds) bs ss cs a = tt
@@ -129,9 +128,7 @@ module _ (mark n : ℕ) where
 
   recover-leaves : (w : Traced) (x : Recovered) → AsideOf x → cellsOf (recoveredBy mark n w x .world .image) ≡ cellsOf (w .world .image)
   recover-leaves w (accepted ss cs) a = a (w .world .left) (w .world .image)
-  recover-leaves w misshapen a = refl
-  recover-leaves w (unsoundRecord d) a = refl
-  recover-leaves w (wrongLock b) a = refl
+  recover-leaves w (rejected r) a = refl
 
   turnless-leaves : (c : Call) → turnless c ≡ true → (w : Traced) → cellsOf (call mark n c w .world .image) ≡ cellsOf (w .world .image)
   unfolding call

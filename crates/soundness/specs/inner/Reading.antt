@@ -1,17 +1,17 @@
 -- What only the inner functions of a recovery need: records that can be read, and the owed sets in a list.
-use Prim.Native.Nat.{ℕ, suc, zero, _+_, _%_, _<_, _≤_}
+use Prim.Native.Nat.{ℕ, _+_, _%_, _<_, _≤_}
 use mathlib.Core.Path.{_≡_}
 use mathlib.Core.Bool.{true, cond}
 use mathlib.Core.List.{List}
 use lib.ListN.{length, getD}
-use lib.Dec.{leb, ltb}
+use lib.Dec.{ltb}
 use Rattle.image.specs.declared.Field.the-variants.{Count, Pc}
 use Rattle.image.specs.Place.{field, Memory}
 use Rattle.image.specs.Image.{Image, lengthOf, at, workers}
 use Rattle.code.specs.Form.{inRange}
 use Rattle.section.specs.Check.{heldBefore}
 use Rattle.log.specs.Log.{codeIn}
-use Rattle.owed.specs.Owed.{claimants, namedStep, owed}
+use Rattle.owed.specs.Owed.{namedStep, owed}
 
 -- ---- a section that is begun
 
