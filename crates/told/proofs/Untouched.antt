@@ -113,7 +113,8 @@ module _ (mark n : ℕ) where
 
   -- whatever the header, the records and the locks are found to be
   found-aside :
-      (h : Bool) (ds bs : List ℕ) (ss : List Store) (cs : Cursors) → Aside n ss → AsideOf (cond h (byFirst Record (byFirst Lock (accepted ss cs) bs) ds) (rejected ImageRefused))
+      (h : Bool) (ds bs : List ℕ) (ss : List Store) (cs : Cursors) → Aside n ss
+      → AsideOf (cond h (byFirst Record (byFirst Lock (accepted ss cs) bs) ds) (rejected ImageRefused))
   found-aside true [] [] ss cs a = a
   found-aside true [] (b ∷ bs) ss cs a = tt
   found-aside true (d ∷ ds) bs ss cs a = tt
