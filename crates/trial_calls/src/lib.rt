@@ -1,5 +1,2 @@
-// The calls of a script of trials: made, cut after each of their stores, and drawn from a seed, with one digest of all that they answer.
+// The calls of a script: what one is, and how it is made.
 pub mod calls;
-pub mod cuts;
-mod fold;
-pub mod lists;

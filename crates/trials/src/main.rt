@@ -41,7 +41,6 @@ use trial_text::text;
 ghost use Prim.Native.Nat.{_<_};
 ghost use lib.ListN.{length};
 
-mod playing;
 mod script;
 
 // Plays one script, of a long one the first 65,536 bytes.

@@ -1,7 +1,7 @@
 // A script, line by line.
-use crate::playing;
-use crate::playing::Asked;
 use trial_calls::calls::Call;
+use trial_plays::playing;
+use trial_plays::playing::Asked;
 use trial_stage::say;
 use trial_stage::scene;
 use trial_stage::showing;

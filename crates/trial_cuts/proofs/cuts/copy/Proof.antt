@@ -1,10 +1,10 @@
--- `trial_calls::cuts::copy` meets its contract. The loop's invariant: what is copied to keeps its length.
+-- `trial_cuts::cuts::copy` meets its contract. The loop's invariant: what is copied to keeps its length.
 use Prim.Native.Nat.{_-_, _≤_}
 use mathlib.Core.Path.{_≡_}
 use lib.ListN.{length}
 use borrow.Author.Needs.{needs}
-use Rattle.trial_calls.proofs.cuts.copy.Statement.{statement}
-use Rattle.trial_calls.proofs.cuts.copy.Tie as tie
+use Rattle.trial_cuts.proofs.cuts.copy.Statement.{statement}
+use Rattle.trial_cuts.proofs.cuts.copy.Tie as tie
 
 abbrev Inv-loop : tie.InvT-loop
 Inv-loop from to₀ n i₀ to i = (i ≤ n) × (length to ≡ length to₀)

@@ -1,7 +1,7 @@
 // The cuts of one call.
-use crate::calls;
-use crate::calls::Call;
 use crate::fold;
+use trial_calls::calls;
+use trial_calls::calls::Call;
 use trial_stage::say;
 use working::Cursors;
 ghost use Prim.Native.Nat.{_≤_};

@@ -1,8 +1,8 @@
--- `trial_calls::fold::cursors` meets its contract. The loop's invariant: at most eight workers.
+-- `trial_cuts::fold::cursors` meets its contract. The loop's invariant: at most eight workers.
 use Prim.Native.Nat.{_-_, _≤_}
 use borrow.Author.Needs.{needs}
-use Rattle.trial_calls.proofs.fold.cursors.Statement.{statement}
-use Rattle.trial_calls.proofs.fold.cursors.Tie as tie
+use Rattle.trial_cuts.proofs.fold.cursors.Statement.{statement}
+use Rattle.trial_cuts.proofs.fold.cursors.Tie as tie
 
 abbrev Inv-loop : tie.InvT-loop
 Inv-loop h c v₀ d₀ v d = d ≤ 8

@@ -1,6 +1,6 @@
 // The digest: one number that every word told goes into.
-use crate::calls::Made;
 use tally::Tally;
+use trial_calls::calls::Made;
 use working::Cursors;
 
 // The digest with one more word: nine times their sum without carries, turned left by 27 bits.

@@ -1,10 +1,10 @@
 // Long lists of calls drawn from a seed, each with all its cuts.
-use crate::calls;
-use crate::calls::Call;
 use crate::cuts;
 use crate::cuts::Digest;
 use crate::fold;
 use image::Field;
+use trial_calls::calls;
+use trial_calls::calls::Call;
 use trial_stage::say;
 use trial_text::numbers;
 use trial_text::text;

@@ -1,10 +1,10 @@
--- `trials::playing::turns` meets its contract. The loop's invariant: the image keeps its length.
+-- `trial_plays::playing::turns` meets its contract. The loop's invariant: the image keeps its length.
 use Prim.Native.Nat.{_-_, _≤_}
 use mathlib.Core.Path.{_≡_}
 use lib.ListN.{length}
 use borrow.Author.Needs.{needs}
-use Rattle.trials.proofs.playing.turns.Statement.{statement}
-use Rattle.trials.proofs.playing.turns.Tie as tie
+use Rattle.trial_plays.proofs.playing.turns.Statement.{statement}
+use Rattle.trial_plays.proofs.playing.turns.Tie as tie
 
 abbrev Inv-loop : tie.InvT-loop
 Inv-loop image₀ shelf worker k s₀ i₀ t8 image s i = (i ≤ k) × (length image ≡ length image₀)

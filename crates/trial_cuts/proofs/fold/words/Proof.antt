@@ -1,8 +1,8 @@
--- `trial_calls::fold::words` meets its contract. The loop's invariant: at most all words.
+-- `trial_cuts::fold::words` meets its contract. The loop's invariant: at most all words.
 use Prim.Native.Nat.{_-_, _≤_}
 use borrow.Author.Needs.{needs}
-use Rattle.trial_calls.proofs.fold.words.Statement.{statement}
-use Rattle.trial_calls.proofs.fold.words.Tie as tie
+use Rattle.trial_cuts.proofs.fold.words.Statement.{statement}
+use Rattle.trial_cuts.proofs.fold.words.Tie as tie
 
 abbrev Inv-loop : tie.InvT-loop
 Inv-loop h image n v₀ i₀ v i = i ≤ n

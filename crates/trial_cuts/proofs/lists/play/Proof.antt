@@ -1,10 +1,10 @@
--- `trial_calls::lists::play` meets its contract. The loop's invariant: the images keep their lengths.
+-- `trial_cuts::lists::play` meets its contract. The loop's invariant: the images keep their lengths.
 use Prim.Native.Nat.{_-_, _≤_}
 use mathlib.Core.Path.{_≡_}
 use lib.ListN.{length}
 use borrow.Author.Needs.{needs}
-use Rattle.trial_calls.proofs.lists.play.Statement.{statement}
-use Rattle.trial_calls.proofs.lists.play.Tie as tie
+use Rattle.trial_cuts.proofs.lists.play.Statement.{statement}
+use Rattle.trial_cuts.proofs.lists.play.Tie as tie
 
 abbrev Inv-loop : tie.InvT-loop
 Inv-loop image₀ cut₀ play₀ dealt seed calls aloud workers l₀ i₀ image cut play l i = (i ≤ calls) × (length image ≡ length image₀) × (length cut ≡ length cut₀) ×
