@@ -56,8 +56,9 @@
 //!
 //! [`cut`] has the calls that store once more, with the number of stores that they may still make: so tests cut them.
 //!
-//! Document 01 is the paper that the engine follows. Its desk is a worker here, its ticket a section, its step an
-//! instruction, its bay a lock, its board word a cell; its hand-in is a submit, and its working places are cursors.
+//! Document 01 is the paper that the engine follows; all that a user needs of it is in the repository's `docs/MANUAL.md`.
+//! Its desk is a worker here, its ticket a section, its step an instruction, its bay a lock, its board word a cell; its
+//! hand-in is a submit, and its working places are cursors.
 
 #![deny(missing_docs, unsafe_op_in_unsafe_fn)]
 #![warn(clippy::all, clippy::undocumented_unsafe_blocks)]
