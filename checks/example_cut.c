@@ -15,7 +15,7 @@ int main(int argc, char **argv)
     }
     const uint64_t args[ZILPANUD_ARGS] = {3, 1};
     uint64_t left = parsed(argv[2]);
-    uint64_t tally[3];
+    uint64_t tally[ZILPANUD_TALLY_WORDS];
     uint64_t detail;
     struct board board = {.image = open_board(argv[1])};
     recover(&board);

@@ -22,6 +22,9 @@ HOLDS(owners, ZILPANUD_OWNER_INDEX(0) == 520 && ZILPANUD_OWNER_INDEX(63) == 583)
 HOLDS(own_words, ZILPANUD_OWN(0) == 512 && ZILPANUD_OWN(7) == 519);
 HOLDS(packed, ZILPANUD_INSTRUCTION(0x1234, 0x5678, 0x9abc, 0xdef0) == UINT64_C(0x123456789abcdef0));
 HOLDS(kinds, ZILPANUD_INSTRUCTION(ZILPANUD_SUBTRACT, 1, 2, 3) == UINT64_C(0x0005000100020003));
+HOLDS(passings, ZILPANUD_PASSED_JUMP == 0 && ZILPANUD_PASSED_ALREADY_FREE == 1 && ZILPANUD_PASSED_OTHERS == 2);
+HOLDS(counts, ZILPANUD_TALLY_TURNS == 0 && ZILPANUD_TALLY_WAITS == 1 && ZILPANUD_TALLY_STORES == 2);
+HOLDS(reports, ZILPANUD_TALLY_ALREADY_FREE == 3 && ZILPANUD_TALLY_OTHERS == 4 && ZILPANUD_TALLY_WORDS == 5);
 
 enum { WORKERS = 2, WORDS = ZILPANUD_IMAGE_WORDS(WORKERS) };
 
@@ -44,6 +47,7 @@ static const uint64_t args[ZILPANUD_ARGS] = {20, 7, 0, 0, 0, 0, 0, 0};
 static uint64_t image[WORDS];
 static uint8_t step[ZILPANUD_WORKERS];
 static uint8_t turn[ZILPANUD_WORKERS];
+static uint64_t tally[ZILPANUD_TALLY_WORDS];
 static uint64_t detail;
 
 static void ensure(int holds, const char *what)
@@ -100,6 +104,16 @@ static uint64_t one_turn(size_t worker)
     return zilpanud_turn(image, WORDS, step, turn, worker, ZILPANUD_ALL, &detail);
 }
 
+static uint64_t run(uint16_t rounds)
+{
+    return zilpanud_run(image, WORDS, step, turn, rounds, tally, ZILPANUD_ALL, &detail);
+}
+
+static uint64_t recover(void)
+{
+    return zilpanud_recover(image, WORDS, step, turn, ZILPANUD_ALL, &detail);
+}
+
 static uint64_t standing(uint64_t number)
 {
     uint64_t stands;
@@ -143,19 +157,61 @@ static void turns_made(void)
     ensure(standing(1) == ZILPANUD_BEGUN, "begun with the fifth store");
 }
 
+static int counted(uint64_t turns, uint64_t stores, uint64_t already_free, uint64_t others)
+{
+    return tally[ZILPANUD_TALLY_TURNS] == turns && tally[ZILPANUD_TALLY_WAITS] == 0 &&
+           tally[ZILPANUD_TALLY_STORES] == stores && tally[ZILPANUD_TALLY_ALREADY_FREE] == already_free &&
+           tally[ZILPANUD_TALLY_OTHERS] == others;
+}
+
 static void cut_and_run(void)
 {
-    uint64_t tally[3];
     uint64_t told;
-    ensure(zilpanud_recover(image, WORDS, step, turn, ZILPANUD_ALL, &detail) == ZILPANUD_DONE, "recovered");
+    ensure(recover() == ZILPANUD_DONE, "recovered");
     ensure(one_turn(1) == ZILPANUD_IDLE_WORKER, "worker 1's section was not begun and is withdrawn");
-    ensure(zilpanud_run(image, WORDS, step, turn, 1, tally, ZILPANUD_ALL, &detail) == ZILPANUD_SPENT, "one round");
-    ensure(zilpanud_run(image, WORDS, step, turn, 384 * WORKERS, tally, ZILPANUD_ALL, &detail) == ZILPANUD_DONE, "all");
-    ensure(tally[0] == tally[2] + 1 && tally[1] == 0, "the jump is the one turn that stores nothing");
+    ensure(run(1) == ZILPANUD_SPENT, "one round");
+    ensure(run(384 * WORKERS) == ZILPANUD_DONE, "all");
+    ensure(counted(26, 25, 0, 0), "the jump is the one turn that stores nothing");
     ensure(standing(1) == ZILPANUD_FINISHED && standing(2) == ZILPANUD_NOT_BEGUN, "finished");
     ensure(zilpanud_finished(image, WORDS, 0, &told) == ZILPANUD_DONE && told == 1, "number 1 is the last finished");
     ensure(image[ZILPANUD_CELL_INDEX(24)] == 65541 && image[ZILPANUD_CELL_INDEX(25)] == 27, "set and sum");
     ensure(image[ZILPANUD_CELL_INDEX(26)] == 13 && image[ZILPANUD_CELL_INDEX(27)] == 1, "difference and comparison");
+}
+
+static void stored(size_t worker, int turns)
+{
+    for (int i = 0; i < turns; i++) {
+        ensure(one_turn(worker) == ZILPANUD_STORED, "a turn stores");
+    }
+}
+
+/* Worker 1's section is never begun, so each recovery withdraws it and frees lock 3. */
+static void worker_1_acquires(void)
+{
+    ensure(recover() == ZILPANUD_DONE && submit(1, 1, STEPS) == ZILPANUD_DONE, "worker 1 is given the section again");
+    stored(1, 2);
+    ensure(image[ZILPANUD_OWNER_INDEX(3)] == 2, "worker 1 has lock 3");
+}
+
+/* Worker 0's release frees its lock and is cut behind that, again and again. */
+static void turns_passed(void)
+{
+    ensure(submit(0, 2, STEPS) == ZILPANUD_DONE, "taken");
+    stored(0, 6 + 4 * 4);
+    ensure(one_turn(0) == ZILPANUD_PASSED && detail == ZILPANUD_PASSED_JUMP, "the jump passes");
+    stored(0, 5);
+    ensure(detail == ZILPANUD_OWNER_INDEX(3) && image[detail] == 0, "the release frees lock 3");
+    ensure(recover() == ZILPANUD_DONE, "recovered");
+    stored(0, 1);
+    ensure(one_turn(0) == ZILPANUD_PASSED && detail == ZILPANUD_PASSED_ALREADY_FREE, "it finds lock 3 free");
+    worker_1_acquires();
+    stored(0, 1);
+    ensure(one_turn(0) == ZILPANUD_PASSED && detail == ZILPANUD_PASSED_OTHERS, "it finds lock 3 worker 1's");
+    ensure(image[ZILPANUD_OWNER_INDEX(3)] == 2, "worker 1 keeps lock 3");
+    worker_1_acquires();
+    ensure(run(2) == ZILPANUD_SPENT && counted(4, 3, 0, 1), "a run counts another's");
+    ensure(recover() == ZILPANUD_DONE, "recovered");
+    ensure(run(6) == ZILPANUD_DONE && counted(6, 5, 1, 0), "a run counts already free");
 }
 
 static void stores_left(void)
@@ -178,6 +234,7 @@ int main(void)
     formatted();
     turns_made();
     cut_and_run();
+    turns_passed();
     stores_left();
     return 0;
 }

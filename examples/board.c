@@ -198,7 +198,7 @@ static void recover(struct board *board)
 
 static void run(struct board *board)
 {
-    uint64_t tally[3];
+    uint64_t tally[ZILPANUD_TALLY_WORDS];
     uint64_t detail;
     uint64_t answer = zilpanud_run(board->image, WORDS, board->step, board->turn, 384 * WORKERS, tally, ZILPANUD_ALL,
                                    &detail);

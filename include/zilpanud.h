@@ -9,7 +9,7 @@
  * board word; to submit is to hand in, to acquire and to release are to take and to drop, a cursor is a working place.
  *
  * What the caller owes, since C cannot say it: a pointer and its length name that many words; step and turn name
- * 8 bytes, args 8 words, tally 3 words; no two of a call's pointers name the same memory (only args and words, which
+ * 8 bytes, args 8 words, tally 5 words; no two of a call's pointers name the same memory (only args and words, which
  * are read alone, may), and none is null; a pointer to words is aligned to 8. With a length of 0 the pointer is not
  * read, and any pointer that is not null and is aligned to 8 will do.
  *
@@ -33,8 +33,8 @@
  * different installs. A program compares them when it starts; examples/board.c does.
  */
 
-#define ZILPANUD_VERSION 1000
-#define ZILPANUD_VERSION_TEXT "0.1.0"
+#define ZILPANUD_VERSION 2000
+#define ZILPANUD_VERSION_TEXT "0.2.0"
 
 /* ---- sizes */
 
@@ -112,10 +112,24 @@
 #define ZILPANUD_LINE 14           /* the program board prints it for a malformed frame line; no call returns it */
 
 #define ZILPANUD_STORED 16         /* turn: one word was stored. detail: its index */
-#define ZILPANUD_PASSED 17         /* turn: there was nothing to store */
+#define ZILPANUD_PASSED 17         /* turn: there was nothing to store. detail: why, as below */
 #define ZILPANUD_WAITING 18        /* turn: the lock is another's. detail: the lock */
 #define ZILPANUD_IDLE_WORKER 19    /* turn: the worker is idle */
 #define ZILPANUD_SPENT 20          /* run: the rounds are over and a worker is not idle */
+
+/* Why a turn passed: the detail of 17. Where only this library changes the image, a release passes only where a
+ * recovery resumed it: its lock was freed before that or by it, and another worker may have it by now. */
+#define ZILPANUD_PASSED_JUMP 0            /* a jump, which never stores */
+#define ZILPANUD_PASSED_ALREADY_FREE 1    /* a release that found its lock's owner word 0 */
+#define ZILPANUD_PASSED_OTHERS 2          /* a release that found it neither 0 nor its own worker + 1 */
+
+/* what zilpanud_run writes to tally, by index */
+#define ZILPANUD_TALLY_WORDS 5
+#define ZILPANUD_TALLY_TURNS 0           /* the turns of workers that were not idle; those below are among them */
+#define ZILPANUD_TALLY_WAITS 1           /* the turns that waited */
+#define ZILPANUD_TALLY_STORES 2          /* the turns that stored */
+#define ZILPANUD_TALLY_ALREADY_FREE 3    /* the releases' turns that passed: the lock was already free */
+#define ZILPANUD_TALLY_OTHERS 4          /* the releases' turns that passed: the lock was another's */
 
 /* what zilpanud_standing writes */
 #define ZILPANUD_NOT_BEGUN 0
@@ -199,12 +213,14 @@ uint64_t zilpanud_submit(uint64_t *image, size_t image_words, uint8_t *step, uin
                          uint64_t number, const uint64_t *args, const uint64_t *words, size_t words_len,
                          uint64_t *left, uint64_t *detail);
 
-/* One turn of a worker, with at most one store: 16 to 19, or 10, 1, 11. */
+/* One turn of a worker, with at most one store: 16 to 19, or 10, 1, 11. A release that frees its lock answers 16; one
+ * that finds it already free or another's leaves it so and answers 17, and detail says which. */
 uint64_t zilpanud_turn(uint64_t *image, size_t image_words, uint8_t *step, uint8_t *turn, size_t worker,
                        uint64_t *left, uint64_t *detail);
 
-/* Rounds of turns until all workers are idle: 0, 20, or 10, 11. tally: turns, waits and stores of this run. 384 rounds
- * for each worker of the image end any sections; more cost nothing, since a run stops where all are idle. */
+/* Rounds of turns until all workers are idle: 0, 20, or 10, 11. tally: what this run counts, by ZILPANUD_TALLY_TURNS to
+ * ZILPANUD_TALLY_OTHERS. 384 rounds for each worker of the image end any sections; more cost nothing, since a run stops
+ * where all are idle. */
 uint64_t zilpanud_run(uint64_t *image, size_t image_words, uint8_t *step, uint8_t *turn, uint16_t rounds,
                       uint64_t *tally, uint64_t *left, uint64_t *detail);
 

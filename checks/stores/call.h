@@ -42,7 +42,7 @@ struct world {
     uint8_t turn[ZILPANUD_WORKERS];
     uint64_t left;
     uint64_t detail;
-    uint64_t tally[3];
+    uint64_t tally[ZILPANUD_TALLY_WORDS];
     uint64_t told;    /* what a question writes */
     uint64_t answer;
 };

@@ -146,18 +146,33 @@ static void turns(void)
     run(9, ZILPANUD_CURSOR);
 }
 
-/* A release whose lock is free already: cut between the store of the lock and that of the intent, and recovered. */
+/* A release whose lock is free already, or worker 1's by then, in turns and in a run: cut between the store of the lock
+ * and that of the intent, and recovered. */
 static void passes(void)
 {
-    fresh(1);
+    fresh(2);
     submit(0, 1, GIVE(shortest), ZILPANUD_DONE);
     for (int i = 0; i < 11; i++) {
         turn(0, ZILPANUD_STORED);
     }
     recover(ZILPANUD_DONE);
+    const struct world already_free = keep();
+    run(6, ZILPANUD_DONE);
+    go_back(&already_free);
     turn(0, ZILPANUD_STORED);
-    turn(0, ZILPANUD_PASSED);
+    passing_turn(0, ZILPANUD_PASSED_ALREADY_FREE);
     turns_until_idle(0);
+    go_back(&already_free);
+    submit(1, 1, GIVE(shortest), ZILPANUD_DONE);
+    turn(1, ZILPANUD_STORED);
+    turn(1, ZILPANUD_STORED);
+    const struct world others = keep();
+    run(13, ZILPANUD_DONE);
+    go_back(&others);
+    turn(0, ZILPANUD_STORED);
+    passing_turn(0, ZILPANUD_PASSED_OTHERS);
+    turns_until_idle(0);
+    turns_until_idle(1);
 }
 
 /* ---- runs and recoveries of several workers */

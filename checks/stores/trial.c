@@ -24,6 +24,7 @@ static uint64_t *record(size_t worker)
 
 static uint64_t answered[NAMES];    /* bit a: the call answered a */
 static uint64_t turned[9];          /* bit t of a kind: its turn t was made */
+static uint64_t passed[9];          /* bit d of a kind: a turn of it passed with detail d */
 
 static void missing(const char *what, size_t which, uint64_t wanted, uint64_t had)
 {
@@ -54,6 +55,9 @@ void all_met(void)
     for (size_t kind = 1; kind < 9; kind++) {
         missing("turns of kind", kind, BIT(turns[kind]) - 1, turned[kind]);
     }
+    missing("details of passed turns of kind", ZILPANUD_JUMP, BIT(ZILPANUD_PASSED_JUMP), passed[ZILPANUD_JUMP]);
+    missing("details of passed turns of kind", ZILPANUD_RELEASE,
+            BIT(ZILPANUD_PASSED_ALREADY_FREE) | BIT(ZILPANUD_PASSED_OTHERS), passed[ZILPANUD_RELEASE]);
 }
 
 /* ---- junk */
@@ -199,6 +203,9 @@ static void one_turn(const struct call *call)
     if (kind != 0 && now.answer >= ZILPANUD_STORED) {
         turned[kind] |= BIT(turn_number);
     }
+    if (kind != 0 && now.answer == ZILPANUD_PASSED) {
+        passed[kind] |= BIT(now.detail);
+    }
 }
 
 void turn(size_t worker, uint64_t answer)
@@ -207,6 +214,15 @@ void turn(size_t worker, uint64_t answer)
     one_turn(&call);
     if (now.answer != answer) {
         wrong_answer(&call);
+    }
+}
+
+void passing_turn(size_t worker, uint64_t detail)
+{
+    turn(worker, ZILPANUD_PASSED);
+    if (now.detail != detail) {
+        fprintf(stderr, "stores: a turn passed with detail %" PRIu64 ", which is not the script's\n", now.detail);
+        exit(2);
     }
 }
 

@@ -12,6 +12,9 @@ void check(const uint64_t *section, size_t steps, uint64_t answer);
 /* The section gets the worker's last finished number plus `above`, and arguments of junk. */
 void submit(size_t worker, uint64_t above, const uint64_t *section, size_t steps, uint64_t answer);
 void turn(size_t worker, uint64_t answer);
+
+/* A turn that passes, with this detail. */
+void passing_turn(size_t worker, uint64_t detail);
 void turns_until_idle(size_t worker);
 void run(uint16_t rounds, uint64_t answer);
 void recover(uint64_t answer);
@@ -38,7 +41,8 @@ void set_word(size_t index, uint64_t word);
 struct world keep(void);
 void go_back(const struct world *kept);
 
-/* Ends the program with 2 unless every answer of every call, and every turn of every kind, was met. */
+/* Ends the program with 2 unless every answer of every call, every turn of every kind, and every reason for which a
+ * turn passes, was met. */
 void all_met(void);
 
 #endif

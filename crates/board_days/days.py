@@ -164,6 +164,19 @@ def waits():
     write("eight-desks-cut", eight + rounds[:77] + [CUT] + rounds[:50] + [CUT, CUT] + rounds * 2)
 
 
+def reports():
+    """Document 02, 1/14: a drop cut behind its lock word, resumed; a skip, of which nothing is printed."""
+    a = hand_in(0, 3, [take(3), add(24, 24, 512), drop(3), END], args=(5,) + (0,) * 7)
+    b = hand_in(1, 4, [take(3), skip(24, 3), add(24, 24, 512), drop(3), END], args=(70,) + (0,) * 7)
+    write("report-already-free", ["02", a, turns(0, 15), CUT, turns(0, 6)])
+    write("report-anothers", ["02", a, turns(0, 15), CUT, b, turns(1, 2), turns(0, 2), turns(1, 50), turns(0, 50)])
+    write("report-each-by-a-line", ["02", a, turns(0, 15), CUT, b, turns(1, 3)] + [turns(0, 1)] * 6 + [turns(1, 1)] * 20)
+    write("report-cut-again", ["02", a, turns(0, 15), CUT, turns(0, 2), CUT, b, turns(1, 2), turns(0, 3), CUT, turns(0, 9), turns(1, 50)])
+    write("report-freed", ["02", a, turns(0, 13), CUT, turns(0, 6)])
+    write("report-freed-by-recovery", ["02", a, turns(0, 14), CUT, turns(0, 6)])
+    write("report-skip-none", ["02", b, b, turns(1, 7), CUT, turns(1, 50)])
+
+
 def two_desks():
     """Two desks at one bay, a turn each in turn, cut after n turns of each, and then to the end."""
     a = hand_in(0, 3, [take(3), add(24, 24, 512), drop(3), END], args=(5,) + (0,) * 7)
@@ -181,4 +194,5 @@ if __name__ == "__main__":
     malformed()
     first_lines()
     waits()
+    reports()
     two_desks()

@@ -15,7 +15,7 @@ use Rattle.image.specs.Image.{at, workers, headerOk}
 use Rattle.turn.specs.declared.Answer.the-variants.{Idle}
 use Rattle.run.specs.declared.End.the-variants.{AllIdle, Spent}
 use Rattle.working.specs.Cursor.{idle, cursorAt}
-use Rattle.plan.specs.Turn.{Outcome, stored, jumped, unheld, waiting, resting, refused, turnAt}
+use Rattle.plan.specs.Turn.{Outcome, stored, passed, waiting, resting, refused, turnAt}
 use Rattle.working.specs.World.{World}
 use Rattle.turn.specs.Call.{answerOf, outcomeAt, outcome}
 use Rattle.run.specs.Run.{anyOpen, Counting, counting, Course, ran, Sweep, turned, swept, sweep, afterSweep, roundsOf, runOf}
@@ -31,8 +31,7 @@ use Rattle.claims.proofs.Played.{plenty, spare-lent, ran-is}
 
 rests-answer : (n : ℕ) (o : Outcome) → answerOf n o ≡ Idle → isResting o ≡ true
 rests-answer n (stored p v c) e = cc
-rests-answer n (jumped c) e = cc
-rests-answer n (unheld c) e = cc
+rests-answer n (passed why c) e = cc
 rests-answer n (waiting b) e = cc
 rests-answer n resting e = refl
 rests-answer n (refused r) e = cc
@@ -63,8 +62,7 @@ module _ (mark n : ℕ) where
   -- a turn that is not refused goes on
   swept-on : (o : Outcome) (s : Counting) (more : Sweep) → refuses mark n o ≡ false → swept n o s more ≡ more
   swept-on (stored p v c) s more e = refl
-  swept-on (jumped c) s more e = refl
-  swept-on (unheld c) s more e = refl
+  swept-on (passed why c) s more e = refl
   swept-on (waiting b) s more e = refl
   swept-on resting s more e = refl
   swept-on (refused r) s more e = absurd (true≢false e)

@@ -7,8 +7,8 @@ use mathlib.Core.Logic.{_⊎_, inl, inr}
 use mathlib.Core.Bool.{Bool, true, false, cond}
 use native.Mathlib.Omega.{arith}
 use native.Mathlib.Numerals.{add-one}
-use lib.Dec.{ltb, eqb}
-use borrow.Author.Tests.{eqb-true, eqb-false, ltb-true, ltb-false, lt-leb}
+use lib.Dec.{ltb}
+use borrow.Author.Tests.{ltb-true, ltb-false, lt-leb}
 use Rattle.mask.specs.Mask.{has, without}
 use Rattle.mask.proofs.Laws.{has-without}
 use Rattle.mask.proofs.Sets.{without-stranger}
@@ -24,7 +24,11 @@ use Rattle.code.proofs.Ranges.{release-range, assign-range, opTurns}
 use Rattle.section.proofs.Steps.{ends}
 use Rattle.working.specs.Cursor.{on}
 use Rattle.log.specs.Log.{operand, codeIn, activeVal}
-use Rattle.plan.specs.Turn.{opTurn, turnAt, stored, unheld}
+use Rattle.plan.specs.declared.Report.{Report}
+use Rattle.plan.specs.declared.Report.the-variants.{Freed, AlreadyFree, Others}
+use Rattle.plan.specs.Report.{reportOf}
+use Rattle.plan.specs.Turn.{stored, unlockBy, opTurn, turnAt}
+use Rattle.plan.proofs.Reports.{Found, found}
 use Rattle.owed.specs.Owed.{targetOf}
 use Rattle.resuming.specs.Resumed.{targetTurn}
 use Rattle.claims.specs.Reference.{Given}
@@ -154,7 +158,7 @@ module _ (n : ℕ) (rd : Memory) (d : ℕ) (g : Given) (s locks : ℕ) (sec : Se
     lock-op :
         locks ≡ rd (field Intent d) → (has locks a ≡ true → rd (lock a) ≡ d + 1) → (rd (lock a) ≡ d + 1 → has locks a ≡ true)
         → Stepped n rd d g locks 0 (opTurn n rd d s 4 (Release a))
-    lock-op e mine named = by (eqb (rd (lock a)) (d + 1)) refl
+    lock-op e mine named = by (reportOf d (rd (lock a))) (found d (rd (lock a)))
       where
         rd′ : Memory
         rd′ = upd rd (lock a) 0
@@ -164,16 +168,17 @@ module _ (n : ℕ) (rd : Memory) (d : ℕ) (g : Given) (s locks : ℕ) (sec : Se
         lacks f (inl i) = absurd (f (mine (rw (e ∙ i) (sec .valid .releases s a (m .below) o))))
         lacks f (inr i) = e ∙ i
 
-        by : (q : Bool) → eqb (rd (lock a)) (d + 1) ≡ q → Stepped n rd d g locks 0 (cond q (stored (lock a) 0 (on s 5)) (unheld (on s 5)))
-        by true q =
+        by : (r : Report) → Found d (rd (lock a)) r → Stepped n rd d g locks 0 (unlockBy n rd d a s r)
+        by Freed q =
             let k = keeps-lock n rd d 0 a in
             let sec′ = sectioned-kept n rd rd′ d k refl (sec .unfinished) sec in (
               without locks a,
-              frees a range (named (eqb-true _ _ q)),
+              frees a range (named q),
               unlocked s a (without locks a) sec′ (named-kept n rd rd′ d k s m) o w z
                   (rw e intent-without),
             )
-        by false q = unlocked s a locks sec m o w z (lacks (eqb-false _ _ q) z)
+        by AlreadyFree q = unlocked s a locks sec m o w z (lacks (q .0) z)
+        by Others q = unlocked s a locks sec m o w z (lacks (q .0) z)
 
     pub unlocking-turn :
         locks ≡ rd (field Intent d) → (has locks a ≡ true → rd (lock a) ≡ d + 1) → (rd (lock a) ≡ d + 1 → has locks a ≡ true) → Stepped n rd d g locks 0

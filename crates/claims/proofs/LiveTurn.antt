@@ -1,6 +1,6 @@
 -- A turn keeps the whole invariant: the worker itself stands as its own phase says, no other worker sees the store, and the
 -- owner words name those who have the locks.
-use Prim.Native.Nat.{ℕ, suc, _+_, _/_, _<_}
+use Prim.Native.Nat.{ℕ, _+_, _/_, _<_}
 use mathlib.Core.Path.{_≡_, refl, ap, subst, _∙_, sym, fun-ext}
 use mathlib.Core.Logic.{_≢_}
 use mathlib.Core.Bool.{true, cond, and-false, true≢false}
@@ -14,10 +14,10 @@ use Rattle.mask.proofs.Laws.{has-with, has-with-other, has-without, has-without
 use Rattle.image.specs.Place.{Place, cell, lock, field, own, Memory}
 use Rattle.image.specs.inner.Same.{sameField, upd}
 use Rattle.working.specs.Cursor.{Cursor}
-use Rattle.plan.specs.Turn.{Outcome, stored, jumped, unheld, waiting, resting, refused}
+use Rattle.plan.specs.Turn.{Outcome, stored, passed, waiting, resting, refused}
 use Rattle.claims.specs.Reference.{Given}
 use Rattle.claims.specs.Events.{but}
-use Rattle.claims.specs.Calls.{isPc}
+use Rattle.claims.specs.Calls.{isPc, jumpsBy}
 use Rattle.claims.proofs.Invariant.{Phase, Live}
 use Rattle.claims.proofs.Turns.{Touches, inRecord, ownWord, ownCell, takes, frees, Stepped, Went}
 use Rattle.claims.proofs.Frame.{Agree, phase-same}
@@ -171,10 +171,7 @@ live-turn n D rd cursor locks jumps given d (stored p v c) L dl (m, t, ph) = (
       ph
       (touched-owning n D rd locks d p v m dl (owning L) t),
 )
-live-turn n D rd cursor locks jumps given d (jumped c) L dl ph = live-moved n D rd cursor locks jumps given d c (suc (jumps d)) L ph
-live-turn n D rd cursor locks jumps given d (unheld c) L dl ph =
-    subst (λ (f : ℕ → ℕ). Live n D rd (but cursor d c) locks f given) (fun-ext (but-self jumps d))
-    (live-moved n D rd cursor locks jumps given d c (jumps d) L ph)
+live-turn n D rd cursor locks jumps given d (passed why c) L dl ph = live-moved n D rd cursor locks jumps given d c (jumpsBy why (jumps d)) L ph
 live-turn n D rd cursor locks jumps given d (waiting b) L dl h = h
 live-turn n D rd cursor locks jumps given d resting L dl h = h
 live-turn n D rd cursor locks jumps given d (refused r) L dl h = h

@@ -19,8 +19,9 @@ use Rattle.code.specs.declared.Op.the-variants.{Acquire, Release, Assign, Jump,
 use Rattle.code.specs.Op.{eval}
 use Rattle.working.specs.Cursor.{Cursor, idle, on}
 use Rattle.log.specs.Log.{operand, wordIn, spareAddr, spareVal, activeVal, switched}
-use Rattle.plan.specs.Turn.{Outcome, stored, jumped, unheld, waiting, resting, refused, logged}
+use Rattle.plan.specs.Turn.{Outcome, stored, passed, waiting, resting, refused, logged}
 use Rattle.plan.specs.Turn.{lockTurn, unlockTurn, acquireTurn, releaseTurn, finishTurn, turnAt}
+use Rattle.plan.proofs.Reports.{unlock-either}
 use Rattle.owed.specs.Owed.{targetOf}
 use Rattle.resuming.specs.Resumed.{targetTurn}
 use Rattle.claims.specs.Reference.{Given, Job, State, follow, enqueue, initial}
@@ -46,8 +47,7 @@ MirroredStore n D rd S j g d p v true = (p ≡ field Pc d) × (rd (field Pc d) �
 -- a turn of worker d, by its outcome
 abbrev pub Mirrored : ℕ → ℕ → Memory → State → ℕ → Given → ℕ → Outcome → Type 0
 Mirrored n D rd S j g d (stored p v c) = MirroredStore n D rd S j g d p v (isPc p)
-Mirrored n D rd S j g d (jumped c) = Unit {0}
-Mirrored n D rd S j g d (unheld c) = Unit {0}
+Mirrored n D rd S j g d (passed why c) = Unit {0}
 Mirrored n D rd S j g d (waiting b) = Unit {0}
 Mirrored n D rd S j g d resting = Unit {0}
 Mirrored n D rd S j g d (refused r) = Unit {0}
@@ -69,11 +69,7 @@ module _ (n D : ℕ) (rd : Memory) (S : State) (M : Mirrors n D rd S) (j : ℕ) 
       by false = tt
 
   unlock-turn : (a s : ℕ) → Mirrored n D rd S j g d (unlockTurn n rd d a s)
-  unlock-turn a s = by (eqb (rd (lock a)) (d + 1))
-    where
-      by : (b : Bool) → Mirrored n D rd S j g d (cond b (stored (lock a) 0 (on s 5)) (unheld (on s 5)))
-      by true = mirror-kept n D rd (lock a) 0 (unmirrored-lock n D rd a) S M
-      by false = tt
+  unlock-turn a s = unlock-either n rd d a s (Mirrored n D rd S j g d) (mirror-kept n D rd (lock a) 0 (unmirrored-lock n D rd a) S M) (λ why. tt)
 
   -- address, value, pc
   logged-turns :

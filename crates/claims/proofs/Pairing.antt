@@ -14,7 +14,7 @@ use Rattle.image.specs.Place.{field, Memory}
 use Rattle.image.specs.inner.Same.{upd}
 use Rattle.image.specs.Image.{indexOf, at, put}
 use Rattle.working.specs.Cursor.{Cursor, cursorAt, placed}
-use Rattle.plan.specs.Turn.{Outcome, stored, jumped, unheld, waiting, resting, refused, turnAt}
+use Rattle.plan.specs.Turn.{Outcome, stored, passed, waiting, resting, refused, turnAt}
 use Rattle.working.proofs.Placed.{placed-same, placed-other}
 use Rattle.claims.specs.Reference.{Given}
 use Rattle.claims.specs.Calls.{Traced, isPc, turnBy}
@@ -146,8 +146,7 @@ module _ (mark n D : ℕ) (cells : List ℕ) where
             rw (h, left-over, memory, k .0) (begins-paired v c now y (k .1) e l)
         by false h y e l =
             rw (h, memory) (still-paired (upd rd p v) c now y (λ f. rw (apart-of isPc (field Pc f) p refl h)) e l)
-    outcome-paired (jumped c) ph mi x = still-paired rd c (cursor-now rd c _ _ ph) x (λ e. refl)
-    outcome-paired (unheld c) ph mi x = still-paired rd c (cursor-now rd c _ _ ph) x (λ e. refl)
+    outcome-paired (passed why c) ph mi x = still-paired rd c (cursor-now rd c _ _ ph) x (λ e. refl)
     outcome-paired (waiting b) st mi x = paired
     outcome-paired resting st mi x = paired
     outcome-paired (refused q) st mi x = paired

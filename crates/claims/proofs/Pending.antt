@@ -16,8 +16,9 @@ use Rattle.code.specs.Op.{opOf}
 use Rattle.working.specs.Cursor.{Cursor, idle, on}
 use Rattle.working.specs.declared.Refusal.the-variants.{Cursor as CursorRefused}
 use Rattle.log.specs.Log.{operand, codeIn}
-use Rattle.plan.specs.Turn.{Outcome, stored, jumped, unheld, waiting, resting, refused, logged, lockTurn, unlockTurn, acquireTurn, releaseTurn}
+use Rattle.plan.specs.Turn.{Outcome, stored, passed, waiting, resting, refused, logged, lockTurn, unlockTurn, acquireTurn, releaseTurn}
 use Rattle.plan.specs.Turn.{finishTurn, opTurn, ready, turnAt}
+use Rattle.plan.proofs.Reports.{unlock-either}
 use Rattle.resuming.specs.Resumed.{targetTurn}
 use Rattle.claims.specs.Reference.{Given}
 use Rattle.claims.specs.Calls.{isPc}
@@ -65,8 +66,7 @@ Passes pc c v c′ false = pend pc c ≡ pend pc c′
 
 abbrev pub Pends : ℕ → Cursor → Outcome → Type 0
 Pends pc c (stored p v c′) = Passes pc c v c′ (isPc p)
-Pends pc c (jumped c′) = pend pc c ≡ pend pc c′
-Pends pc c (unheld c′) = pend pc c ≡ pend pc c′
+Pends pc c (passed why c′) = pend pc c ≡ pend pc c′
 Pends pc c (waiting b) = Unit {0}
 Pends pc c resting = Unit {0}
 Pends pc c (refused r) = Unit {0}
@@ -76,8 +76,7 @@ Pends pc c (refused r) = Unit {0}
 -- a pc that is stored ends what is pending
 abbrev Ends : Outcome → Type 0
 Ends (stored p v c) = isPc p ≡ true → pend v c ≡ false
-Ends (jumped c) = Unit {0}
-Ends (unheld c) = Unit {0}
+Ends (passed why c) = Unit {0}
 Ends (waiting b) = Unit {0}
 Ends resting = Unit {0}
 Ends (refused r) = Unit {0}
@@ -100,11 +99,7 @@ module _ (n : ℕ) (rd : Memory) (d : ℕ) where
       by false = tt
 
   unlock-ends : (a s : ℕ) → Ends (unlockTurn n rd d a s)
-  unlock-ends a s = by (eqb (rd (lock a)) (d + 1))
-    where
-      by : (b : Bool) → Ends (cond b (stored (lock a) 0 (on s 5)) (unheld (on s 5)))
-      by true = no-pc refl
-      by false = tt
+  unlock-ends a s = unlock-either n rd d a s Ends (no-pc refl) (λ why. tt)
 
   acquire-ends : (a s t : ℕ) → Ends (acquireTurn n rd d a s t)
   acquire-ends a s zero = no-pc refl
@@ -158,8 +153,7 @@ begun-passes pc c v c′ false h e = pend-begun pc c h ∙ sym (pend-begun pc c�
 
 begun-pends : (pc : ℕ) (c : Cursor) (o : Outcome) → pc ≢ 0 → Ends o → Pends pc c o
 begun-pends pc c (stored p v c′) h e = begun-passes pc c v c′ (isPc p) h e
-begun-pends pc c (jumped c′) h e = pend-begun pc c h ∙ sym (pend-begun pc c′ h)
-begun-pends pc c (unheld c′) h e = pend-begun pc c h ∙ sym (pend-begun pc c′ h)
+begun-pends pc c (passed why c′) h e = pend-begun pc c h ∙ sym (pend-begun pc c′ h)
 begun-pends pc c (waiting b) h e = tt
 begun-pends pc c resting h e = tt
 begun-pends pc c (refused r) h e = tt

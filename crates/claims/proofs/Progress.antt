@@ -20,7 +20,8 @@ use Rattle.code.specs.declared.Op.the-variants.{Acquire, Release, Assign, Jump,
 use Rattle.code.specs.Op.{opOf}
 use Rattle.working.specs.Cursor.{Cursor, idle, on, isIdle}
 use Rattle.log.specs.Log.{codeIn}
-use Rattle.plan.specs.Turn.{Outcome, stored, jumped, unheld, waiting, resting, refused, logged, acquireTurn, finishTurn, opTurn, ready, turnAt}
+use Rattle.plan.specs.Turn.{Outcome, stored, passed, waiting, resting, refused, logged, acquireTurn, finishTurn, opTurn, ready, turnAt}
+use Rattle.plan.proofs.Reports.{unlock-either}
 use Rattle.claims.specs.Reference.{Given}
 use Rattle.claims.specs.Events.{but}
 use Rattle.claims.proofs.Invariant.{Phase, resting as atRest, fresh, due, unlocking, unlocked, between, ended, Live}
@@ -85,8 +86,7 @@ sum-less n D rd rd′ cursor d c l h s =
 -- the sum after a turn of worker d with this outcome is smaller; nothing is said of a turn that does not move
 abbrev pub SumFalls : ℕ → ℕ → Memory → (ℕ → Cursor) → ℕ → Outcome → Type 0
 SumFalls n D rd cursor d (stored p v c) = rankSum n (upd rd p v) (but cursor d c) D < rankSum n rd cursor D
-SumFalls n D rd cursor d (jumped c) = rankSum n rd (but cursor d c) D < rankSum n rd cursor D
-SumFalls n D rd cursor d (unheld c) = rankSum n rd (but cursor d c) D < rankSum n rd cursor D
+SumFalls n D rd cursor d (passed why c) = rankSum n rd (but cursor d c) D < rankSum n rd cursor D
 SumFalls n D rd cursor d (waiting b) = Unit {0}
 SumFalls n D rd cursor d resting = Unit {0}
 SumFalls n D rd cursor d (refused r) = Unit {0}
@@ -97,8 +97,7 @@ private-falls :
     → Went n D rd cursor locks jumps given d o → SumFalls n D rd cursor d o
 private-falls n D rd cursor locks jumps given d (stored p v c) l f (m, t, L) =
     sum-less n D rd (upd rd p v) cursor d c l f (λ e ne. rank-other n rd d (locks d) p v m t e ne (cursor e))
-private-falls n D rd cursor locks jumps given d (jumped c) l f w = sum-less n D rd rd cursor d c l f (λ e ne. refl)
-private-falls n D rd cursor locks jumps given d (unheld c) l f w = sum-less n D rd rd cursor d c l f (λ e ne. refl)
+private-falls n D rd cursor locks jumps given d (passed why c) l f w = sum-less n D rd rd cursor d c l f (λ e ne. refl)
 private-falls n D rd cursor locks jumps given d (waiting b) l f w = tt
 private-falls n D rd cursor locks jumps given d resting l f w = tt
 private-falls n D rd cursor locks jumps given d (refused r) l f w = tt
@@ -128,16 +127,14 @@ rankSum-most n D rd cursor locks jumps given L =
 
 abbrev pub isWaiting : Outcome → Bool
 isWaiting (stored p v c) = false
-isWaiting (jumped c) = false
-isWaiting (unheld c) = false
+isWaiting (passed why c) = false
 isWaiting (waiting b) = true
 isWaiting resting = false
 isWaiting (refused r) = false
 
 abbrev pub isResting : Outcome → Bool
 isResting (stored p v c) = false
-isResting (jumped c) = false
-isResting (unheld c) = false
+isResting (passed why c) = false
 isResting (waiting b) = false
 isResting resting = true
 isResting (refused r) = false
@@ -173,8 +170,7 @@ module _ (n D : ℕ) (rd : Memory) (cursor : ℕ → Cursor) (locks jumps : ℕ 
         by : ((e′ a′ : ℕ) → e′ < D → isIdle (cursor e′) ≡ false → has (locks e′) a′ ≡ true → a′ < 64 → 64 ≤ a′ + k → Moving)
             → (o : Outcome) → turnAt n rd e (cursor e) ≡ o → Stepped n rd e (given e) (locks e) (jumps e) o → Moving
         by more (stored p v c) x s = (e, l, q, ap isWaiting x)
-        by more (jumped c) x s = (e, l, q, ap isWaiting x)
-        by more (unheld c) x s = (e, l, q, ap isWaiting x)
+        by more (passed why c) x s = (e, l, q, ap isWaiting x)
         by more (waiting b) x (bl, ne, above) = let y = owned-by b bl ne in let z = above a h in more (y .0) b (y .1) (y .2) (y .3) bl (omega arith)
         by more resting x s = (e, l, q, ap isWaiting x)
         by more (refused r) x s = absurd s
@@ -185,8 +181,7 @@ module _ (n D : ℕ) (rd : Memory) (cursor : ℕ → Cursor) (locks jumps : ℕ 
       where
         by : (o : Outcome) → turnAt n rd d (cursor d) ≡ o → Stepped n rd d (given d) (locks d) (jumps d) o → Moving
         by (stored p v c) x s = (d, l, q, ap isWaiting x)
-        by (jumped c) x s = (d, l, q, ap isWaiting x)
-        by (unheld c) x s = (d, l, q, ap isWaiting x)
+        by (passed why c) x s = (d, l, q, ap isWaiting x)
         by (waiting b) x (bl, ne, above) = let y = owned-by b bl ne in climb 64 (y .0) b (y .1) (y .2) (y .3) bl (omega arith)
         by resting x s = (d, l, q, ap isWaiting x)
         by (refused r) x s = absurd s
@@ -195,8 +190,7 @@ module _ (n D : ℕ) (rd : Memory) (cursor : ℕ → Cursor) (locks jumps : ℕ 
 
 abbrev pub isMoving : Outcome → Bool
 isMoving (stored p v c) = true
-isMoving (jumped c) = true
-isMoving (unheld c) = true
+isMoving (passed why c) = true
 isMoving (waiting b) = false
 isMoving resting = false
 isMoving (refused r) = false
@@ -226,7 +220,7 @@ private-op : (n : ℕ) (rd : Memory) (d s t : ℕ) (x : Op) → isResting (opTur
 private-op n rd d s t (Acquire a) = private-acquire n rd d a s t
 private-op n rd d s t (Release a) =
     private-either (ltb t 4) _ _ (private-logged n rd d s t _ _ _ t)
-    (private-either (eqb t 4) _ _ (private-either (eqb (rd (lock a)) (d + 1)) _ _ refl refl) refl)
+    (private-either (eqb t 4) _ _ (unlock-either n rd d a s (λ (o : Outcome). isResting o ≡ false) refl (λ why. refl)) refl)
 private-op n rd d s t (Assign a e) = private-logged n rd d s t _ _ _ t
 private-op n rd d s t (Jump a b) = refl
 private-op n rd d s t Finish = private-finish n rd d s t
@@ -241,8 +235,7 @@ open-acts n rd d (on s t) = private-either (ready n rd d s t) _ _ (private-op n 
 private-moves : (n : ℕ) (rd : Memory) (d : ℕ) (g : Given) (locks j : ℕ) (o : Outcome) → isResting o ≡ false → isWaiting o ≡ false → Stepped n rd d g locks j o
     → isMoving o ≡ true
 private-moves n rd d g locks j (stored p v c) r w s = refl
-private-moves n rd d g locks j (jumped c) r w s = refl
-private-moves n rd d g locks j (unheld c) r w s = refl
+private-moves n rd d g locks j (passed why c) r w s = refl
 private-moves n rd d g locks j (waiting b) r w s = sym w
 private-moves n rd d g locks j resting r w s = sym r
 private-moves n rd d g locks j (refused e) r w s = absurd s

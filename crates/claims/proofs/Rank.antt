@@ -23,8 +23,10 @@ use Rattle.section.proofs.Steps.{place-jump}
 use Rattle.working.specs.declared.Refusal.the-variants.{Cursor as CursorRefused}
 use Rattle.working.specs.Cursor.{Cursor, idle, on}
 use Rattle.log.specs.Log.{operand, codeIn, wordIn, second, spareAddr, spareVal}
-use Rattle.plan.specs.Turn.{Outcome, stored, jumped, unheld, waiting, resting, refused, logged}
-use Rattle.plan.specs.Turn.{acquireTurn, releaseTurn, finishTurn, opTurn, ready, turnAt}
+use Rattle.plan.specs.Turn.{Outcome, stored, passed, waiting, resting, refused, logged}
+use Rattle.plan.specs.Turn.{acquireTurn, unlockTurn, releaseTurn, finishTurn, opTurn, ready, turnAt}
+use Rattle.log.specs.declared.Passing.the-variants.{Jump as PassedJump}
+use Rattle.plan.proofs.Reports.{unlock-either}
 
 -- ---- the turns of steps
 
@@ -168,8 +170,7 @@ unranked-lock a e = record { count = refl; steps = λ i. refl }
 -- worker d's rank after a turn with this outcome is below k; nothing is said of a turn that does not move
 abbrev pub Falls : ℕ → Memory → ℕ → ℕ → Outcome → Type 0
 Falls n rd d k (stored p v c) = rank n (upd rd p v) d c < k
-Falls n rd d k (jumped c) = rank n rd d c < k
-Falls n rd d k (unheld c) = rank n rd d c < k
+Falls n rd d k (passed why c) = rank n rd d c < k
 Falls n rd d k (waiting b) = Unit {0}
 Falls n rd d k resting = Unit {0}
 Falls n rd d k (refused r) = Unit {0}
@@ -198,20 +199,21 @@ module _ (n : ℕ) (rd : Memory) (d s t : ℕ) (I : AtTurn n rd d s t) where
   assign-falls a v = logged-falls (operand d a) v (on (s + 1) 0) (unranked-operand d d a) next-step t
 
   release-falls : (a : ℕ) → Sinks (releaseTurn n rd d a s t)
-  release-falls a = by (ltb t 4) refl (eqb t 4) refl (eqb (rd (lock a)) (d + 1))
+  release-falls a = by (ltb t 4) refl (eqb t 4) refl
     where
-      by : (b : Bool) → ltb t 4 ≡ b → (c : Bool) → eqb t 4 ≡ c → (u : Bool) →
+      by : (b : Bool) → ltb t 4 ≡ b → (c : Bool) → eqb t 4 ≡ c →
           Sinks (cond b (logged n rd d s t (field Owned d) (without (rd (field Owned d)) a) (on s 4) t)
-          (cond c (cond u (stored (lock a) 0 (on s 5)) (unheld (on s 5))) (stored (field Intent d) (without (rd (field Intent d)) a) (on (s + 1) 0))))
-      by true e c f u = logged-falls (field Owned d) _ (on s 4) (unranked-owned d d) (within 4 (ltb-true t 4 e)) t
-      by false e true f true = stored-falls _ _ _ (unranked-lock a d) (within 5 (omega (arith, eqb-true t 4 f)))
-      by false e true f false = later-falls n rd d s t (on s 5) I (within 5 (omega (arith, eqb-true t 4 f)))
-      by false e false f u = stored-falls _ _ _ (unranked-intent d d) next-step
+          (cond c (unlockTurn n rd d a s) (stored (field Intent d) (without (rd (field Intent d)) a) (on (s + 1) 0))))
+      by true e c f = logged-falls (field Owned d) _ (on s 4) (unranked-owned d d) (within 4 (ltb-true t 4 e)) t
+      by false e true f =
+          let l : Later s t (rd (field Count d)) (on s 5) = within 5 (omega (arith, eqb-true t 4 f)) in
+          unlock-either n rd d a s Sinks (stored-falls _ _ _ (unranked-lock a d) l) (λ why. later-falls n rd d s t (on s 5) I l)
+      by false e false f = stored-falls _ _ _ (unranked-intent d d) next-step
 
-  jump-falls : (a b : ℕ) → inPlace (rd (field Count d)) s (Jump a b) ≡ true → Sinks (jumped (cond (eqb (wordIn n rd d a) 0) (on b 0) (on (s + 1) 0)))
+  jump-falls : (a b : ℕ) → inPlace (rd (field Count d)) s (Jump a b) ≡ true → Sinks (passed PassedJump (cond (eqb (wordIn n rd d a) 0) (on b 0) (on (s + 1) 0)))
   jump-falls a b i = by (eqb (wordIn n rd d a) 0)
     where
-      by : (z : Bool) → Sinks (jumped (cond z (on b 0) (on (s + 1) 0)))
+      by : (z : Bool) → Sinks (passed PassedJump (cond z (on b 0) (on (s + 1) 0)))
       by true = let l = place-jump (rd (field Count d)) s a b i in later-falls n rd d s t (on b 0) I (beyond b 0 (l .0) (omega arith))
       by false = later-falls n rd d s t (on (s + 1) 0) I next-step
 

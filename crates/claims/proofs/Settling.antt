@@ -11,7 +11,7 @@ use Rattle.image.specs.Place.{Memory}
 use Rattle.image.specs.inner.Same.{upd}
 use Rattle.image.specs.Image.{at}
 use Rattle.working.specs.Cursor.{Cursor, isIdle, cursorAt, placed}
-use Rattle.plan.specs.Turn.{Outcome, stored, jumped, unheld, waiting, resting, refused, turnAt}
+use Rattle.plan.specs.Turn.{Outcome, stored, passed, waiting, resting, refused, turnAt}
 use Rattle.turn.specs.Call.{outcomeAt}
 use Rattle.run.specs.Run.{anyOpen}
 use Rattle.working.proofs.Placed.{sayable}
@@ -41,8 +41,7 @@ sum-cursors n D rd c c′ h = total-same _ _ D (λ e l. ap (rank n rd e) (h e l)
 
 some-rank : (n D : ℕ) (rd : Memory) (cursor : ℕ → Cursor) (d : ℕ) (o : Outcome) → isMoving o ≡ true → SumFalls n D rd cursor d o → 0 < rankSum n rd cursor D
 some-rank n D rd cursor d (stored p v c) m f = omega arith
-some-rank n D rd cursor d (jumped c) m f = omega arith
-some-rank n D rd cursor d (unheld c) m f = omega arith
+some-rank n D rd cursor d (passed why c) m f = omega arith
 some-rank n D rd cursor d (waiting b) m f = absurd (false≢true m)
 some-rank n D rd cursor d resting m f = absurd (false≢true m)
 some-rank n D rd cursor d (refused x) m f = absurd (false≢true m)
@@ -99,10 +98,8 @@ module _ (mark n D : ℕ) (cells : List ℕ) where
         (touches-valid n D rd d (r .locks d) p v (g .0) dl (g .1)) left in
         let f = sum-falls n D rd (cursorAt (w .world .cursors)) (r .locks) (w .trace .jumps) (w .trace .last) d (stored p v c) dl e g in
         rw (q, placed-sum (upd rd p v) c _ _ _ (g .2)) f
-    moved (jumped c) e g left m =
-        rw (placed-sum rd c _ _ _ g) (sum-falls n D rd (cursorAt (w .world .cursors)) (r .locks) (w .trace .jumps) (w .trace .last) d (jumped c) dl e g)
-    moved (unheld c) e g left m =
-        rw (placed-sum rd c _ _ _ g) (sum-falls n D rd (cursorAt (w .world .cursors)) (r .locks) (w .trace .jumps) (w .trace .last) d (unheld c) dl e g)
+    moved (passed why c) e g left m =
+        rw (placed-sum rd c _ _ _ g) (sum-falls n D rd (cursorAt (w .world .cursors)) (r .locks) (w .trace .jumps) (w .trace .last) d (passed why c) dl e g)
     moved (waiting b) e g left m = absurd (false≢true m)
     moved resting e g left m = absurd (false≢true m)
     moved (refused x) e g left m = absurd (false≢true m)
@@ -110,8 +107,7 @@ module _ (mark n D : ℕ) (cells : List ℕ) where
     -- one that does not leaves an event at most
     stays : (o : Outcome) → isMoving o ≡ false → Noted w (turnBy mark n w d o)
     stays (stored p v c) m = absurd (true≢false m)
-    stays (jumped c) m = absurd (true≢false m)
-    stays (unheld c) m = absurd (true≢false m)
+    stays (passed why c) m = absurd (true≢false m)
     stays (waiting b) m = (waited d b ∷ [], refl)
     stays resting m = noted-none w
     stays (refused x) m = noted-none w
@@ -179,8 +175,7 @@ module _ (mark n D : ℕ) (cells : List ℕ) where
     where
       by : (o : Outcome) → Stepped n (rd w d r dl) d (w .trace .last d) (r .locks d) (w .trace .jumps d) o → refuses mark n o ≡ false
       by (stored p v c) s = refl
-      by (jumped c) s = refl
-      by (unheld c) s = refl
+      by (passed why c) s = refl
       by (waiting b) s = refl
       by resting s = refl
       by (refused x) s = absurd s

@@ -12,7 +12,7 @@ use Rattle.image.specs.Place.{Place}
 use Rattle.image.specs.Image.{indexOf, at}
 use Rattle.image.proofs.Stores.{put-none}
 use Rattle.working.specs.Cursor.{Cursor, cursorAt}
-use Rattle.plan.specs.Turn.{Outcome, stored, jumped, unheld, waiting, resting, refused, turnAt}
+use Rattle.plan.specs.Turn.{Outcome, stored, passed, waiting, resting, refused, turnAt}
 use Rattle.turn.specs.Call.{leaves, outcomeAt}
 use Rattle.run.specs.Run.{anyOpen}
 use Rattle.claims.specs.Calls.{Traced, isPc, turnTrace, turnBy, turnedAt, refuses, round, rounds}
@@ -42,8 +42,7 @@ module _ (mark n D : ℕ) (cells : List ℕ) where
         crashed = rw (s .2) (f .crashed);
         spent = omega arith;
       }
-  frozen-turn w d (jumped c) f = record { reached = f .reached; crashed = f .crashed; spent = f .spent }
-  frozen-turn w d (unheld c) f = record { reached = f .reached; crashed = f .crashed; spent = f .spent }
+  frozen-turn w d (passed why c) f = record { reached = f .reached; crashed = f .crashed; spent = f .spent }
   frozen-turn w d (waiting b) f = record { reached = f .reached; crashed = f .crashed; spent = f .spent }
   frozen-turn w d resting f = f
   frozen-turn w d (refused r) f = f
@@ -97,8 +96,7 @@ module _ (mark n D : ℕ) (cells : List ℕ) where
   -- a turn takes at most one store off
   pub takes-one : (w : Traced) (d : ℕ) (o : Outcome) → w .world .left ≤ turnBy mark n w d o .world .left + 1
   takes-one w d (stored p v c) = omega arith
-  takes-one w d (jumped c) = omega arith
-  takes-one w d (unheld c) = omega arith
+  takes-one w d (passed why c) = omega arith
   takes-one w d (waiting b) = omega arith
   takes-one w d resting = omega arith
   takes-one w d (refused r) = omega arith

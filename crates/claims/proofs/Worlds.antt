@@ -1,6 +1,6 @@
 -- The invariant of a whole world between calls: running, with the cursors known, or cut, with only the image left; and that
 -- every turn keeps it, whether a store is left for it or not.
-use Prim.Native.Nat.{ℕ, suc, _<_, _≤_}
+use Prim.Native.Nat.{ℕ, _<_, _≤_}
 use mathlib.Core.Path.{_≡_, refl, subst, _∙_, sym, fun-ext}
 use mathlib.Core.Bool.{Bool, true, false, cond, _&&_, not}
 use mathlib.Core.Option.{some}
@@ -18,13 +18,13 @@ use Rattle.image.proofs.Stores.{header-store, workers-store}
 use Rattle.code.specs.declared.Op.{Op}
 use Rattle.code.specs.declared.Op.the-variants.{Acquire, Release, Assign, Jump, Finish, Unknown}
 use Rattle.working.specs.Cursor.{Cursor, cursorAt, placed}
-use Rattle.plan.specs.Turn.{Outcome, stored, jumped, unheld, waiting, resting as rests, refused, turnAt}
+use Rattle.plan.specs.Turn.{Outcome, stored, passed, waiting, resting as rests, refused, turnAt}
 use Rattle.turn.specs.Call.{leaves}
 use Rattle.working.proofs.Placed.{Full, sayable}
 use Rattle.resuming.specs.Resumed.{targetTurn}
 use Rattle.claims.specs.Reference.{Given, State, follow, initial}
 use Rattle.claims.specs.Events.{but}
-use Rattle.claims.specs.Calls.{Traced, recording, isPc, turnTrace, turnBy}
+use Rattle.claims.specs.Calls.{Traced, recording, isPc, jumpsBy, turnTrace, turnBy}
 use Rattle.claims.proofs.Invariant.{opAt, heldAt, Nearing, Phase, resting, fresh, due, unlocking, unlocked, between, ended, Live, Crashed, Mirrors}
 use Rattle.claims.proofs.Turns.{Touches, inRecord, ownWord, ownCell, takes, frees, Stepped, Went}
 use Rattle.claims.proofs.LiveTurn.{live-turn, but-same, but-self, live-cursors}
@@ -144,8 +144,7 @@ module _ (mark n D : ℕ) (cells : List ℕ) (w : Traced) (d : ℕ) (r : Running
           rw h
           (stored-reached p v l (w .trace .begun) (w .trace .order) (r .reached .state) t (r .reached .followed)
           (mirror-still n D rd (r .reached .state) (w .trace .jumps d) (w .trace .last d) d p v c h mi))
-  turn-reached (jumped c) st mi = r .reached
-  turn-reached (unheld c) st mi = r .reached
+  turn-reached (passed why c) st mi = r .reached
   turn-reached (waiting b) st mi = r .reached
   turn-reached rests st mi = r .reached
   turn-reached (refused x) st mi = r .reached
@@ -188,16 +187,14 @@ module _ (mark n D : ℕ) (cells : List ℕ) (w : Traced) (d : ℕ) (r : Running
           subst (λ (f : ℕ → ℕ). Live n D (at n (put (w .world .left) (w .world .image) (indexOf n p) v)) (cursorAt (placed (w .world .cursors) d c))
           (but (r .locks) d l) f (w .trace .last))
           (fun-ext (but-self (w .trace .jumps) d)) x
-  turn-live (jumped c) L = (r .locks, placed-live rd c (r .locks) (but (w .trace .jumps) d (suc (w .trace .jumps d))) (w .trace .last) L)
-  turn-live (unheld c) L = (r .locks, placed-live rd c (r .locks) (w .trace .jumps) (w .trace .last) L)
+  turn-live (passed why c) L = (r .locks, placed-live rd c (r .locks) (but (w .trace .jumps) d (jumpsBy why (w .trace .jumps d))) (w .trace .last) L)
   turn-live (waiting b) h = (r .locks, r .live)
   turn-live rests h = (r .locks, r .live)
   turn-live (refused x) h = (r .locks, r .live)
 
   turn-full : (o : Outcome) → Full (leaves n (w .world) d o .cursors)
   turn-full (stored p v c) = full-set (w .world .cursors) d _ _ (r .full)
-  turn-full (jumped c) = full-set (w .world .cursors) d _ _ (r .full)
-  turn-full (unheld c) = full-set (w .world .cursors) d _ _ (r .full)
+  turn-full (passed why c) = full-set (w .world .cursors) d _ _ (r .full)
   turn-full (waiting b) = r .full
   turn-full rests = r .full
   turn-full (refused x) = r .full

@@ -11,7 +11,9 @@ use Rattle.image.specs.Image.{Image, at, workers, headerOk}
 use Rattle.intake.specs.declared.Submitted.{Submitted}
 use Rattle.intake.specs.declared.Submitted.the-variants.{Taken, Refused}
 use Rattle.working.specs.Cursor.{stepNo, cursorAt, allIdle}
-use Rattle.plan.specs.Turn.{Outcome, stored, jumped, unheld, waiting, resting, refused}
+use Rattle.log.specs.declared.Passing.{Passing}
+use Rattle.log.specs.declared.Passing.the-variants.{Jump, AlreadyFree, Others}
+use Rattle.plan.specs.Turn.{Outcome, stored, passed, waiting, resting, refused}
 use Rattle.working.specs.World.{World, world}
 use Rattle.turn.specs.Call.{answerOf, leaves, outcomeAt, outcome, isRefused}
 use Rattle.intake.specs.Submit.{submitAnswer, submitLeaves}
@@ -48,9 +50,16 @@ noting g es = record { last = g .last; taken = g .taken; begun = g .begun; jumps
 abbrev pub forgetful : Trace → Trace
 forgetful g = record { last = g .last; taken = g .taken; begun = g .begun; jumps = λ d. 0; order = g .order; events = g .events ++ (lost ∷ []) }
 
--- worker d makes a jump
-abbrev pub jumping : Trace → ℕ → Trace
-jumping g d = record { last = g .last; taken = g .taken; begun = g .begun; jumps = but (g .jumps) d (suc (g .jumps d)); order = g .order; events = g .events }
+-- the jumps since the last instruction that counts, after a turn that passes
+abbrev pub jumpsBy : Passing → ℕ → ℕ
+jumpsBy Jump j = suc j
+jumpsBy AlreadyFree j = j
+jumpsBy Others j = j
+
+-- worker d passes
+abbrev pub passing : Trace → ℕ → Passing → Trace
+passing g d why =
+    record { last = g .last; taken = g .taken; begun = g .begun; jumps = but (g .jumps) d (jumpsBy why (g .jumps d)); order = g .order; events = g .events }
 
 -- worker d's pc is stored: it was 0, so that the section last taken is begun, or not
 abbrev pub recording : Trace → ℕ → Bool → Trace
@@ -120,8 +129,7 @@ module _ (mark n : ℕ) where
       noting
       (cond (isPc p && not (eqb (w .world .left) 0)) (recording (w .trace) d (eqb (at n (w .world .image) (field Pc d)) 0)) (w .trace))
       (storeEvents w d p v)
-  turnTrace w d (jumped c) = noting (jumping (w .trace) d) (moved d (stepOf w d) ∷ [])
-  turnTrace w d (unheld c) = noting (w .trace) (moved d (stepOf w d) ∷ [])
+  turnTrace w d (passed why c) = noting (passing (w .trace) d why) (moved d (stepOf w d) ∷ [])
   turnTrace w d (waiting b) = noting (w .trace) (waited d b ∷ [])
   turnTrace w d resting = w .trace
   turnTrace w d (refused r) = w .trace

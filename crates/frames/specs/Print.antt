@@ -1,5 +1,5 @@
--- What is printed: an index, or ffff for a refusal, and a value; and the bytes of it. (Document 01: index, four digits, blank, value,
--- sixteen; a refusal has ffff for the index, and its number.)
+-- What is printed: an index, or ffff for a refusal and fffe for a report, and a value; and the bytes of it. (Document 01: index, four
+-- digits, blank, value, sixteen; a refusal has ffff for the index, and its number. Document 02, 1/14: a report has fffe.)
 use Prim.Native.Nat.{ℕ}
 use mathlib.Core.List.{List, [], _∷_}
 use Rattle.frames.specs.declared.Printed.{Printed}
@@ -12,6 +12,9 @@ malformed = 14
 
 abbrev pub refusal : ℕ → Printed
 refusal cause = Line 65535 cause
+
+abbrev pub report : ℕ → Printed
+report found = Line 65534 found
 
 -- ---- the bytes: four digits, a blank, sixteen digits, byte 10
 

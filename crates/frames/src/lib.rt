@@ -7,7 +7,7 @@ ghost use mathlib.Core.Path.{_≡_};
 ghost use Prim.Native.Nat.{_≤_, _/_};
 ghost use lib.ListN.{length, take};
 ghost use Rattle.frames.specs.Line.{firstOf, frameOf, stepsPart, argumentsOf, wordsOf};
-ghost use Rattle.frames.specs.Print.{refusal, textOf};
+ghost use Rattle.frames.specs.Print.{refusal, report, textOf};
 
 // The number of a malformed line.
 pub const MALFORMED: u64 = 14;
@@ -27,7 +27,7 @@ pub enum Frame {
     Malformed,
 }
 
-// What is to be printed: an index, or ffff, and a value.
+// What is to be printed: an index, or ffff or fffe, and a value.
 pub enum Printed {
     Nothing,
     Line { at: usize, value: u64 },
@@ -76,6 +76,13 @@ pub fn refusal(cause: u64) -> Printed
     ensures { λ r. ⌜ r ≡ refusal cause ⌝ }
 {
     saying::refusal(cause)
+}
+
+// What a release found, as it is printed.
+pub fn report(found: u64) -> Printed
+    ensures { λ r. ⌜ r ≡ report found ⌝ }
+{
+    saying::report(found)
 }
 
 // The printed form of an index and a value, with the byte 10 that ends it.

@@ -2,7 +2,7 @@
 use crate::Printed;
 use crate::digits;
 ghost use mathlib.Core.Path.{_≡_};
-ghost use Rattle.frames.specs.Print.{textOf, refusal};
+ghost use Rattle.frames.specs.Print.{textOf, refusal, report};
 
 // A refusal has ffff for the index, and its number.
 pub fn refusal(cause: u64) -> Printed
@@ -11,6 +11,16 @@ pub fn refusal(cause: u64) -> Printed
     Printed::Line {
         at: 65535,
         value: cause,
+    }
+}
+
+// A report has fffe, and what was found.
+pub fn report(found: u64) -> Printed
+    ensures { λ r. ⌜ r ≡ report found ⌝ }
+{
+    Printed::Line {
+        at: 65534,
+        value: found,
     }
 }
 

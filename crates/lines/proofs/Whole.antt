@@ -13,7 +13,7 @@ use Rattle.image.specs.Place.{Store}
 use Rattle.image.specs.Image.{Image, indexOf}
 use Rattle.working.specs.declared.Cursors.{Cursors}
 use Rattle.edition.specs.Edition.{mark, ownWords}
-use Rattle.plan.specs.Turn.{Outcome, stored, jumped, unheld, waiting, resting, refused}
+use Rattle.plan.specs.Turn.{Outcome, stored, passed, waiting, resting, refused}
 use Rattle.turn.specs.Call.{outcome}
 use Rattle.repair.specs.declared.Repair.{Repair}
 use Rattle.repair.specs.Repair.{slotAt, slotOf}
@@ -40,16 +40,14 @@ next-rests (suc f) m c x r = ap (onto Nothing) (next-rests f m c Nothing r)
 -- an outcome that leaves everything as it was, and is no refusal
 abbrev Still : Outcome → Type 0
 Still (stored p v c) = ⊥
-Still (jumped c) = ⊥
-Still (unheld c) = ⊥
+Still (passed why c) = ⊥
 Still (waiting b) = Unit {0}
 Still resting = Unit {0}
 Still (refused r) = ⊥
 
 private-then : (o : Outcome) (more : Image → Cursors → Output) (m : Image) (c : Cursors) (d : ℕ) → Still o → turnThen more m c d o ≡ onto Nothing (more m c)
 private-then (stored p v c₁) more m c d h = absurd h
-private-then (jumped c₁) more m c d h = absurd h
-private-then (unheld c₁) more m c d h = absurd h
+private-then (passed why c₁) more m c d h = absurd h
 private-then (waiting b) more m c d h = refl
 private-then resting more m c d h = refl
 private-then (refused r) more m c d h = absurd h
@@ -66,8 +64,7 @@ private-turn : (o : Outcome) (f k : ℕ) (m : Image) (c : Cursors) (d : ℕ) (r 
     → (Still o → turnsLine k m c d ≡ output [] m c)
     → onto (turnedBy m c d k r o .played .printed) (pieces f (turnedBy m c d k r o)) ≡ turnThen (λ m′ c′. turnsLine k m′ c′ d) m c d o
 private-turn (stored p v c₁) f k m c d r goes still = ap (onto (turnedBy m c d k r (stored p v c₁) .played .printed)) (goes _ _ _)
-private-turn (jumped c₁) f k m c d r goes still = ap (onto (turnedBy m c d k r (jumped c₁) .played .printed)) (goes _ _ _)
-private-turn (unheld c₁) f k m c d r goes still = ap (onto (turnedBy m c d k r (unheld c₁) .played .printed)) (goes _ _ _)
+private-turn (passed why c₁) f k m c d r goes still = ap (onto (turnedBy m c d k r (passed why c₁) .played .printed)) (goes _ _ _)
 private-turn (waiting b) f k m c d r goes still = ap (onto Nothing) (next-rests f m c _ r ∙ sym (still tt))
 private-turn resting f k m c d r goes still = ap (onto Nothing) (next-rests f m c _ r ∙ sym (still tt))
 private-turn (refused e) f k m c d r goes still = ap (onto (turnedBy m c d k r (refused e) .played .printed)) (next-rests f m c _ r)

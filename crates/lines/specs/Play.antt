@@ -62,7 +62,7 @@ submitStage m c l d k =
 -- all that follow would be the same
 abbrev pub goesOn : Answer → Bool
 goesOn (Stored i) = true
-goesOn Passed = true
+goesOn (Passed why) = true
 goesOn (Waiting b) = false
 goesOn Idle = false
 goesOn (TurnRefused r) = false

@@ -109,7 +109,7 @@ fn goes_on(a: Answer) -> bool
 {
     match a {
         Answer::Stored(_) => true,
-        Answer::Passed => true,
+        Answer::Passed(_) => true,
         Answer::Waiting(_) => false,
         Answer::Idle => false,
         Answer::Refused(_) => false,

@@ -1,10 +1,11 @@
 // What is printed of an answer.
 use frames::Printed;
 use intake::Submitted;
+use log::Passing;
 use repair::Slot;
 use turn::Answer;
 ghost use mathlib.Core.Path.{_≡_};
-ghost use Rattle.lines.specs.Answers.{submitPrints, turnPrints, recoverPrints, slotPrints};
+ghost use Rattle.lines.specs.Answers.{submitPrints, passPrints, turnPrints, recoverPrints, slotPrints};
 
 pub fn submitted(a: Submitted) -> Printed
     ensures { λ r. ⌜ r ≡ submitPrints a ⌝ }
@@ -12,6 +13,17 @@ pub fn submitted(a: Submitted) -> Printed
     match a {
         Submitted::Taken => Printed::Nothing,
         Submitted::Refused(r) => frames::refusal(working::cause(r)),
+    }
+}
+
+// What a release found is printed; of a jump nothing is.
+fn passed(why: Passing) -> Printed
+    ensures { λ r. ⌜ r ≡ passPrints why ⌝ }
+{
+    match why {
+        Passing::Jump => Printed::Nothing,
+        Passing::AlreadyFree => frames::report(0),
+        Passing::Others => frames::report(1),
     }
 }
 
@@ -24,7 +36,7 @@ pub fn turned(image: &[u64], a: Answer) -> Printed
             at: at,
             value: image::load(image, at),
         },
-        Answer::Passed => Printed::Nothing,
+        Answer::Passed(why) => passed(why),
         Answer::Waiting(_) => Printed::Nothing,
         Answer::Idle => Printed::Nothing,
         Answer::Refused(r) => frames::refusal(working::cause(r)),

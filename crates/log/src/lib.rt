@@ -11,7 +11,14 @@ ghost use Rattle.image.specs.inner.Inside.{Inside};
 ghost use Rattle.log.specs.Log.{second, spareAddr, spareVal, activeAddr, activeVal, switched};
 ghost use Rattle.log.specs.inner.Logged.{loggedPlan};
 
-// What the turn of an open worker that is not refused is to do, worked out before anything is stored: a store, or none, with
+// Why a turn passes: it is a jump, or a release that finds its lock's owner word to be 0 or another's.
+pub enum Passing {
+    Jump,
+    AlreadyFree,
+    Others,
+}
+
+// What the turn of an open worker that is not refused is to do, worked out before anything is stored: a store, or none and why, with
 // the cursor after it; or to wait at a lock.
 pub enum Plan {
     Store {
@@ -21,6 +28,7 @@ pub enum Plan {
         turn: u8,
     },
     Pass {
+        why: Passing,
         step: u8,
         turn: u8,
     },

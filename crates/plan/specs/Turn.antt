@@ -12,16 +12,20 @@ use Rattle.code.specs.Table.{turnsOf}
 use Rattle.code.specs.Op.{opOf, eval}
 use Rattle.code.specs.Form.{wellFormed}
 use Rattle.log.specs.Log.{operand, codeIn, wordIn, spareAddr, spareVal, activeVal, switched}
+use Rattle.log.specs.declared.Passing.{Passing}
+use Rattle.log.specs.declared.Passing.the-variants.{Jump as PassedJump, AlreadyFree as PassedFree, Others as PassedOthers}
 use Rattle.working.specs.declared.Refusal.{Refusal}
 use Rattle.working.specs.declared.Refusal.the-variants.{Cursor as CursorRefused}
 use Rattle.working.specs.Cursor.{Cursor, idle, on}
+use Rattle.plan.specs.declared.Report.{Report}
+use Rattle.plan.specs.declared.Report.the-variants.{Freed, AlreadyFree, Others}
+use Rattle.plan.specs.Report.{reportOf}
 
--- what a turn does: a store, and the cursor after it; a jump, or a release whose lock does not name this worker, both with no
--- store (document 01 answers passed for both); waiting at a lock; nothing, when idle; or a refusal
+-- what a turn does: a store, and the cursor after it; no store, with why it passes and the cursor after it; waiting at a lock; nothing, when
+-- idle; or a refusal
 pub data Outcome : Type 0 where
   stored : Place → ℕ → Cursor → Outcome
-  jumped : Cursor → Outcome
-  unheld : Cursor → Outcome
+  passed : Passing → Cursor → Outcome
   waiting : ℕ → Outcome
   resting : Outcome
   refused : Refusal → Outcome
@@ -44,9 +48,14 @@ module _ (n : ℕ) (rd : Memory) (d : ℕ) where
   acquireTurn a s (suc zero) = lockTurn a s
   acquireTurn a s (suc (suc j)) = logged s (suc (suc j)) (field Owned d) (with (rd (field Owned d)) a) (on (s + 1) 0) j
 
-  -- lock a at turn 4 of a release: freed where it names this worker
+  -- lock a at turn 4 of a release: freed where it names this worker, else passed with what was found
+  abbrev pub unlockBy : ℕ → ℕ → Report → Outcome
+  unlockBy a s Freed = stored (lock a) 0 (on s 5)
+  unlockBy a s AlreadyFree = passed PassedFree (on s 5)
+  unlockBy a s Others = passed PassedOthers (on s 5)
+
   abbrev pub unlockTurn : ℕ → ℕ → Outcome
-  unlockTurn a s = cond (eqb (rd (lock a)) (d + 1)) (stored (lock a) 0 (on s 5)) (unheld (on s 5))
+  unlockTurn a s = unlockBy a s (reportOf d (rd (lock a)))
 
   abbrev pub releaseTurn : ℕ → ℕ → ℕ → Outcome
   releaseTurn a s t =
@@ -63,7 +72,7 @@ module _ (n : ℕ) (rd : Memory) (d : ℕ) where
   opTurn s t (Acquire a) = acquireTurn a s t
   opTurn s t (Release a) = releaseTurn a s t
   opTurn s t (Assign a e) = logged s t (operand d a) (eval (wordIn n rd d) e) (on (s + 1) 0) t
-  opTurn s t (Jump a b) = jumped (cond (eqb (wordIn n rd d a) 0) (on b 0) (on (s + 1) 0))
+  opTurn s t (Jump a b) = passed PassedJump (cond (eqb (wordIn n rd d a) 0) (on b 0) (on (s + 1) 0))
   opTurn s t Finish = finishTurn s t
   opTurn s t Unknown = refused (CursorRefused d)
 

@@ -12,6 +12,13 @@ ghost use Rattle.working.specs.Cursor.{on};
 ghost use Rattle.plan.specs.Turn.{ready, turnAt};
 ghost use Rattle.plan.specs.inner.Plan.{planOf};
 
+// What a release reports of its lock's owner word: it named this worker and is freed, it was 0, or it is another's.
+pub enum Report {
+    Freed,
+    AlreadyFree,
+    Others,
+}
+
 // Whether step s, turn t is a turn of the section in worker d's record.
 pub fn ready(image: &[u64], d: usize, own: usize, s: u8, t: u8) -> bool
     requires { ⌜ Inside own (now image) d ⌝ }

@@ -1,7 +1,9 @@
 // One turn of an instruction: the store that document 01 names, as a plan.
+use crate::Report;
 use code::Expr;
 use code::Op;
 use image::Field;
+use log::Passing;
 use log::Plan;
 use log::words;
 ghost use mathlib.Core.Path.{_≡_};
@@ -10,6 +12,7 @@ ghost use Rattle.image.specs.Image.{at};
 ghost use Rattle.image.specs.inner.Inside.{Inside};
 ghost use Rattle.code.specs.inner.Fits.{ranged, fits};
 ghost use Rattle.plan.specs.Turn.{lockTurn, acquireTurn, unlockTurn, releaseTurn, finishTurn, opTurn};
+ghost use Rattle.plan.specs.Report.{reportOf};
 ghost use Rattle.plan.specs.inner.Plan.{planOf};
 
 // An acquire's turn 1: the lock is taken where it is free.
@@ -48,19 +51,41 @@ fn acquire_turn(image: &[u64], d: usize, own: usize, a: u64, s: u8, t: u8) -> Pl
     log::logged(image, d, own, s, t, owned, v, s + 1, 0, t - 2)
 }
 
-// A release's turn 4: the lock is freed where it names this worker.
+// What the release of a lock with this owner word reports: it is freed where it names the worker.
+fn report(word: u64, d: usize) -> Report
+    ensures { λ r. ⌜ r ≡ reportOf d word ⌝ }
+{
+    if word == 0 {
+        return Report::AlreadyFree;
+    }
+    if word - 1 != d as u64 {
+        return Report::Others;
+    }
+    Report::Freed
+}
+
+// A release's turn 4, by the report.
 fn unlock_turn(image: &[u64], d: usize, own: usize, a: u64, s: u8) -> Plan
     requires { ⌜ (Inside own (now image) d) × (a < 64) ⌝ }
     ensures { λ r. ⌜ r ≡ planOf own (unlockTurn own (at own (now (image .entry))) d a s) ⌝ }
 {
-    if image::read_lock(image, a) != d as u64 + 1 {
-        return Plan::Pass { step: s, turn: 5 };
-    }
-    Plan::Store {
-        at: image::lock_index(a),
-        value: 0,
-        step: s,
-        turn: 5,
+    match report(image::read_lock(image, a), d) {
+        Report::Freed => Plan::Store {
+            at: image::lock_index(a),
+            value: 0,
+            step: s,
+            turn: 5,
+        },
+        Report::AlreadyFree => Plan::Pass {
+            why: Passing::AlreadyFree,
+            step: s,
+            turn: 5,
+        },
+        Report::Others => Plan::Pass {
+            why: Passing::Others,
+            step: s,
+            turn: 5,
+        },
     }
 }
 
@@ -103,11 +128,13 @@ fn jump_turn(image: &[u64], d: usize, own: usize, a: u64, b: u64, s: u8) -> Plan
 {
     if words::word(image, d, a, own) == 0 {
         return Plan::Pass {
+            why: Passing::Jump,
             step: b as u8,
             turn: 0,
         };
     }
     Plan::Pass {
+        why: Passing::Jump,
         step: s + 1,
         turn: 0,
     }

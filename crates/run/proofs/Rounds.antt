@@ -8,12 +8,13 @@ use Rattle.base.proofs.Counting.{left-step, left-none}
 use Rattle.image.specs.Image.{workers, headerOk}
 use Rattle.tally.specs.declared.Tally.{Tally}
 use Rattle.tally.specs.Tally.{none, Room}
+use Rattle.log.specs.declared.Passing.the-variants.{Jump, AlreadyFree, Others}
 use Rattle.turn.specs.declared.Answer.{Answer}
 use Rattle.turn.specs.declared.Answer.the-variants.{Stored, Passed, Waiting, Idle, Refused}
 use Rattle.working.specs.declared.Refusal.{Refusal}
 use Rattle.working.specs.declared.Refusal.the-variants.{Image as ImageRefused}
 use Rattle.run.specs.declared.End.the-variants.{AllIdle, Spent, Halted}
-use Rattle.plan.specs.Turn.{Outcome, stored, jumped, unheld, waiting, resting, refused}
+use Rattle.plan.specs.Turn.{Outcome, stored, passed, waiting, resting, refused}
 use Rattle.turn.specs.Call.{isRefused}
 use Rattle.working.specs.World.{World}
 use Rattle.turn.specs.Call.{answerOf, leaves, outcomeAt}
@@ -26,30 +27,34 @@ pub record Most (k : ℕ) (t : Tally) : Type 0 where
   pub turns : t .turns ≤ k
   pub waits : t .waits ≤ k
   pub stores : t .stores ≤ k
+  pub free : t .free ≤ k
+  pub others : t .others ≤ k
 
 pub most-none : Most 0 none
-most-none = record { turns = omega arith; waits = omega arith; stores = omega arith }
+most-none = record { turns = omega arith; waits = omega arith; stores = omega arith; free = omega arith; others = omega arith }
 
 pub most-more : (k m : ℕ) {t : Tally} → Most k t → k ≤ m → Most m t
-most-more k m b h = record { turns = omega arith; waits = omega arith; stores = omega arith }
+most-more k m b h = record { turns = omega arith; waits = omega arith; stores = omega arith; free = omega arith; others = omega arith }
 
 -- a count adds at most one to each
 pub most-counted : (k : ℕ) (a : Answer) {t : Tally} → Most k t → Most (k + 1) (counted a t)
-most-counted k (Stored i) b = record { turns = omega arith; waits = omega arith; stores = omega arith }
-most-counted k Passed b = record { turns = omega arith; waits = omega arith; stores = omega arith }
-most-counted k (Waiting l) b = record { turns = omega arith; waits = omega arith; stores = omega arith }
-most-counted k Idle b = record { turns = omega arith; waits = omega arith; stores = omega arith }
-most-counted k (Refused r) b = record { turns = omega arith; waits = omega arith; stores = omega arith }
+most-counted k (Stored i) b = record { turns = omega arith; waits = omega arith; stores = omega arith; free = omega arith; others = omega arith }
+most-counted k (Passed Jump) b = record { turns = omega arith; waits = omega arith; stores = omega arith; free = omega arith; others = omega arith }
+most-counted k (Passed AlreadyFree) b =
+    record { turns = omega arith; waits = omega arith; stores = omega arith; free = omega arith; others = omega arith }
+most-counted k (Passed Others) b = record { turns = omega arith; waits = omega arith; stores = omega arith; free = omega arith; others = omega arith }
+most-counted k (Waiting l) b = record { turns = omega arith; waits = omega arith; stores = omega arith; free = omega arith; others = omega arith }
+most-counted k Idle b = record { turns = omega arith; waits = omega arith; stores = omega arith; free = omega arith; others = omega arith }
+most-counted k (Refused r) b = record { turns = omega arith; waits = omega arith; stores = omega arith; free = omega arith; others = omega arith }
 
 pub most-room : (k : ℕ) {t : Tally} → Most k t → k + 1 < 2 ^ 64 → Room t
-most-room k b h = (omega arith, omega arith, omega arith)
+most-room k b h = (omega arith, omega arith, omega arith, omega arith, omega arith)
 
 module _ (n : ℕ) where
   -- a turn that is not refused goes on
   swept-on : (o : Outcome) (s : Counting) (more : Sweep) → isRefused (answerOf n o) ≡ false → swept n o s more ≡ more
   swept-on (stored p v c) s more e = refl
-  swept-on (jumped c) s more e = refl
-  swept-on (unheld c) s more e = refl
+  swept-on (passed why c) s more e = refl
   swept-on (waiting b) s more e = refl
   swept-on resting s more e = refl
   swept-on (refused r) s more e = absurd (true≢false e)

@@ -26,13 +26,16 @@ use Rattle.code.specs.inner.Fits.{fits}
 use Rattle.code.proofs.Ranges.{opTurns, turns-op}
 use Rattle.working.specs.Cursor.{Cursor, idle, on, stepNo, turnNo, setAt, placed}
 use Rattle.log.specs.Log.{operand, codeIn, second, spareAddr, spareVal}
-use Rattle.plan.specs.Turn.{Outcome, stored, jumped, unheld, waiting, resting, refused, logged, acquireTurn}
+use Rattle.plan.specs.Turn.{Outcome, stored, passed, waiting, resting, refused, logged, acquireTurn}
 use Rattle.plan.specs.Turn.{finishTurn, opTurn, ready, turnAt}
+use Rattle.log.specs.declared.Passing.{Passing}
+use Rattle.log.specs.declared.Passing.the-variants.{Jump as PassedJump}
 use Rattle.working.specs.World.{World, world}
 use Rattle.turn.specs.inner.Acting.{tested}
 use Rattle.turn.specs.Call.{leaves, outcomeAt}
 use Rattle.working.proofs.Placed.{on-is}
 use Rattle.plan.proofs.Planned.{ready-says, ready-turn}
+use Rattle.plan.proofs.Reports.{unlock-either}
 use Rattle.working.proofs.Placed.{Full, open-turn}
 
 -- ---- where a turn of an instruction with k turns goes, from step s
@@ -51,8 +54,7 @@ pub record Spares (D n : ℕ) (p : Place) : Type 0 where
 pub data Goes (D n d s k : ℕ) : Outcome → Type 0 where
   stores : (p : Place) (v : ℕ) (c : Cursor) → Spares D n p → Turns s k c → Goes D n d s k (stored p v c)
   ends : (v : ℕ) → Goes D n d s k (stored (field Count d) v idle)
-  jumps : (c : Cursor) → Turns s k c → Goes D n d s k (jumped c)
-  passes : (c : Cursor) → Turns s k c → Goes D n d s k (unheld c)
+  passes : (why : Passing) (c : Cursor) → Turns s k c → Goes D n d s k (passed why c)
   waits : (b : ℕ) → Goes D n d s k (waiting b)
 
 module _ (D n : ℕ) where
@@ -112,8 +114,8 @@ module _ (D n : ℕ) (rd : Memory) (d : ℕ) (h : d < D) (s : ℕ) where
       goes-cond 6 (ltb t 4) _ _
       (goes-logged 6 t _ _ _ t (quiet-field D n Owned d h refl) (same-turn s 6 4 (omega arith)) (λ m. omega arith))
       (goes-cond 6 (eqb t 4) _ _
-      (goes-cond 6 (eqb (rd (lock a)) (d + 1)) _ _ (stores _ _ _ (quiet-lock D n a f) (same-turn s 6 5 (omega arith)))
-      (passes _ (same-turn s 6 5 (omega arith))))
+      (unlock-either n rd d a s (Goes D n d s 6) (stores _ _ _ (quiet-lock D n a f) (same-turn s 6 5 (omega arith)))
+      (λ why. passes why _ (same-turn s 6 5 (omega arith))))
       (stores _ _ _ (quiet-field D n Intent d h refl) (first-turn s 6 (s + 1))))
 
   goes-finish : (t : ℕ) → t < 3 → Goes D n d s 3 (finishTurn n rd d s t)
@@ -125,7 +127,7 @@ module _ (D n : ℕ) (rd : Memory) (d : ℕ) (h : d < D) (s : ℕ) where
   goes-op (Acquire a) t f l = goes-acquire a t f l
   goes-op (Release a) t f l = goes-release a t f l
   goes-op (Assign a e) t f l = goes-logged 4 t _ _ _ t (quiet-operand D n d a h (f .0)) (first-turn s 4 (s + 1)) (λ m. omega arith)
-  goes-op (Jump a b) t f l = jumps _ (turns-cond s 1 (eqb (rd (operand d a)) 0) _ _ (first-turn s 1 b) (first-turn s 1 (s + 1)))
+  goes-op (Jump a b) t f l = passes PassedJump _ (turns-cond s 1 (eqb (rd (operand d a)) 0) _ _ (first-turn s 1 b) (first-turn s 1 (s + 1)))
   goes-op Finish t f l = goes-finish t l
   goes-op Unknown t f l = absurd f
 
@@ -197,15 +199,13 @@ module _ (D n : ℕ) (w : World) (d : ℕ) (f : Full (w .cursors)) (z : Sized n 
       → tested n (w .image) (w .cursors) d ≡ true → Known n (leaves n w d o) d
   known-own s k _ (stores p v x q u) r e = own-known s k _ (w .left) x (λ t g. quiet-ready D n (w .left) (w .image) z p v d s t q ∙ r t g) u
   known-own s k _ (ends v) r e = own-known s 0 _ (w .left) idle (λ t g. absurd (omega arith)) tt
-  known-own s k _ (jumps x u) r e = own-known s k _ (w .left) x r u
-  known-own s k _ (passes x u) r e = own-known s k _ (w .left) x r u
+  known-own s k _ (passes why x u) r e = own-known s k _ (w .left) x r u
   known-own s k _ (waits b) r e = λ a c. e
 
   known-other : (s k : ℕ) (o : Outcome) → Goes D n d s k o → (e : ℕ) → e ≢ d → Known n w e → Known n (leaves n w d o) e
   known-other s k _ (stores p v x q u) e o = other-known e _ (w .left) x o (λ i t. quiet-ready D n (w .left) (w .image) z p v e i t q)
   known-other s k _ (ends v) e o = other-known e _ (w .left) idle o (λ i t. ends-ready D n (w .left) (w .image) z v d e i t h o)
-  known-other s k _ (jumps x u) e o = other-known e _ (w .left) x o (λ i t. refl)
-  known-other s k _ (passes x u) e o = other-known e _ (w .left) x o (λ i t. refl)
+  known-other s k _ (passes why x u) e o = other-known e _ (w .left) x o (λ i t. refl)
   known-other s k _ (waits b) e o = λ a. a
 
   -- so it is with every worker that it was known of, and with worker d
@@ -230,8 +230,7 @@ module _ (D n : ℕ) (w : World) (d : ℕ) (f : Full (w .cursors)) (z : Sized n 
   -- the image keeps its size
   pub sized-leaves : (o : Outcome) → Sized n D (leaves n w d o .image)
   sized-leaves (stored p v x) = sized-store n D (w .left) (w .image) p v z
-  sized-leaves (jumped x) = z
-  sized-leaves (unheld x) = z
+  sized-leaves (passed why x) = z
   sized-leaves (waiting b) = z
   sized-leaves resting = z
   sized-leaves (refused r) = z

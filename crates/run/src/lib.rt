@@ -1,4 +1,5 @@
 // Runs: rounds of turns over the workers, counted in a tally.
+use log::Passing;
 use tally::Tally;
 use turn::Did;
 use working::Cursors;
@@ -14,6 +15,7 @@ ghost use lib.ListN.{length};
 ghost use Rattle.image.specs.Image.{workers, lengthOf};
 ghost use Rattle.tally.specs.Tally.{none, Room};
 ghost use Rattle.working.specs.World.{world};
+ghost use Rattle.turn.specs.declared.Answer.the-variants.{Passed};
 ghost use Rattle.turn.specs.inner.Acting.{didAnswer};
 ghost use Rattle.image.specs.Image.{at};
 ghost use Rattle.image.specs.inner.Inside.{Inside};
@@ -74,6 +76,18 @@ fn open_with(t: u8, d: usize, below: usize) -> usize
     d + 1
 }
 
+// The tally with a turn counted that passed.
+fn passed(why: Passing, t: Tally) -> Tally
+    requires { ⌜ Room t ⌝ }
+    ensures { λ r. ⌜ r ≡ counted (Passed why) t ⌝ }
+{
+    match why {
+        Passing::Jump => tally::jump(t),
+        Passing::AlreadyFree => tally::already_free(t),
+        Passing::Others => tally::others(t),
+    }
+}
+
 // The tally with a turn counted by what it did.
 fn counted(x: Did, t: Tally) -> Tally
     requires { ⌜ Room t ⌝ }
@@ -81,7 +95,7 @@ fn counted(x: Did, t: Tally) -> Tally
 {
     match x {
         Did::Stored(_) => tally::stored(t),
-        Did::Passed => tally::passed(t),
+        Did::Passed(why) => passed(why, t),
         Did::Waiting(_) => tally::waiting(t),
     }
 }

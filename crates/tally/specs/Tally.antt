@@ -4,20 +4,33 @@ use Rattle.tally.specs.declared.Tally.{Tally}
 
 -- nothing counted yet
 abbrev pub none : Tally
-none = record { turns = 0; waits = 0; stores = 0 }
+none = record { turns = 0; waits = 0; stores = 0; free = 0; others = 0 }
 
 -- a turn that stored a word counts in turns and in stores
 abbrev pub withStored : Tally → Tally
-withStored t = record { turns = t .turns + 1; waits = t .waits; stores = t .stores + 1 }
+withStored t = record { turns = t .turns + 1; waits = t .waits; stores = t .stores + 1; free = t .free; others = t .others }
 
--- a turn that went on and stored nothing counts in turns alone
-abbrev pub withPassed : Tally → Tally
-withPassed t = record { turns = t .turns + 1; waits = t .waits; stores = t .stores }
+-- a jump counts in turns alone
+abbrev pub withJump : Tally → Tally
+withJump t = record { turns = t .turns + 1; waits = t .waits; stores = t .stores; free = t .free; others = t .others }
+
+-- a release that found its lock already free counts in turns and in those
+abbrev pub withAlreadyFree : Tally → Tally
+withAlreadyFree t = record { turns = t .turns + 1; waits = t .waits; stores = t .stores; free = t .free + 1; others = t .others }
+
+-- and so does one that found its lock another's
+abbrev pub withOthers : Tally → Tally
+withOthers t = record { turns = t .turns + 1; waits = t .waits; stores = t .stores; free = t .free; others = t .others + 1 }
 
 -- a turn that waited counts in turns and in waits
 abbrev pub withWaiting : Tally → Tally
-withWaiting t = record { turns = t .turns + 1; waits = t .waits + 1; stores = t .stores }
+withWaiting t = record { turns = t .turns + 1; waits = t .waits + 1; stores = t .stores; free = t .free; others = t .others }
 
 -- one more turn can be counted, whatever its answer: no counter overflows
 abbrev pub Room : Tally → Type 0
-Room t = (t .turns + 1 < 2 ^ 64) × (t .waits + 1 < 2 ^ 64) × (t .stores + 1 < 2 ^ 64)
+Room t =
+    (t .turns + 1 < 2 ^ 64)
+    × (t .waits + 1 < 2 ^ 64)
+    × (t .stores + 1 < 2 ^ 64)
+    × (t .free + 1 < 2 ^ 64)
+    × (t .others + 1 < 2 ^ 64)

@@ -1,7 +1,8 @@
-// What a run keeps: its turns, waits and stores, in one tally record. The record is lent by &mut to one thin counting
-// function for each answer of a turn, over a core that counts by value.
+// What a run keeps: its turns, waits and stores, and the releases that found their lock already free or another's, in one
+// tally record. The record is lent by &mut to one thin counting function for each answer of a turn, over a core that counts by
+// value.
 ghost use mathlib.Core.Path.{_≡_};
-ghost use Rattle.tally.specs.Tally.{none, withStored, withPassed, withWaiting, Room};
+ghost use Rattle.tally.specs.Tally.{none, withStored, withJump, withAlreadyFree, withOthers, withWaiting, Room};
 
 pub struct Tally {
     // The turns taken.
@@ -10,6 +11,10 @@ pub struct Tally {
     pub waits: u64,
     // The turns that stored a word.
     pub stores: u64,
+    // The releases that found their lock already free.
+    pub free: u64,
+    // The releases that found their lock another's.
+    pub others: u64,
 }
 
 // The tally before the first turn.
@@ -20,6 +25,8 @@ pub fn zero() -> Tally
         turns: 0,
         waits: 0,
         stores: 0,
+        free: 0,
+        others: 0,
     }
 }
 
@@ -32,18 +39,50 @@ fn counted_stored(t: Tally) -> Tally
         turns: t.turns + 1,
         waits: t.waits,
         stores: t.stores + 1,
+        free: t.free,
+        others: t.others,
     }
 }
 
-// A turn that went on and stored nothing: the core, by value.
-fn counted_passed(t: Tally) -> Tally
+// A jump: the core, by value.
+fn counted_jump(t: Tally) -> Tally
     requires { ⌜ Room t ⌝ }
-    ensures { λ r. ⌜ r ≡ withPassed t ⌝ }
+    ensures { λ r. ⌜ r ≡ withJump t ⌝ }
 {
     Tally {
         turns: t.turns + 1,
         waits: t.waits,
         stores: t.stores,
+        free: t.free,
+        others: t.others,
+    }
+}
+
+// A release that found its lock already free: the core, by value.
+fn counted_already_free(t: Tally) -> Tally
+    requires { ⌜ Room t ⌝ }
+    ensures { λ r. ⌜ r ≡ withAlreadyFree t ⌝ }
+{
+    Tally {
+        turns: t.turns + 1,
+        waits: t.waits,
+        stores: t.stores,
+        free: t.free + 1,
+        others: t.others,
+    }
+}
+
+// A release that found its lock another's: the core, by value.
+fn counted_others(t: Tally) -> Tally
+    requires { ⌜ Room t ⌝ }
+    ensures { λ r. ⌜ r ≡ withOthers t ⌝ }
+{
+    Tally {
+        turns: t.turns + 1,
+        waits: t.waits,
+        stores: t.stores,
+        free: t.free,
+        others: t.others + 1,
     }
 }
 
@@ -56,6 +95,8 @@ fn counted_waiting(t: Tally) -> Tally
         turns: t.turns + 1,
         waits: t.waits + 1,
         stores: t.stores,
+        free: t.free,
+        others: t.others,
     }
 }
 
@@ -67,12 +108,28 @@ fn count_stored(t: &mut Tally)
     *t = counted_stored(*t);
 }
 
-// Counts a turn that went on and stored nothing, in the tally lent.
-fn count_passed(t: &mut Tally)
+// Counts a jump, in the tally lent.
+fn count_jump(t: &mut Tally)
     requires { ⌜ Room (now t) ⌝ }
-    ensures { λ r. ⌜ now (t .exit) ≡ withPassed (now (t .entry)) ⌝ }
+    ensures { λ r. ⌜ now (t .exit) ≡ withJump (now (t .entry)) ⌝ }
 {
-    *t = counted_passed(*t);
+    *t = counted_jump(*t);
+}
+
+// Counts a release that found its lock already free, in the tally lent.
+fn count_already_free(t: &mut Tally)
+    requires { ⌜ Room (now t) ⌝ }
+    ensures { λ r. ⌜ now (t .exit) ≡ withAlreadyFree (now (t .entry)) ⌝ }
+{
+    *t = counted_already_free(*t);
+}
+
+// Counts a release that found its lock another's, in the tally lent.
+fn count_others(t: &mut Tally)
+    requires { ⌜ Room (now t) ⌝ }
+    ensures { λ r. ⌜ now (t .exit) ≡ withOthers (now (t .entry)) ⌝ }
+{
+    *t = counted_others(*t);
 }
 
 // Counts a turn that waited, in the tally lent.
@@ -93,13 +150,33 @@ pub fn stored(t: Tally) -> Tally
     u
 }
 
-// The tally after a turn that went on and stored nothing, the same way.
-pub fn passed(t: Tally) -> Tally
+// The tally after a jump, the same way.
+pub fn jump(t: Tally) -> Tally
     requires { ⌜ Room t ⌝ }
-    ensures { λ r. ⌜ r ≡ withPassed t ⌝ }
+    ensures { λ r. ⌜ r ≡ withJump t ⌝ }
 {
     let mut u = t;
-    count_passed(&mut u);
+    count_jump(&mut u);
+    u
+}
+
+// The tally after a release that found its lock already free, the same way.
+pub fn already_free(t: Tally) -> Tally
+    requires { ⌜ Room t ⌝ }
+    ensures { λ r. ⌜ r ≡ withAlreadyFree t ⌝ }
+{
+    let mut u = t;
+    count_already_free(&mut u);
+    u
+}
+
+// The tally after a release that found its lock another's, the same way.
+pub fn others(t: Tally) -> Tally
+    requires { ⌜ Room t ⌝ }
+    ensures { λ r. ⌜ r ≡ withOthers t ⌝ }
+{
+    let mut u = t;
+    count_others(&mut u);
     u
 }
 

@@ -7,7 +7,7 @@ use mathlib.Core.Bool.{Bool, true, false, cond}
 use mathlib.Core.List.{List}
 use Rattle.tally.specs.Tally.{none}
 use Rattle.image.specs.Image.{workers, headerOk}
-use Rattle.plan.specs.Turn.{Outcome, stored, jumped, unheld, waiting, resting, refused}
+use Rattle.plan.specs.Turn.{Outcome, stored, passed, waiting, resting, refused}
 use Rattle.working.specs.World.{World, world}
 use Rattle.turn.specs.Call.{leaves, outcomeAt, outcome}
 use Rattle.intake.specs.Submit.{submitAnswer, submitLeaves}
@@ -44,8 +44,7 @@ module _ (mark n : ℕ) where
       → cond (refuses mark n o) w x .world ≡ afterSweep n more (swept n o s y) .after .world
   unfolding afterSweep
   swept-agrees more (stored p v c) w x s y e h = h
-  swept-agrees more (jumped c) w x s y e h = h
-  swept-agrees more (unheld c) w x s y e h = h
+  swept-agrees more (passed why c) w x s y e h = h
   swept-agrees more (waiting b) w x s y e h = h
   swept-agrees more resting w x s y e h = h
   swept-agrees more (refused r) w x s y e h = e

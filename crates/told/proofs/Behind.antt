@@ -17,7 +17,7 @@ use Rattle.section.specs.Check.{codeOf}
 use Rattle.section.proofs.Facts.{check-parts}
 use Rattle.intake.specs.declared.Submitted.the-variants.{Taken}
 use Rattle.working.specs.Cursor.{Cursor, on, cursorAt, placed}
-use Rattle.plan.specs.Turn.{Outcome, stored, jumped, unheld, waiting, resting, refused}
+use Rattle.plan.specs.Turn.{Outcome, stored, passed, waiting, resting, refused}
 use Rattle.intake.specs.Submit.{submission}
 use Rattle.working.proofs.Placed.{sayable}
 use Rattle.intake.proofs.Submission.{submission-length}
@@ -44,16 +44,14 @@ use Rattle.told.proofs.Keeping.{nextTurn, Fed, submitted, recovered}
 -- the memory and the worker's cursor, by the turn's outcome
 abbrev pub turnMemory : Memory → Outcome → Memory
 turnMemory rd (stored p v c) = upd rd p v
-turnMemory rd (jumped c) = rd
-turnMemory rd (unheld c) = rd
+turnMemory rd (passed why c) = rd
 turnMemory rd (waiting b) = rd
 turnMemory rd resting = rd
 turnMemory rd (refused r) = rd
 
 abbrev pub turnCursor : Cursor → Outcome → Cursor
 turnCursor x (stored p v c) = c
-turnCursor x (jumped c) = c
-turnCursor x (unheld c) = c
+turnCursor x (passed why c) = c
 turnCursor x (waiting b) = x
 turnCursor x resting = x
 turnCursor x (refused r) = x
@@ -71,8 +69,7 @@ module _ (mark n D : ℕ) (cells : List ℕ) (w : Traced) (d : ℕ) (r : Running
   memory-by (stored p v c) (l, t, ph) fed =
       memory-store n D (w .world .image) (running-sized mark n D cells w (r .reached)) (w .world .left) p v
       (touches-valid n D rd d (r .locks d) p v l dl t) (fed refl)
-  memory-by (jumped c) s fed = refl
-  memory-by (unheld c) s fed = refl
+  memory-by (passed why c) s fed = refl
   memory-by (waiting b) s fed = refl
   memory-by resting s fed = refl
   memory-by (refused x) s fed = refl
@@ -87,8 +84,7 @@ module _ (mark n D : ℕ) (cells : List ℕ) (w : Traced) (d : ℕ) (r : Running
       (o : Outcome) → Stepped n rd d (w .trace .last d) (r .locks d) (w .trace .jumps d) o → (e : ℕ) → e < D
       → cursorAt (turnBy mark n w d o .world .cursors) e ≡ but cursors d (turnCursor (cursors d) o) e
   cursors-by (stored p v c) (l, t, ph) = placed-by c (phase-sayable n (upd rd p v) d (w .trace .last d) c l _ ph)
-  cursors-by (jumped c) ph = placed-by c (phase-sayable n rd d (w .trace .last d) c (r .locks d) _ ph)
-  cursors-by (unheld c) ph = placed-by c (phase-sayable n rd d (w .trace .last d) c (r .locks d) _ ph)
+  cursors-by (passed why c) ph = placed-by c (phase-sayable n rd d (w .trace .last d) c (r .locks d) _ ph)
   cursors-by (waiting b) s = λ e l. sym (but-self cursors d e)
   cursors-by resting s = λ e l. sym (but-self cursors d e)
   cursors-by (refused x) s = λ e l. sym (but-self cursors d e)

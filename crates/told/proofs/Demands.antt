@@ -4,12 +4,14 @@ use Rattle.edition.specs.Edition.{mark, ownWords}
 use Rattle.claims.specs.Claims.{FormattedRests, DurableAlways, Linearizable, RunsAreTurns, EveryOrderHad}
 use Rattle.told.specs.Once.{OnceAlways, ToldAlways, AskedAlways, BegunFinishes, ThroughAlways, RetriedAlways, ExactlyOnce}
 use Rattle.told.specs.Moments.{UntouchedAlways}
+use Rattle.told.specs.Reports.{ReportsExplained, ReleasesFree}
 use Rattle.told.specs.Enough.{EnoughIsWhole}
 use Rattle.claims.proofs.Durable.{durable-always, formatted-rests}
 use Rattle.claims.proofs.Linear.{linearizable}
 use Rattle.told.proofs.RunTurns as run-turns
 use Rattle.told.proofs.EveryOrder.{every-order-had}
 use Rattle.told.proofs.Untouched.{untouched-always}
+use Rattle.told.proofs.Reports.{reports-explained, releases-free}
 use Rattle.told.proofs.Enough.{enough-is-whole}
 use Rattle.told.proofs.Once.{admitted-always, once-always, told-always, asked-always}
 use Rattle.told.proofs.Finishes.{begun-finishes}
@@ -43,6 +45,14 @@ sections-kept = durable-always mark ownWords (omega arith) (omega arith) (admitt
 -- a cell changes only by a worker whose section is begun and that has the cell's lock, at any moment
 pub cells-guarded : UntouchedAlways mark ownWords
 cells-guarded = untouched-always mark ownWords (omega arith) (omega arith)
+
+-- a release that reports its lock already free or another's is the one at which its worker was resumed
+pub reports-mean-loss : ReportsExplained mark ownWords
+reports-mean-loss = reports-explained mark ownWords (omega arith) (omega arith)
+
+-- with no cut and no recovery every release frees its lock
+pub locks-freed : ReleasesFree mark ownWords
+locks-freed = releases-free mark ownWords (omega arith) (omega arith)
 
 -- an uncut call may be lent any number of stores that suffices
 pub enough-stores : EnoughIsWhole mark ownWords

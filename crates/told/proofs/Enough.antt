@@ -21,7 +21,7 @@ use Rattle.working.specs.declared.Cursors.{Cursors}
 use Rattle.intake.specs.declared.Submitted.{Submitted}
 use Rattle.intake.specs.declared.Submitted.the-variants.{Taken, Refused}
 use Rattle.working.specs.Cursor.{on, placed, allIdle}
-use Rattle.plan.specs.Turn.{Outcome, stored, jumped, unheld, waiting, resting, refused}
+use Rattle.plan.specs.Turn.{Outcome, stored, passed, waiting, resting, refused}
 use Rattle.working.specs.World.{world}
 use Rattle.turn.specs.Call.{outcomeAt, outcome}
 use Rattle.run.specs.Run.{anyOpen}
@@ -70,8 +70,7 @@ module _ (mark n : ℕ) where
       by : (k : ℕ) → 1 ≤ k → turnBy mark n (lent mark n k w) d (stored p v c) ≡ lent mark n (k - 1) (turnBy mark n (lent mark n 1 w) d (stored p v c))
       by zero h = absurd (omega arith)
       by (suc k) h = rw (ne-eqb (suc k) 0 (λ e. omega arith))
-  turn-steady w d (jumped c) = still (turnBy mark n w d (jumped c)) 1
-  turn-steady w d (unheld c) = still (turnBy mark n w d (unheld c)) 1
+  turn-steady w d (passed why c) = still (turnBy mark n w d (passed why c)) 1
   turn-steady w d (waiting b) = still (turnBy mark n w d (waiting b)) 1
   turn-steady w d resting = still w 1
   turn-steady w d (refused r) = still w 1

@@ -10,7 +10,7 @@ use borrow.Author.Tests.{le-leb}
 use Rattle.image.specs.declared.Field.the-variants.{Pc}
 use Rattle.image.specs.Place.{field}
 use Rattle.image.specs.Image.{Image, at, workers, cellsOf}
-use Rattle.plan.specs.Turn.{Outcome, stored, jumped, unheld, waiting, resting, refused}
+use Rattle.plan.specs.Turn.{Outcome, stored, passed, waiting, resting, refused}
 use Rattle.claims.specs.Reference.{Given}
 use Rattle.claims.specs.Calls.{Traced, isPc, turnBy, from, endsCut}
 use Rattle.claims.specs.Claims.{after, mended}
@@ -43,16 +43,14 @@ module _ (mark n D : ℕ) (cells : List ℕ) (first : List Given) where
   turn-extends w d (stored p v c) fed x =
       rw (turn-begun mark n w d p v c (fed refl))
       (more-then (w .trace .begun) (w .trace .last d) (isPc p) (eqb (at n (w .world .image) (field Pc d)) 0) x)
-  turn-extends w d (jumped c) fed x = x
-  turn-extends w d (unheld c) fed x = x
+  turn-extends w d (passed why c) fed x = x
   turn-extends w d (waiting b) fed x = x
   turn-extends w d resting fed x = x
   turn-extends w d (refused r) fed x = x
 
   still-extends : (w : Traced) (d : ℕ) (o : Outcome) → w .world .left ≡ 0 → Extends w → Extends (turnBy mark n w d o)
   still-extends w d (stored p v c) z x = rw (still mark n D cells w d p v c z .0) x
-  still-extends w d (jumped c) z x = x
-  still-extends w d (unheld c) z x = x
+  still-extends w d (passed why c) z x = x
   still-extends w d (waiting b) z x = x
   still-extends w d resting z x = x
   still-extends w d (refused r) z x = x

@@ -2,14 +2,15 @@
 -- (`mended-from`), and behind uncut runs and turns after that (`settled-from`, `kept-settled`), which leave every pc 0 (`settled-pcs`).
 use Prim.Native.Nat.{ℕ, _*_, _<_, _≤_}
 use mathlib.Core.Path.{_≡_, refl}
-use mathlib.Core.Bool.{Bool, true, false, cond}
+use mathlib.Core.Bool.{Bool, true, false, cond, not, false≢true}
 use mathlib.Core.List.{List, [], _∷_, _++_}
 use native.Mathlib.Omega.{arith}
+use Rattle.base.proofs.Bools.{and-left, and-right}
 use Rattle.image.specs.declared.Field.the-variants.{Pc}
 use Rattle.image.specs.Place.{field}
 use Rattle.image.specs.Image.{Image, at, workers, cellsOf}
 use Rattle.working.specs.Cursor.{idle, cursorAt}
-use Rattle.claims.specs.Calls.{Traced, recovers, Move, whole, play, from, legal, endsCut, machine}
+use Rattle.claims.specs.Calls.{Traced, recovers, Move, whole, cut, play, from, recovering, legal, endsCut, plain, machine}
 use Rattle.claims.specs.Claims.{Rested, Idle, after, mended, working, roundsIn}
 use Rattle.claims.proofs.Worlds.{Running}
 use Rattle.claims.proofs.Played.{Worth, running-worth, play-good}
@@ -24,9 +25,20 @@ use Rattle.told.proofs.Keeping.{Sorted, Keeps, Kept, play-keeps, workin
 abbrev pub Any : Move → Image → Type 0
 Any x m = Unit {0}
 
-any-sorted : (mark n : ℕ) (xs : List Move) (w : Traced) → Sorted mark n Any xs w
+pub any-sorted : (mark n : ℕ) (xs : List Move) (w : Traced) → Sorted mark n Any xs w
 any-sorted mark n [] w = tt
 any-sorted mark n (x ∷ xs) w = (tt, any-sorted mark n xs _)
+
+-- uncut, and no recovery
+abbrev pub Plain : Move → Image → Type 0
+Plain (whole c) m = not (recovering c) ≡ true
+Plain (cut k c) m = ⊥
+
+pub plain-sorted : (mark n : ℕ) (xs : List Move) (w : Traced) → plain xs ≡ true → Sorted mark n Plain xs w
+unfolding plain
+plain-sorted mark n [] w h = tt
+plain-sorted mark n (whole c ∷ xs) w h = (and-left (not (recovering c)) (plain xs) h, plain-sorted mark n xs _ (and-right (not (recovering c)) (plain xs) h))
+plain-sorted mark n (cut k c ∷ xs) w h = absurd (false≢true h)
 
 module _ (mark n : ℕ) (wide : 8 ≤ n) (narrow : n ≤ 64) (m : Image) (rest : Rested mark n m) (R C : Traced → Type 0) where
   abbrev D : ℕ

@@ -15,7 +15,7 @@ use Rattle.image.specs.Image.{Image, at}
 use Rattle.intake.specs.declared.Submitted.{Submitted}
 use Rattle.intake.specs.declared.Submitted.the-variants.{Taken, Refused}
 use Rattle.working.specs.Cursor.{cursorAt}
-use Rattle.plan.specs.Turn.{Outcome, stored, jumped, unheld, waiting, resting, refused, turnAt}
+use Rattle.plan.specs.Turn.{Outcome, stored, passed, waiting, resting, refused, turnAt}
 use Rattle.turn.specs.Call.{outcomeAt, outcome}
 use Rattle.intake.specs.Submit.{submitAnswer, submitLeaves}
 use Rattle.recovery.specs.Recovery.{recovery}
@@ -43,8 +43,7 @@ Fed w o = isMoving o ≡ true → 0 < w .world .left
 -- with none left, none is left after a turn
 still-none : (mark n : ℕ) (w : Traced) (d : ℕ) (o : Outcome) → w .world .left ≡ 0 → turnBy mark n w d o .world .left ≡ 0
 still-none mark n w d (stored p v c) z = omega arith
-still-none mark n w d (jumped c) z = z
-still-none mark n w d (unheld c) z = z
+still-none mark n w d (passed why c) z = z
 still-none mark n w d (waiting b) z = z
 still-none mark n w d resting z = z
 still-none mark n w d (refused r) z = z
@@ -123,15 +122,15 @@ module _ (mark n D : ℕ) (cells : List ℕ) (R C : Traced → Type 0) (A : Move
 
     -- ---- runs
 
-    record Both (w : Traced) : Type 0 where
-      spare : Spare mark n D cells w
-      kept : R w
+    pub record Both (w : Traced) : Type 0 where
+      pub spare : Spare mark n D cells w
+      pub kept : R w
 
     turned : (w : Traced) (d : ℕ) → Running mark n D cells w → d < D → Fed w (nextTurn n w d) → R w → R (turnedAt mark n w d)
     unfolding turnedAt outcomeAt
     turned w d r l f x = K .turn w d r l f x
 
-    both-turned : (w : Traced) (d : ℕ) → d < D → Both w → Both (turnedAt mark n w d)
+    pub both-turned : (w : Traced) (d : ℕ) → d < D → Both w → Both (turnedAt mark n w d)
     both-turned w d l b =
         let t = spare-turn mark n D cells w d (b .spare) l in
         record { spare = t .spare; kept = turned w d (b .spare .running) l (λ m. let f = t .falls m in omega arith) (b .kept) }
@@ -188,7 +187,7 @@ module _ (mark n D : ℕ) (cells : List ℕ) (R C : Traced → Type 0) (A : Move
     Kept false w = Running mark n D cells w × R w
     Kept true w = Worth mark n D cells w × C w
 
-    good : (b : Bool) (w : Traced) → Kept b w → Good mark n D cells b w
+    pub good : (b : Bool) (w : Traced) → Kept b w → Good mark n D cells b w
     good false w k = k .0
     good true w k = k .0
 
@@ -206,7 +205,7 @@ module _ (mark n D : ℕ) (cells : List ℕ) (R C : Traced → Type 0) (A : Move
     worth-lent : (k : ℕ) (w : Traced) → Worth mark n D cells w → Worth mark n D cells (lent mark n k w)
     worth-lent k w x = record { reached = x .reached; crashed = x .crashed }
 
-    move-whole :
+    pub move-whole :
         (b : Bool) (c : Call) (w : Traced) → callable c ≡ true → (not b || recovering c) ≡ true → A (whole c) (w .world .image) → Kept b w
         → R (move mark n (whole c) w)
     unfolding move
@@ -219,7 +218,7 @@ module _ (mark n D : ℕ) (cells : List ℕ) (R C : Traced → Type 0) (A : Move
         let sort = subst (λ (q : Call). A (whole q) (w .world .image)) e a in
         rw e (recovery-whole (lent mark n k w) (worth-lent k w g) (omega arith) sort (K .lend-cut k w x))
 
-    move-cut :
+    pub move-cut :
         (b : Bool) (j : ℕ) (c : Call) (w : Traced) → callable c ≡ true → (not b || recovering c) ≡ true → A (cut j c) (w .world .image) → Kept b w
         → C (move mark n (cut j c) w)
     unfolding move

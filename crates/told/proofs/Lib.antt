@@ -7,8 +7,14 @@ pub mod Writes
 pub mod Keeping
 pub mod Behind
 pub mod FromRest
+pub mod Moments
 -- Who may change a cell, at every turn of a list.
 pub mod Untouched
+-- Why a release passes: only one that a recovery resumed.
+pub mod Collecting
+pub mod Resuming
+pub mod Accounting
+pub mod Reports
 -- What a planner may be told: which sections are begun, by the events and by the records, after any calls and cuts; that they are
 -- finished in the end; and what a client has that numbers its sections one after the other, or hands one in again and again.
 pub mod Numbers

@@ -24,7 +24,8 @@ use Rattle.section.proofs.Held.{after-jump}
 use Rattle.code.proofs.Ranges.{jump-range}
 use Rattle.working.specs.Cursor.{Cursor, idle, on, cursorAt}
 use Rattle.log.specs.Log.{operand, codeIn, wordIn}
-use Rattle.plan.specs.Turn.{jumped}
+use Rattle.plan.specs.Turn.{passed}
+use Rattle.log.specs.declared.Passing.the-variants.{Jump as PassedJump}
 use Rattle.claims.specs.Reference.{job, State, state, Given, start, readIn, onto}
 use Rattle.claims.specs.Events.{but}
 use Rattle.claims.specs.Calls.{Traced, Move, play, machine}
@@ -135,7 +136,9 @@ module _
     unfolding play jump-to
     jump-view =
         turn-jumped mark n D w rd d (on k 0) (cursorAt (w .world .cursors)) (w .trace .taken) start-view dl (on jump-to 0)
-        (turn-op n rd d k 0 (Jump a b) (W .valid) (W .below) o (omega arith) ∙ ap jumped (private-cursor (eqb (wordIn n rd d a) 0))) (λ q. omega arith)
+        (turn-op n rd d k 0 (Jump a b) (W .valid) (W .below) o (omega arith)
+        ∙ ap (λ (c : Cursor). passed PassedJump c) (private-cursor (eqb (wordIn n rd d a) 0)))
+        (λ q. omega arith)
 
     jump-even : Even mark n D (play mark n (turnsOf 1 d) w) (onto s d (job (W .first .code) jump-to (W .first .own) (W .first .held)) (map (start n) (gs d))) gs
     unfolding jump-to

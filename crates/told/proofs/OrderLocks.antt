@@ -24,7 +24,9 @@ use Rattle.section.proofs.Held.{after-acquire, after-release}
 use Rattle.code.proofs.Ranges.{acquire-range, release-range}
 use Rattle.working.specs.Cursor.{Cursor, on, cursorAt}
 use Rattle.log.specs.Log.{codeIn}
-use Rattle.plan.specs.Turn.{turnAt, stored, waiting, unheld}
+use Rattle.plan.specs.Turn.{turnAt, stored, waiting, unlockBy}
+use Rattle.plan.specs.declared.Report.{Report}
+use Rattle.plan.proofs.Reports.{named-freed}
 use Rattle.claims.specs.Reference.{Job, job, State, Given, start, heldIn, taken, onto}
 use Rattle.claims.specs.Events.{but}
 use Rattle.claims.specs.Calls.{Traced, play}
@@ -199,8 +201,8 @@ module _
     release-fifth =
         let c = disowned-codes in
         turn-op n disowned d k 4 (Release a) (c .valid) (c .below) (c .op) (omega arith)
-        ∙ ap (λ (b : Bool). cond b (stored (lock a) 0 (on k 5)) (unheld (on k 5)))
-        (eq-eqb (disowned (lock a)) (d + 1) (release-wrote .noted .locks a ∙ E .level .owning .locked a d release-small dl has-lock))
+        ∙ ap (λ (r : Report). unlockBy n disowned d a k r)
+        (named-freed d (disowned (lock a)) (release-wrote .noted .locks a ∙ E .level .owning .locked a d release-small dl has-lock))
 
     release-view : View mark n D (play mark n (turnsOf 6 d) w) released d (on (suc k) 0) cur (w .trace .taken)
     unfolding play

@@ -16,7 +16,8 @@ use Rattle.image.specs.Image.{at, workers, headerOk}
 use Rattle.image.proofs.Header.{Sized, header-sized, header-workers}
 use Rattle.image.proofs.Stores.{header-store, workers-store}
 use Rattle.working.specs.Cursor.{Cursor, cursorAt}
-use Rattle.plan.specs.Turn.{Outcome, stored, jumped, turnAt}
+use Rattle.plan.specs.Turn.{Outcome, stored, passed, turnAt}
+use Rattle.log.specs.declared.Passing.the-variants.{Jump}
 use Rattle.turn.specs.Call.{outcomeAt, outcome}
 use Rattle.working.proofs.Placed.{Full, sayable, placed-same, placed-other}
 use Rattle.claims.specs.Reference.{Given}
@@ -67,11 +68,11 @@ module _ (mark n D : ℕ) (w : Traced) (rd : Memory) (d : ℕ) (c : Cursor) (cur
         entered = private-taken (isPc p && not (eqb (2 ^ 64 - 1) 0)) (w .trace) d (eqb (at n (w .world .image) (field Pc d)) 0) ∙ view .entered;
       })
 
-  pub turn-jumped : (x : Cursor) → turnAt n rd d c ≡ jumped x → sayable x → View mark n D (move mark n (whole (turns d)) w) rd d x cur taken
+  pub turn-jumped : (x : Cursor) → turnAt n rd d c ≡ passed Jump x → sayable x → View mark n D (move mark n (whole (turns d)) w) rd d x cur taken
   unfolding move call
   turn-jumped x e say =
       let few = view-few in
-      rw (view-outcome (jumped x) e)
+      rw (view-outcome (passed Jump x) e)
       (record {
         header = view .header;
         many = view .many;

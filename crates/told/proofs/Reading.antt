@@ -17,7 +17,7 @@ use Rattle.image.specs.Image.{Image, at}
 use Rattle.section.specs.Check.{passes}
 use Rattle.intake.specs.declared.Submitted.the-variants.{Taken}
 use Rattle.working.specs.Cursor.{Cursor, on, cursorAt}
-use Rattle.plan.specs.Turn.{Outcome, stored, jumped, unheld, waiting, resting, refused}
+use Rattle.plan.specs.Turn.{Outcome, stored, passed, waiting, resting, refused}
 use Rattle.claims.specs.Reference.{Given, given}
 use Rattle.told.specs.Readings.{takenIn, Reading, learn, readFrom, readOff, begunIn}
 use Rattle.claims.specs.Events.{Event, taken, moved, waited, recorded, ended, lost, but}
@@ -229,14 +229,7 @@ module _ (mark n D : ℕ) (cells : List ℕ) where
           };
           waits = λ e l. rw (lasts, m, cs e l, es, events, reads) (stored-waits p v c s y (isPc p) refl ps e l);
         }
-    outcome-reads (jumped c) y ps fed m cs =
-        let e = moved d (stepOf mark n w d) in
-        let q = silent-moved d (stepOf mark n w d) in
-        record {
-          off = noted-off w _ e q refl refl refl (x .off);
-          waits = λ f l. rw (cs f l, read-snoc (w .trace .events) e) (still-waits c ps f l);
-        }
-    outcome-reads (unheld c) y ps fed m cs =
+    outcome-reads (passed why c) y ps fed m cs =
         let e = moved d (stepOf mark n w d) in
         let q = silent-moved d (stepOf mark n w d) in
         record {
@@ -267,8 +260,7 @@ module _ (mark n D : ℕ) (cells : List ℕ) where
         begins = rw (none, and-false (isPc p), append-nil) (x .begins);
         admits = rw (none, and-false (isPc p)) (x .admits);
       }
-  still-reads w d (jumped c) z x = noted-off w _ (moved d (stepOf mark n w d)) (silent-moved d (stepOf mark n w d)) refl refl refl x
-  still-reads w d (unheld c) z x = noted-off w _ (moved d (stepOf mark n w d)) (silent-moved d (stepOf mark n w d)) refl refl refl x
+  still-reads w d (passed why c) z x = noted-off w _ (moved d (stepOf mark n w d)) (silent-moved d (stepOf mark n w d)) refl refl refl x
   still-reads w d (waiting b) z x = noted-off w _ (waited d b) (silent-waited d b) refl refl refl x
   still-reads w d resting z x = x
   still-reads w d (refused r) z x = x

@@ -23,7 +23,7 @@ use Rattle.intake.specs.declared.Submitted.the-variants.{Refused}
 use Rattle.asking.specs.declared.Standing.the-variants.{Finished}
 use Rattle.asking.specs.Asking.{standingIn}
 use Rattle.working.specs.Cursor.{Cursor, cursorAt}
-use Rattle.plan.specs.Turn.{Outcome, stored, jumped, unheld, waiting, resting, refused}
+use Rattle.plan.specs.Turn.{Outcome, stored, passed, waiting, resting, refused}
 use Rattle.working.specs.World.{World}
 use Rattle.intake.specs.Submit.{submitAnswer, verdictAnswer, free}
 use Rattle.claims.specs.Reference.{Given, given}
@@ -151,8 +151,7 @@ module _ (mark n D : ℕ) (cells : List ℕ) (start : ℕ → ℕ) (d : ℕ) (dl
         by (yes i) = rw i (own-row p v y (rw i at s) (rw i at ps))
         by (no i) =
             rw (begun-other d (w .trace .begun) last (isPc p) (rd (field Pc e)) (λ h z q. i (sym (begins-own n rd e last p v s h z) ∙ q))) c
-    outcome-row (jumped y) s ps fed = c
-    outcome-row (unheld y) s ps fed = c
+    outcome-row (passed why y) s ps fed = c
     outcome-row (waiting b) s ps fed = c
     outcome-row resting s ps fed = c
     outcome-row (refused q) s ps fed = c
@@ -166,8 +165,7 @@ module _ (mark n D : ℕ) (cells : List ℕ) (start : ℕ → ℕ) (d : ℕ) (dl
 
   still-row : (w : Traced) (e : ℕ) (o : Outcome) → w .world .left ≡ 0 → InRow w → InRow (turnBy mark n w e o)
   still-row w e (stored p v c) z x = rw (still mark n D cells w e p v c z .0) x
-  still-row w e (jumped c) z x = x
-  still-row w e (unheld c) z x = x
+  still-row w e (passed why c) z x = x
   still-row w e (waiting b) z x = x
   still-row w e resting z x = x
   still-row w e (refused r) z x = x
@@ -278,8 +276,7 @@ module _ (mark n D : ℕ) (cells : List ℕ) (d : ℕ) (g : Given) where
   turn-one : (w : Traced) (e : ℕ) (o : Outcome) → OneTaken w → OneTaken (turnBy mark n w e o)
   turn-one w e (stored p v c) x =
       rw (store-keeps (w .trace) e (isPc p && not (eqb (w .world .left) 0)) (eqb (at n (w .world .image) (field Pc e)) 0) .0) x
-  turn-one w e (jumped c) x = x
-  turn-one w e (unheld c) x = x
+  turn-one w e (passed why c) x = x
   turn-one w e (waiting b) x = x
   turn-one w e resting x = x
   turn-one w e (refused r) x = x

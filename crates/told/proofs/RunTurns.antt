@@ -9,7 +9,7 @@ use borrow.Author.Tests.{lt-ltb}
 use native.Mathlib.Omega.{arith}
 use Rattle.image.specs.Image.{headerOk, workers}
 use Rattle.image.proofs.Stores.{header-store, workers-store}
-use Rattle.plan.specs.Turn.{Outcome, stored, jumped, unheld, waiting, resting, refused}
+use Rattle.plan.specs.Turn.{Outcome, stored, passed, waiting, resting, refused}
 use Rattle.turn.specs.Call.{outcomeAt, outcome}
 use Rattle.run.specs.Run.{anyOpen}
 use Rattle.claims.specs.Calls.{Traced, turnBy, turnedAt, refuses, round, rounds, ranBy, call, turns, runs}
@@ -40,8 +40,7 @@ module _ (mark n : ℕ) where
           header = header-store n mark (w .world .left) (w .world .image) p v ∙ h .header;
           many = workers-store n (w .world .left) (w .world .image) p v ∙ h .many;
         }
-    turn-headed w d (jumped c) h = record { header = h .header; many = h .many }
-    turn-headed w d (unheld c) h = record { header = h .header; many = h .many }
+    turn-headed w d (passed why c) h = record { header = h .header; many = h .many }
     turn-headed w d (waiting b) h = record { header = h .header; many = h .many }
     turn-headed w d resting h = h
     turn-headed w d (refused r) h = h

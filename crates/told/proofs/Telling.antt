@@ -18,7 +18,7 @@ use Rattle.image.specs.Image.{Image, at}
 use Rattle.image.proofs.Places.{upd-same}
 use Rattle.intake.specs.declared.Submitted.the-variants.{Taken}
 use Rattle.working.specs.Cursor.{Cursor, on, cursorAt}
-use Rattle.plan.specs.Turn.{Outcome, stored, jumped, unheld, waiting, resting, refused}
+use Rattle.plan.specs.Turn.{Outcome, stored, passed, waiting, resting, refused}
 use Rattle.resuming.specs.Resumed.{resumed}
 use Rattle.claims.specs.Reference.{Given}
 use Rattle.claims.specs.Events.{but}
@@ -233,8 +233,7 @@ module _ (mark n D : ℕ) (cells : List ℕ) (start : ℕ → ℕ) (Q : ℕ → 
           tells = λ e l. rw (turn-begun mark n w d p v c (fed refl), m) (stored-at p v s (stored-new p v c ps) e l);
           newer = λ e l h. rw m (stored-newer p v c s ps e l (rw (m, cs e l) at h));
         }
-    outcome-telling (jumped c) s ps fed m cs = record { tells = x .tells; newer = λ e l h. still-newer c ps e l (rw (cs e l) at h) }
-    outcome-telling (unheld c) s ps fed m cs = record { tells = x .tells; newer = λ e l h. still-newer c ps e l (rw (cs e l) at h) }
+    outcome-telling (passed why c) s ps fed m cs = record { tells = x .tells; newer = λ e l h. still-newer c ps e l (rw (cs e l) at h) }
     outcome-telling (waiting b) s ps fed m cs = record { tells = x .tells; newer = x .newer }
     outcome-telling resting s ps fed m cs = record { tells = x .tells; newer = x .newer }
     outcome-telling (refused q) s ps fed m cs = record { tells = x .tells; newer = x .newer }
@@ -249,8 +248,7 @@ module _ (mark n D : ℕ) (cells : List ℕ) (start : ℕ → ℕ) (Q : ℕ → 
   -- with no store left
   still-tells : (w : Traced) (d : ℕ) (o : Outcome) → w .world .left ≡ 0 → Tells w → Tells (turnBy mark n w d o)
   still-tells w d (stored p v c) z t = let s = still mark n D cells w d p v c z in λ e l. rw (s .0, s .2) (t e l)
-  still-tells w d (jumped c) z t = t
-  still-tells w d (unheld c) z t = t
+  still-tells w d (passed why c) z t = t
   still-tells w d (waiting b) z t = t
   still-tells w d resting z t = t
   still-tells w d (refused r) z t = t

@@ -15,14 +15,14 @@ use Rattle.image.specs.Place.{field, Memory}
 use Rattle.image.specs.Image.{Image, at, workers, cellsOf}
 use Rattle.intake.specs.declared.Submitted.the-variants.{Taken}
 use Rattle.working.specs.Cursor.{Cursor, on, cursorAt}
-use Rattle.plan.specs.Turn.{Outcome, stored, jumped, unheld, waiting, resting, refused}
+use Rattle.plan.specs.Turn.{Outcome, stored, passed, waiting, resting, refused}
 use Rattle.intake.specs.Submit.{submitAnswer, free}
 use Rattle.asking.specs.declared.Standing.the-variants.{Finished}
 use Rattle.working.proofs.Placed.{idle-is}
 use Rattle.claims.specs.Reference.{Given, given}
 use Rattle.claims.specs.Events.{but}
 use Rattle.claims.specs.Calls.{Traced, isPc, turnBy, Call, submits, callable, call, lent}
-use Rattle.claims.specs.Calls.{Move, whole, cut, move, play, from, recovering, legal, endsCut, plain, machine}
+use Rattle.claims.specs.Calls.{Move, whole, move, play, from, legal, endsCut, plain, machine}
 use Rattle.claims.specs.Claims.{Rested, after, mended, working, roundsIn}
 use Rattle.told.specs.Once.{Among, standing, ThroughAlways}
 use Rattle.claims.proofs.LiveTurn.{but-same, but-other}
@@ -34,8 +34,8 @@ use Rattle.claims.proofs.Called.{TakenAs, taken-as}
 use Rattle.claims.proofs.Played.{plenty, running-lent, Good, play-good, whole-good}
 use Rattle.claims.proofs.Resting.{rested-running}
 use Rattle.claims.proofs.Moves.{play-append, args-full, machine-parts, legal-parts, ends-append, plain-uncut, submit-legal}
-use Rattle.told.proofs.Keeping.{nextTurn, Fed, submitted, Sorted, Keeps, Kept, play-keeps, working-keeps}
-use Rattle.told.proofs.FromRest.{settled-pcs}
+use Rattle.told.proofs.Keeping.{nextTurn, Fed, submitted, Keeps, Kept, play-keeps, working-keeps}
+use Rattle.told.proofs.FromRest.{settled-pcs, Plain, plain-sorted}
 use Rattle.told.proofs.Once.{finished-others, tells-settled}
 use Rattle.told.proofs.Telling.{begunThen, turn-begun, pending}
 use Rattle.told.proofs.Recorded.{tellingOf, aside-of}
@@ -45,17 +45,6 @@ use Rattle.told.proofs.Behind.{turnMemory, turnCursor, turned-memory, t
 use Rattle.told.proofs.Numbers.{among-number}
 
 -- ---- a section that is taken and not cut off
-
--- uncut, and no recovery
-abbrev Plain : Move → Image → Type 0
-Plain (whole c) m = not (recovering c) ≡ true
-Plain (cut k c) m = ⊥
-
-plain-sorted : (mark n : ℕ) (xs : List Move) (w : Traced) → plain xs ≡ true → Sorted mark n Plain xs w
-unfolding plain
-plain-sorted mark n [] w h = tt
-plain-sorted mark n (whole c ∷ xs) w h = (and-left (not (recovering c)) (plain xs) h, plain-sorted mark n xs _ (and-right (not (recovering c)) (plain xs) h))
-plain-sorted mark n (cut k c ∷ xs) w h = absurd (false≢true h)
 
 among-more : (g : Given) (gs : List Given) (x : Given) (a b : Bool) → Among g gs → Among g (begunThen gs x a b)
 among-more g gs x false b h = h
@@ -124,8 +113,7 @@ module _ (mark n D : ℕ) (cells : List ℕ) (d : ℕ) (dl : d < D) (g : Given) 
             let z : eqb (rd (field Pc e)) 0 ≡ true = sym (k .0) ∙ (rw q at h) in
             let last : w .trace .last e ≡ g = rw q at t in
             inl (w .trace .begun, [], begins ∙ rw (i, z, last))
-    outcome-follows (jumped c) y ps fed m cs = ⊎-elim inl (λ h. inr (waits-on (turnBy mark n w e (jumped c)) c refl refl (cs d dl) (λ z. ps) h)) x
-    outcome-follows (unheld c) y ps fed m cs = ⊎-elim inl (λ h. inr (waits-on (turnBy mark n w e (unheld c)) c refl refl (cs d dl) (λ z. ps) h)) x
+    outcome-follows (passed why c) y ps fed m cs = ⊎-elim inl (λ h. inr (waits-on (turnBy mark n w e (passed why c)) c refl refl (cs d dl) (λ z. ps) h)) x
     outcome-follows (waiting b) y ps fed m cs = x
     outcome-follows resting y ps fed m cs = x
     outcome-follows (refused q) y ps fed m cs = x

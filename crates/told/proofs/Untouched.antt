@@ -23,8 +23,6 @@ use Rattle.intake.specs.declared.Submitted.{Submitted}
 use Rattle.intake.specs.declared.Submitted.the-variants.{Taken, Refused}
 use Rattle.working.specs.Cursor.{cursorAt}
 use Rattle.plan.specs.Turn.{stored, turnAt}
-use Rattle.turn.specs.Call.{outcomeAt}
-use Rattle.run.specs.Run.{anyOpen}
 use Rattle.intake.specs.Submit.{assigns, submission, submitAnswer, submitLeaves}
 use Rattle.repair.specs.Plan.{_≔_, when, rows, unbegun, intended, intend, withdraw, relock, relocks, unlock, plan}
 use Rattle.owed.specs.Owed.{owed}
@@ -32,12 +30,13 @@ use Rattle.recovery.specs.Recovery.{Recovered, accepted, rejected, byFirst, rec
 use Rattle.resuming.specs.Resumed.{resumedAll}
 use Rattle.soundness.specs.declared.Refusal.the-variants.{Image as ImageRefused, Record, Lock}
 use Rattle.soundness.specs.Sound.{badLock, unsound}
-use Rattle.claims.specs.Calls.{Traced, turnedAt, refuses, recoveredBy, Call, submits, turns, runs, recovers}
+use Rattle.claims.specs.Calls.{Traced, recoveredBy, Call, submits, turns, runs, recovers}
 use Rattle.claims.specs.Calls.{Move, whole, cut, call, lent, move, recovering, from, legal, callable, machine}
-use Rattle.told.specs.Moments.{Moment, moment, Each, turnless, inRound, inRounds, inCall, inMove, inList, Guarded, UntouchedAlways}
+use Rattle.told.specs.Moments.{moment, Each, turnless, inRounds, inCall, inMove, inList, Guarded, UntouchedAlways}
 use Rattle.claims.proofs.Turns.{Touches, ownCell, Stepped}
 use Rattle.claims.proofs.OwnTurn.{own-turn}
 use Rattle.told.proofs.Writes.{Says, turn-writes}
+use Rattle.told.proofs.Moments.{each-append, rounds-each}
 use Rattle.claims.proofs.Worlds.{Running}
 use Rattle.claims.proofs.Turning.{Cutting, cutting-turned}
 use Rattle.claims.proofs.Played.{plenty, running-lent, outcome-below, outcome-above, recovers-only, whole-good, cut-good, Good}
@@ -144,14 +143,6 @@ module _ (mark n : ℕ) where
 touched-cell : (n : ℕ) (rd : Memory) (d locks : ℕ) (x v locks′ : ℕ) → Touches n rd d locks (cell x) v locks′ → (x < 512) × (has locks (x / 8) ≡ true)
 touched-cell n rd d locks x v locks′ (ownCell _ _ b h) = (b, h)
 
-each-append : (P : Moment → Type 0) (xs ys : List Moment) → Each P xs → Each P ys → Each P (xs ++ ys)
-each-append P [] ys a b = b
-each-append P (x ∷ xs) ys a b = (a .0, each-append P xs ys (a .1) b)
-
-each-cond : (P : Moment → Type 0) (t : Bool) (xs ys : List Moment) → Each P xs → Each P ys → Each P (cond t xs ys)
-each-cond P true xs ys a b = a
-each-cond P false xs ys a b = b
-
 module _ (mark n D : ℕ) (cells : List ℕ) where
   running-guarded : (w : Traced) (d : ℕ) → Running mark n D cells w → d < D → Guarded mark n (moment w d)
   running-guarded w d r l x v c e left =
@@ -173,23 +164,10 @@ module _ (mark n D : ℕ) (cells : List ℕ) where
 
   -- ---- runs and calls
 
-  round-guarded :
-      (rest : Traced → List Moment) → ((w : Traced) → Cutting mark n D cells w → Each (Guarded mark n) (rest w))
-      → (k d : ℕ) (w : Traced) → d + k ≤ D → Cutting mark n D cells w → Each (Guarded mark n) (inRound mark n rest w d k)
-  unfolding inRound
-  round-guarded rest more zero d w l c = more w c
-  round-guarded rest more (suc k) d w l c = (
-    caught-guarded w d (omega arith) c,
-    each-cond (Guarded mark n) (refuses mark n (outcomeAt n (w .world) d)) [] _ tt
-        (round-guarded rest more k (d + 1) (turnedAt mark n w d) (omega arith) (cutting-turned mark n D cells w d (omega arith) c)),
-  )
-
   rounds-guarded : (r : ℕ) (w : Traced) → Cutting mark n D cells w → Each (Guarded mark n) (inRounds mark n r D w)
-  unfolding inRounds
-  rounds-guarded zero w c = tt
-  rounds-guarded (suc r) w c =
-      each-cond (Guarded mark n) (anyOpen D 0 (w .world .cursors)) (inRound mark n (inRounds mark n r D) w 0 D) []
-      (round-guarded (inRounds mark n r D) (rounds-guarded r) D 0 w (omega arith) c) tt
+  rounds-guarded =
+      rounds-each mark n D (Cutting mark n D cells) (Guarded mark n) (λ w d l c. cutting-turned mark n D cells w d l c)
+      (λ w d l c. caught-guarded w d l c)
 
   turn-guarded : (w : Traced) (d : ℕ) → Running mark n D cells w → Guarded mark n (moment w d)
   turn-guarded w d r = by (ltb d D) refl

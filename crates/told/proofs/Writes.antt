@@ -15,9 +15,10 @@ use Rattle.code.specs.declared.Op.the-variants.{Acquire, Release, Assign, Jump,
 use Rattle.section.proofs.Steps.{ends}
 use Rattle.working.specs.Cursor.{Cursor, on}
 use Rattle.log.specs.Log.{operand, codeIn, second, spareAddr, spareVal}
-use Rattle.plan.specs.Turn.{Outcome, stored, jumped, unheld, waiting, resting as rests, refused}
+use Rattle.plan.specs.Turn.{Outcome, stored, passed, waiting, resting as rests, refused}
 use Rattle.log.specs.Log.{switched}
 use Rattle.plan.specs.Turn.{logged, lockTurn, unlockTurn, opTurn, turnAt}
+use Rattle.plan.proofs.Reports.{unlock-either}
 use Rattle.owed.specs.Owed.{namedStep}
 use Rattle.resuming.specs.Resumed.{targetTurn}
 use Rattle.claims.specs.Reference.{Given}
@@ -62,8 +63,7 @@ module _ (n : ℕ) (rd : Memory) (d : ℕ) (g : Given) where
 
   abbrev pub Says : Outcome → Type 0
   Says (stored p v c) = Writes p v
-  Says (jumped c) = Unit {0}
-  Says (unheld c) = Unit {0}
+  Says (passed why c) = Unit {0}
   Says (waiting b) = Unit {0}
   Says rests = Unit {0}
   Says (refused r) = Unit {0}
@@ -100,11 +100,7 @@ module _ (n : ℕ) (rd : Memory) (d : ℕ) (g : Given) where
       by false = tt
 
   unlock-says : (a s : ℕ) → Says (unlockTurn n rd d a s)
-  unlock-says a s = by (eqb (rd (lock a)) (d + 1))
-    where
-      by : (b : Bool) → Says (cond b (stored (lock a) 0 (on s 5)) (unheld (on s 5)))
-      by true = tt
-      by false = tt
+  unlock-says a s = unlock-either n rd d a s Says tt (λ why. tt)
 
   -- ---- up to the store of a step's pc, of which w is known
 

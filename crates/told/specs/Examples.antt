@@ -10,7 +10,7 @@ use Rattle.intake.specs.declared.Submitted.{Submitted}
 use Rattle.intake.specs.declared.Submitted.the-variants.{Taken, Refused}
 use Rattle.edition.specs.Edition.{mark, ownWords}
 use Rattle.working.specs.Refusal.{causeOf}
-use Rattle.plan.specs.Turn.{Outcome, stored, jumped, unheld, waiting, resting, refused}
+use Rattle.plan.specs.Turn.{Outcome, stored, passed, waiting, resting, refused}
 use Rattle.turn.specs.Call.{outcome}
 use Rattle.formatting.specs.Format.{formatted}
 use Rattle.intake.specs.Submit.{submitAnswer}
@@ -115,8 +115,7 @@ powered (after k) w = move mark ownWords (whole recovers) (move mark ownWords (c
 -- c or the turn's, or more turns
 abbrev next : Outcome → ℕ → ℕ → List ℕ → (ℕ → Seen) → (ℕ → List ℕ → Seen) → Seen
 next (stored q v x) c t ps end more = more (suc t) ps
-next (jumped x) c t ps end more = more (suc t) (ps ++ (suc t ∷ []))
-next (unheld x) c t ps end more = more (suc t) (ps ++ (suc t ∷ []))
+next (passed why x) c t ps end more = more (suc t) (ps ++ (suc t ∷ []))
 next (waiting b) c t ps end more = more (suc t) ps
 next resting c t ps end more = end c
 next (refused r) c t ps end more = end (causeOf r)

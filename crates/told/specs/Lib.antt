@@ -1,5 +1,6 @@
 pub mod Readings
 pub mod Once
 pub mod Moments
+pub mod Reports
 pub mod Enough
 pub mod Examples

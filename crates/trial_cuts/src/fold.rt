@@ -45,7 +45,10 @@ fn cursors(h: u64, c: Cursors) -> u64 {
 }
 
 fn tally(h: u64, t: Tally) -> u64 {
-    word(word(word(h, t.turns), t.waits), t.stores)
+    word(
+        word(word(word(word(h, t.turns), t.waits), t.stores), t.free),
+        t.others,
+    )
 }
 
 // What a call answered; the tag of a section taken goes in as 0, as that of what is done.

@@ -6,7 +6,7 @@ use turn::Answer;
 use working::Refusal;
 
 // Tag 0 done, 1 stored, 2 passed, 3 waiting, 4 idle, 5 all idle, 6 spent, 7 refused, 8 taken; document 01's cause, 0 where it
-// is not refused; and the step, worker, lock or index that goes with it, 0 where there is none.
+// is not refused; and the step, worker, lock or index that goes with it, or why it passed, 0 where there is none.
 pub struct Told {
     pub tag: u64,
     pub cause: u64,
@@ -48,9 +48,10 @@ pub fn submitted(a: Submitted) -> Told {
 }
 
 pub fn turned(a: Answer) -> Told {
+    let detail = turn::codes::turn_detail(a);
     match a {
         Answer::Stored(at) => plain(1, at as u64),
-        Answer::Passed => plain(2, 0),
+        Answer::Passed(_) => plain(2, detail),
         Answer::Waiting(b) => plain(3, b),
         Answer::Idle => plain(4, 0),
         Answer::Refused(r) => refused(r),

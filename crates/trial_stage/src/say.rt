@@ -42,13 +42,23 @@ fn waiting(lock: u64) {
     number(lock);
 }
 
+// Of a jump nothing more is said.
+fn passed(why: u64) {
+    text(b"passed");
+    match why {
+        0 => (),
+        1 => text(b" already-free"),
+        _ => text(b" anothers"),
+    }
+}
+
 // A call's answer; of a store, the word that then stands there.
 pub fn answer(image: &[u64], t: Told) {
     let tag = t.tag;
     match tag {
         0 => text(b"done"),
         1 => word(image, t.value as usize),
-        2 => text(b"passed"),
+        2 => passed(t.value),
         3 => waiting(t.value),
         4 | 5 => text(b"idle"),
         6 => text(b"spent"),
@@ -57,12 +67,14 @@ pub fn answer(image: &[u64], t: Told) {
     }
 }
 
-// Turns, waits and stores.
+// Turns, waits and stores; releases that found their lock already free, and another's.
 pub fn tally(t: Tally) {
     text(b"tally ");
     two_numbers(t.turns, t.waits);
     text(b" ");
     number(t.stores);
+    text(b" ");
+    two_numbers(t.free, t.others);
 }
 
 pub fn left(k: u64) {

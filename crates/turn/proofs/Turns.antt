@@ -1,5 +1,5 @@
 -- One turn: what the code's plan of it does is what its outcome says. With it the three tests of `turn`, one equation for each.
-use Prim.Native.Nat.{ℕ, zero, suc, _+_, _<_, _≤_}
+use Prim.Native.Nat.{ℕ, zero, suc, _<_, _≤_}
 use borrow.Author.Tests.{lt-ltb, le-ltb, ltb-true, ltb-false}
 use native.Mathlib.Omega.{arith}
 use native.Mathlib.Decide.{ℕ-discrete}
@@ -20,20 +20,20 @@ use Rattle.working.specs.declared.Refusal.{Refusal}
 use Rattle.working.specs.declared.Refusal.the-variants.{Worker, Image as ImageRefused, Cursor as CursorRefused}
 use Rattle.working.specs.Cursor.{Cursor, on, isIdle, cursorAt}
 use Rattle.log.specs.Log.{codeIn}
-use Rattle.plan.specs.Turn.{Outcome, stored, jumped, unheld, waiting, resting, refused, logged, acquireTurn, finishTurn, opTurn, ready, turnAt}
+use Rattle.plan.specs.Turn.{Outcome, stored, passed, waiting, resting, refused, logged, acquireTurn, finishTurn, opTurn, ready, turnAt}
 use Rattle.working.specs.World.{World}
 use Rattle.turn.specs.Call.{answerOf, leaves, outcomeAt, outcome, isRefused}
 use Rattle.plan.specs.inner.Plan.{planOf}
 use Rattle.turn.specs.inner.Acting.{planDid, didAnswer, planLeaves, tested, gateOf}
 use Rattle.turn.specs.declared.Gate.the-variants.{Refused as GateRefused, Idle, Open}
 use Rattle.plan.proofs.Planned.{ready-says}
+use Rattle.plan.proofs.Reports.{unlock-either}
 use Rattle.working.proofs.Placed.{Full, idle-is, on-is, open-turn, idle-turn, placed-other}
 
 -- a turn that is made, that is, of an open worker and not refused
 abbrev pub Made : Outcome → Type 0
 Made (stored p v c) = Unit {0}
-Made (jumped c) = Unit {0}
-Made (unheld c) = Unit {0}
+Made (passed why c) = Unit {0}
 Made (waiting b) = Unit {0}
 Made resting = ⊥
 Made (refused r) = ⊥
@@ -63,7 +63,7 @@ module _ (n : ℕ) (rd : Memory) (d s : ℕ) where
   made-op : (t : ℕ) (x : Op) → fits n x → Made (opTurn n rd d s t x)
   made-op t (Acquire a) f = made-acquire a t
   made-op t (Release a) f =
-      made-cond (ltb t 4) _ _ (made-logged n rd d s t _ _ _ t) (made-cond (eqb t 4) _ _ (made-cond (eqb (rd (lock a)) (d + 1)) _ _ tt tt) tt)
+      made-cond (ltb t 4) _ _ (made-logged n rd d s t _ _ _ t) (made-cond (eqb t 4) _ _ (unlock-either n rd d a s Made tt (λ why. tt)) tt)
   made-op t (Assign a e) f = made-logged n rd d s t _ _ _ t
   made-op t (Jump a b) f = tt
   made-op t Finish f = made-finish t
@@ -81,16 +81,14 @@ module _ (n : ℕ) where
 
   pub did-answers : (o : Outcome) → Made o → didAnswer (planDid (planOf n o)) ≡ answerOf n o
   did-answers (stored p v c) m = refl
-  did-answers (jumped c) m = refl
-  did-answers (unheld c) m = refl
+  did-answers (passed why c) m = refl
   did-answers (waiting b) m = refl
   did-answers resting m = absurd m
   did-answers (refused r) m = absurd m
 
   pub made-goes : (o : Outcome) → Made o → isRefused (answerOf n o) ≡ false
   made-goes (stored p v c) m = refl
-  made-goes (jumped c) m = refl
-  made-goes (unheld c) m = refl
+  made-goes (passed why c) m = refl
   made-goes (waiting b) m = refl
   made-goes resting m = absurd m
   made-goes (refused r) m = absurd m
@@ -98,16 +96,14 @@ module _ (n : ℕ) where
   -- a turn leaves the cursors of the other workers
   pub leaves-other : (w : World) (d e : ℕ) (o : Outcome) → e ≢ d → cursorAt (leaves n w d o .cursors) e ≡ cursorAt (w .cursors) e
   leaves-other w d e (stored p v c) h = placed-other (w .cursors) d e c h
-  leaves-other w d e (jumped c) h = placed-other (w .cursors) d e c h
-  leaves-other w d e (unheld c) h = placed-other (w .cursors) d e c h
+  leaves-other w d e (passed why c) h = placed-other (w .cursors) d e c h
   leaves-other w d e (waiting b) h = refl
   leaves-other w d e resting h = refl
   leaves-other w d e (refused r) h = refl
 
   pub plan-leaves : (w : World) (d : ℕ) (o : Outcome) → planLeaves w d (planOf n o) ≡ leaves n w d o
   plan-leaves w d (stored p v c) = refl
-  plan-leaves w d (jumped c) = refl
-  plan-leaves w d (unheld c) = refl
+  plan-leaves w d (passed why c) = refl
   plan-leaves w d (waiting b) = refl
   plan-leaves w d resting = refl
   plan-leaves w d (refused r) = refl
@@ -159,32 +155,28 @@ module _ (own : ℕ) (w : World) (d : ℕ) (f : Full (w .cursors)) (h : d < 8) w
 module _ (n : ℕ) where
   gate-made : (o : Outcome) → gateOf o ≡ Open → Made o
   gate-made (stored p v c) e = tt
-  gate-made (jumped c) e = tt
-  gate-made (unheld c) e = tt
+  gate-made (passed why c) e = tt
   gate-made (waiting b) e = tt
   gate-made resting e = let z : _≡_ {A = ℕ} 0 1 = cc in absurd (omega arith)
   gate-made (refused r) e = let z : _≡_ {A = ℕ} 0 1 = cc in absurd (omega arith)
 
   pub made-gate : (o : Outcome) → Made o → gateOf o ≡ Open
   made-gate (stored p v c) m = refl
-  made-gate (jumped c) m = refl
-  made-gate (unheld c) m = refl
+  made-gate (passed why c) m = refl
   made-gate (waiting b) m = refl
   made-gate resting m = absurd m
   made-gate (refused r) m = absurd m
 
   pub gate-idle : (o : Outcome) → gateOf o ≡ Idle → o ≡ resting
   gate-idle (stored p v c) e = cc
-  gate-idle (jumped c) e = cc
-  gate-idle (unheld c) e = cc
+  gate-idle (passed why c) e = cc
   gate-idle (waiting b) e = cc
   gate-idle resting e = refl
   gate-idle (refused r) e = cc
 
   pub gate-refused : (o : Outcome) (r : Refusal) → gateOf o ≡ GateRefused r → o ≡ refused r
   gate-refused (stored p v c) r e = cc
-  gate-refused (jumped c) r e = cc
-  gate-refused (unheld c) r e = cc
+  gate-refused (passed why c) r e = cc
   gate-refused (waiting b) r e = cc
   gate-refused resting r e = cc
   gate-refused (refused x) r e = cc

@@ -6,23 +6,21 @@ use Rattle.image.specs.Image.{indexOf, at, workers, headerOk, put}
 use Rattle.working.specs.declared.Refusal.the-variants.{Worker, Image as ImageRefused}
 use Rattle.working.specs.Cursor.{cursorAt, placed}
 use Rattle.working.specs.World.{World, world}
-use Rattle.plan.specs.Turn.{Outcome, stored, jumped, unheld, waiting, resting, refused, turnAt}
+use Rattle.plan.specs.Turn.{Outcome, stored, passed, waiting, resting, refused, turnAt}
 use Rattle.turn.specs.declared.Answer.{Answer}
 use Rattle.turn.specs.declared.Answer.the-variants.{Stored, Passed, Waiting, Idle, Refused}
 
 -- what document 01 says of a turn: its answer, and what it leaves
 abbrev pub answerOf : ℕ → Outcome → Answer
 answerOf n (stored p v c) = Stored (indexOf n p)
-answerOf n (jumped c) = Passed
-answerOf n (unheld c) = Passed
+answerOf n (passed why c) = Passed why
 answerOf n (waiting b) = Waiting b
 answerOf n resting = Idle
 answerOf n (refused r) = Refused r
 
 abbrev pub leaves : ℕ → World → ℕ → Outcome → World
 leaves n w d (stored p v c) = world (put (w .left) (w .image) (indexOf n p) v) (placed (w .cursors) d c) (w .left - 1)
-leaves n w d (jumped c) = world (w .image) (placed (w .cursors) d c) (w .left)
-leaves n w d (unheld c) = world (w .image) (placed (w .cursors) d c) (w .left)
+leaves n w d (passed why c) = world (w .image) (placed (w .cursors) d c) (w .left)
 leaves n w d (waiting b) = w
 leaves n w d resting = w
 leaves n w d (refused r) = w
@@ -37,7 +35,7 @@ outcome mark n w d = cond (headerOk mark n (w .image)) (cond (ltb d (workers (w 
 
 abbrev pub isRefused : Answer → Bool
 isRefused (Stored i) = false
-isRefused Passed = false
+isRefused (Passed why) = false
 isRefused (Waiting b) = false
 isRefused Idle = false
 isRefused (Refused r) = true

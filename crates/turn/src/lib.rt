@@ -1,4 +1,5 @@
 // One turn of a worker: its tests, its plan, at most one store, and the record with the step and turn that the plan names.
+use log::Passing;
 use log::Plan;
 use working::Cursors;
 use working::Refusal;
@@ -22,7 +23,7 @@ pub enum Answer {
     // A store was made at this index.
     Stored(usize),
     // There was nothing to store.
-    Passed,
+    Passed(Passing),
     // The lock is not free: its owner word is not 0.
     Waiting(u64),
     Idle,
@@ -39,7 +40,7 @@ enum Gate {
 // What the turn of an open worker did, where it is not refused.
 pub enum Did {
     Stored(usize),
-    Passed,
+    Passed(Passing),
     Waiting(u64),
 }
 
@@ -75,8 +76,8 @@ fn done(image: &mut [u64], p: Plan, s: u8, t: u8, left: &mut u64) -> Acted
                 turn: turn,
             }
         }
-        Plan::Pass { step, turn } => Acted {
-            did: Did::Passed,
+        Plan::Pass { why, step, turn } => Acted {
+            did: Did::Passed(why),
             step: step,
             turn: turn,
         },
@@ -105,7 +106,7 @@ fn answer_of(x: Did) -> Answer
 {
     match x {
         Did::Stored(at) => Answer::Stored(at),
-        Did::Passed => Answer::Passed,
+        Did::Passed(why) => Answer::Passed(why),
         Did::Waiting(b) => Answer::Waiting(b),
     }
 }

@@ -21,6 +21,8 @@ use Rattle.tally.specs.Tally.{none}
 use Rattle.working.specs.declared.Refusal.{Refusal}
 use Rattle.working.specs.declared.Refusal.the-variants.{Worker, Busy, Number, Section, Image as ImageRefused, Cursor as CursorRefused}
 use Rattle.turn.specs.declared.Answer.{Answer}
+use Rattle.log.specs.declared.Passing.{Passing}
+use Rattle.log.specs.declared.Passing.the-variants.{Jump as PassedJump, AlreadyFree, Others}
 use Rattle.turn.specs.declared.Answer.the-variants.{Stored, Passed, Waiting, Idle, Refused}
 use Rattle.formatting.specs.declared.Formatted.the-variants.{Done, Refused as FormatRefused}
 use Rattle.intake.specs.declared.Submitted.{Submitted}
@@ -31,7 +33,8 @@ use Rattle.working.specs.Refusal.{causeOf}
 use Rattle.turn.specs.Call.{isRefused}
 use Rattle.working.specs.Cursor.{Cursor, idle, on, cursorAt}
 use Rattle.log.specs.Log.{codeIn}
-use Rattle.plan.specs.Turn.{Outcome, stored, jumped, unheld, waiting, resting, refused, logged, opTurn, ready, turnAt}
+use Rattle.plan.specs.Turn.{Outcome, stored, passed, waiting, resting, refused, logged, opTurn, ready, turnAt}
+use Rattle.plan.proofs.Reports.{unlock-either}
 use Rattle.working.specs.World.{World}
 use Rattle.turn.specs.Call.{outcomeAt}
 use Rattle.formatting.specs.Format.{formattable, formatAnswer}
@@ -71,19 +74,25 @@ cause-below (CursorRefused d) = omega arith
 -- so a refusal is told by it
 pub turn-refused : (a : Answer) → isRefused a ≡ ltb (turnCode a) 16
 turn-refused (Stored i) = refl
-turn-refused Passed = refl
+turn-refused (Passed why) = refl
 turn-refused (Waiting b) = refl
 turn-refused Idle = refl
 turn-refused (Refused r) = rw (lt-ltb (causeOf r) 16 (cause-below r))
 
+-- why a turn passed, with this detail
+abbrev pub passRead : ℕ → Passing
+passRead v = cond (eqb v 0) PassedJump (cond (eqb v 1) AlreadyFree Others)
+
 -- the answer with this code and detail, where it is no refusal
 unfoldable pub turnRead : ℕ → ℕ → Answer
-turnRead k v = cond (eqb k 16) (Stored v) (cond (eqb k 17) Passed (cond (eqb k 18) (Waiting v) Idle))
+turnRead k v = cond (eqb k 16) (Stored v) (cond (eqb k 17) (Passed (passRead v)) (cond (eqb k 18) (Waiting v) Idle))
 
 pub turn-read : (a : Answer) → isRefused a ≡ false → turnRead (turnCode a) (turnDetail a) ≡ a
 unfolding turnRead
 turn-read (Stored i) h = refl
-turn-read Passed h = refl
+turn-read (Passed PassedJump) h = refl
+turn-read (Passed AlreadyFree) h = refl
+turn-read (Passed Others) h = refl
 turn-read (Waiting b) h = refl
 turn-read Idle h = refl
 turn-read (Refused r) h = absurd (true≢false h)
@@ -147,8 +156,7 @@ submit-zero w d k ws =
 
 abbrev Caused : Outcome → Type 0
 Caused (stored p v c) = Unit {0}
-Caused (jumped c) = Unit {0}
-Caused (unheld c) = Unit {0}
+Caused (passed why c) = Unit {0}
 Caused (waiting b) = Unit {0}
 Caused resting = Unit {0}
 Caused (refused r) = eqb (causeOf r) 0 ≡ false
@@ -169,7 +177,7 @@ module _ (n : ℕ) (rd : Memory) (d : ℕ) where
   private-op s (suc zero) (Acquire a) = private-caused (eqb (rd (lock a)) 0) _ _ tt tt
   private-op s (suc (suc j)) (Acquire a) = private-logged s (suc (suc j)) _ _ _ j
   private-op s t (Release a) =
-      private-caused (ltb t 4) _ _ (private-logged s t _ _ _ t) (private-caused (eqb t 4) _ _ (private-caused (eqb (rd (lock a)) (d + 1)) _ _ tt tt) tt)
+      private-caused (ltb t 4) _ _ (private-logged s t _ _ _ t) (private-caused (eqb t 4) _ _ (unlock-either n rd d a s Caused tt (λ why. tt)) tt)
   private-op s t (Assign a e) = private-logged s t _ _ _ t
   private-op s t (Jump a b) = tt
   private-op s zero Finish = tt
@@ -202,8 +210,7 @@ private-ending false x y g h = h
 module _ (n : ℕ) where
   private-swept : (x : Outcome) (s : Counting) (more : Sweep) → Caused x → Halting more → Halting (swept n x s more)
   private-swept (stored p v c) s more g h = h
-  private-swept (jumped c) s more g h = h
-  private-swept (unheld c) s more g h = h
+  private-swept (passed why c) s more g h = h
   private-swept (waiting b) s more g h = h
   private-swept resting s more g h = h
   private-swept (refused r) s more g h = g

@@ -58,13 +58,13 @@ turning w d = answerOf ownWords (outcome mark ownWords w d)
 abbrev pub turnsTo : World → ℕ → World
 turnsTo w d = leaves ownWords w d (outcome mark ownWords w d)
 
--- ---- a run: its end, the world after it, and its tally as three numbers
+-- ---- a run: its end, the world after it, and its tally as five numbers
 
 abbrev pub running : World → ℕ → Course
 running w rounds = runOf mark ownWords w rounds
 
 abbrev pub counts : Tally → List ℕ
-counts t = t .turns ∷ t .waits ∷ t .stores ∷ []
+counts t = t .turns ∷ t .waits ∷ t .stores ∷ t .free ∷ t .others ∷ []
 
 -- ---- recovery, of which the cursors lent do not matter
 

@@ -102,14 +102,15 @@ pub extern "C" fn zilpanud_turn(
     turn::codes::turn_code(a)
 }
 
-// Rounds of turns until all workers are idle: 0, 20 spent; or 10, 11 with the worker. The tally: turns, waits, stores.
+// Rounds of turns until all workers are idle: 0, 20 spent; or 10, 11 with the worker. The tally: turns, waits, stores, and the
+// releases that found their lock already free, and another's.
 #[no_mangle]
 pub extern "C" fn zilpanud_run(
     image: &mut [u64],
     step: &mut [u8; 8],
     turn: &mut [u8; 8],
     rounds: u16,
-    tally: &mut [u64; 3],
+    tally: &mut [u64; 5],
     left: &mut u64,
     detail: &mut u64,
 ) -> u64
@@ -126,7 +127,7 @@ pub extern "C" fn zilpanud_run(
     let next = r.cursors;
     cursors::leave(next, step, turn);
     let n = r.tally;
-    *tally = [n.turns, n.waits, n.stores];
+    *tally = [n.turns, n.waits, n.stores, n.free, n.others];
     let e = r.end;
     *detail = run::codes::end_detail(e);
     run::codes::end_code(e)
@@ -208,5 +209,5 @@ pub extern "C" fn zilpanud_standing(
 pub extern "C" fn zilpanud_version() -> u64
     ensures { λ r. ⌜ r ≡ version ⌝ }
 {
-    1_000
+    2_000
 }

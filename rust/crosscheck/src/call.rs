@@ -1,7 +1,7 @@
 //! A call, as ours and as the twin's, and all that it gives.
 
 use twin::{Left, Refusal, Working};
-use zilpanud::{cut, Cursors, End, Standing, Tally, Turn};
+use zilpanud::{cut, Cursors, End, Passing, Standing, Tally, Turn};
 
 #[derive(Clone, Debug)]
 pub enum Call {
@@ -64,7 +64,9 @@ fn of_ours<T>(result: Result<T, zilpanud::Refusal>, told: impl Fn(T) -> (u64, u6
 fn told_turn(answer: Turn) -> (u64, u64) {
     match answer {
         Turn::Stored(index) => (16, index as u64),
-        Turn::Passed => (17, 0),
+        Turn::Passed(Passing::Jump) => (17, 0),
+        Turn::Passed(Passing::AlreadyFree) => (17, 1),
+        Turn::Passed(Passing::Others) => (17, 2),
         Turn::Waiting(lock) => (18, lock as u64),
         Turn::Idle => (19, 0),
     }
@@ -163,7 +165,8 @@ pub fn twins(call: &Call, image: &mut [u64], lent: Lent) -> Given {
     let ((answer, detail), after, stores) = twin_told(call, image, at, lent.left, &mut sums);
     let left = lent.left.saturating_sub(stores);
     let lent = Lent { step: after.step, turn: after.turn, left };
-    let tally = Tally { turns: sums.turns, waits: sums.waits, stores: sums.stores };
+    let twin::Tally { turns, waits, stores, already_free, others } = sums;
+    let tally = Tally { turns, waits, stores, already_free, others };
     Given { answer, detail, lent, tally }
 }
 
@@ -177,7 +180,9 @@ fn told_end(end: twin::End) -> (u64, u64) {
 fn told_desk(answer: twin::Answer) -> (u64, u64) {
     match answer {
         twin::Answer::Stored(index) => (16, index as u64),
-        twin::Answer::Passed => (17, 0),
+        twin::Answer::Passed(twin::Passing::Jump) => (17, 0),
+        twin::Answer::Passed(twin::Passing::AlreadyFree) => (17, 1),
+        twin::Answer::Passed(twin::Passing::Others) => (17, 2),
         twin::Answer::Waiting(bay) => (18, bay as u64),
         twin::Answer::Idle => (19, 0),
     }

@@ -19,6 +19,9 @@ const POSSIBLE: [&[u64]; 9] = [
     &[0, 1, 10],
 ];
 
+/// Why a turn passed, by the answer's detail. A run counts all but the first.
+const PASSINGS: [&str; 3] = ["jump", "already free", "others"];
+
 #[derive(Default)]
 pub struct Met {
     pub lists: u64,
@@ -34,6 +37,9 @@ pub struct Met {
     pub odd_cursors: u64,
     /// Turns by the kind of the instruction.
     kinds: [u64; 9],
+    /// Turns that passed, by `PASSINGS`, and what the tallies of runs have of them.
+    passed: [u64; 3],
+    counted: [u64; 2],
     /// Standings told: not begun, begun, finished.
     standings: [u64; 3],
 }
@@ -45,6 +51,11 @@ impl Met {
         if matches!(call, Call::Standing { .. }) && given.answer == 0 {
             self.standings[given.detail as usize] += 1;
         }
+        if matches!(call, Call::Turn { .. }) && given.answer == 17 {
+            self.passed[given.detail as usize] += 1;
+        }
+        self.counted[0] += given.tally.already_free;
+        self.counted[1] += given.tally.others;
         let turned = matches!(call, Call::Turn { .. }) && (16..19).contains(&given.answer);
         if turned && kind < 9 {
             self.kinds[kind as usize] += 1;
@@ -66,6 +77,9 @@ impl Met {
         }
         lines.extend((0..3).filter(|&s| self.standings[s] == 0).map(|s| format!("no standing {s}")));
         lines.extend((1..9).filter(|&k| self.kinds[k] == 0).map(|k| format!("no turn of kind {k}")));
+        let (passed, counted) = (PASSINGS.iter().zip(self.passed), PASSINGS[1..].iter().zip(self.counted));
+        lines.extend(passed.filter(|(_, n)| *n == 0).map(|(why, _)| format!("no turn passed: {why}")));
+        lines.extend(counted.filter(|(_, n)| *n == 0).map(|(why, _)| format!("no run counted: {why}")));
         lines
     }
 
@@ -102,6 +116,10 @@ impl Met {
         DAMAGES.iter().zip(self.damages).for_each(|(name, n)| print!(" {name} {n};"));
         print!("\nturns by kind of instruction:");
         (1..9).for_each(|k| print!(" {k}: {};", self.kinds[k]));
+        print!("\nturns that passed:");
+        PASSINGS.iter().zip(self.passed).for_each(|(why, n)| print!(" {why} {n};"));
+        print!("\ncounted in runs:");
+        PASSINGS[1..].iter().zip(self.counted).for_each(|(why, n)| print!(" {why} {n};"));
         let [not_begun, begun, finished] = self.standings;
         println!("\nstandings: not begun {not_begun}; begun {begun}; finished {finished}");
     }

@@ -6,11 +6,27 @@ pub enum Turn {
     /// One word was stored, at this index of the image.
     Stored(usize),
     /// The turn went on and had nothing to store.
-    Passed,
+    Passed(Passing),
     /// Another worker has this lock; the worker stays where it is.
     Waiting(usize),
     /// The worker has no section to go on with.
     Idle,
+}
+
+/// Why a turn passed.
+///
+/// A release (document 01's drop) that frees its lock stores, and does not pass. Where only this engine changes the
+/// image, one passes only where a recovery resumed it: its lock was freed before that or by it, and another worker may
+/// have it by now.
+#[derive(Clone, Copy, PartialEq, Eq, Hash, Debug)]
+pub enum Passing {
+    /// It was the turn of a jump (document 01's skip), which never stores.
+    Jump,
+    /// A release found its lock already free: the owner word is 0.
+    AlreadyFree,
+    /// A release found its lock another's: the owner word is neither 0 nor its own worker + 1. It may name no worker at
+    /// all, in an image that something else changed.
+    Others,
 }
 
 /// How a run ends.
@@ -31,6 +47,10 @@ pub struct Tally {
     pub waits: u64,
     /// The words stored.
     pub stores: u64,
+    /// The turns that passed with [`Passing::AlreadyFree`]; they are in `turns` too.
+    pub already_free: u64,
+    /// The turns that passed with [`Passing::Others`]; they are in `turns` too.
+    pub others: u64,
 }
 
 /// A run that was not refused.

@@ -24,7 +24,7 @@
 //! # Ok::<(), zilpanud::Refusal>(())
 //! ```
 
-use crate::{raw, Cursors, End, Refusal, RefusedRun, Run, Tally, Turn};
+use crate::{raw, Cursors, End, Passing, Refusal, RefusedRun, Run, Tally, Turn};
 
 /// More stores than any list of calls makes: a call that is given so many is not cut.
 pub const ENOUGH: u64 = u64::MAX;
@@ -81,6 +81,19 @@ pub fn submit(
     done(answer, detail)
 }
 
+/// What the two numbers of a turn say.
+fn turned(answer: u64, detail: u64) -> Result<Turn, Refusal> {
+    match (answer, detail) {
+        (16, index) => Ok(Turn::Stored(index as usize)),
+        (17, 0) => Ok(Turn::Passed(Passing::Jump)),
+        (17, 1) => Ok(Turn::Passed(Passing::AlreadyFree)),
+        (17, 2) => Ok(Turn::Passed(Passing::Others)),
+        (18, lock) => Ok(Turn::Waiting(lock as usize)),
+        (19, _) => Ok(Turn::Idle),
+        _ => Err(Refusal::of(answer, detail)),
+    }
+}
+
 /// [`turn`](crate::turn).
 pub fn turn(
     image: &mut [u64],
@@ -93,25 +106,19 @@ pub fn turn(
     let (words, len) = (image.as_mut_ptr(), image.len());
     // SAFETY: as in `format`.
     let answer = unsafe { raw::zilpanud_turn(words, len, step, turn, worker, left, &mut detail) };
-    match answer {
-        16 => Ok(Turn::Stored(detail as usize)),
-        17 => Ok(Turn::Passed),
-        18 => Ok(Turn::Waiting(detail as usize)),
-        19 => Ok(Turn::Idle),
-        _ => Err(Refusal::of(answer, detail)),
-    }
+    turned(answer, detail)
 }
 
 /// [`run`](crate::run).
 pub fn run(image: &mut [u64], cursors: &mut Cursors, rounds: u16, left: &mut u64) -> Result<Run, RefusedRun> {
     let mut detail = 0;
-    let mut counts = [0; 3];
+    let mut counts = [0; 5];
     let (step, turn) = (&mut cursors.step, &mut cursors.turn);
     let (words, len) = (image.as_mut_ptr(), image.len());
     // SAFETY: as in `format`.
     let answer = unsafe { raw::zilpanud_run(words, len, step, turn, rounds, &mut counts, left, &mut detail) };
-    let [turns, waits, stores] = counts;
-    let tally = Tally { turns, waits, stores };
+    let [turns, waits, stores, already_free, others] = counts;
+    let tally = Tally { turns, waits, stores, already_free, others };
     match answer {
         0 => Ok(Run { end: End::AllIdle, tally }),
         20 => Ok(Run { end: End::Spent, tally }),
@@ -127,4 +134,17 @@ pub fn recover(image: &mut [u64], cursors: &mut Cursors, left: &mut u64) -> Resu
     // SAFETY: as in `format`.
     let answer = unsafe { raw::zilpanud_recover(words, len, step, turn, left, &mut detail) };
     done(answer, detail)
+}
+
+#[cfg(test)]
+mod tests {
+    use super::*;
+    use crate::Cause;
+
+    #[test]
+    fn a_turn_that_passed_for_no_known_reason_is_unknown() {
+        for detail in [3, 4, 1 << 32, u64::MAX] {
+            assert_eq!(turned(17, detail), Err(Refusal(Cause::Unknown { answer: 17 })));
+        }
+    }
 }

@@ -72,7 +72,7 @@ pub mod cut;
 mod raw;
 mod refusal;
 
-pub use answers::{Cursors, End, Run, Standing, Tally, Turn};
+pub use answers::{Cursors, End, Passing, Run, Standing, Tally, Turn};
 #[cfg(all(unix, target_pointer_width = "64"))]
 pub use board::{Board, BoardError};
 pub use calls::{check, finished, format, is_idle, recover, run, standing, submit, turn};
@@ -89,7 +89,7 @@ pub const CELLS: usize = 512;
 pub const LOCKS: usize = 64;
 
 /// The version of the library that this crate was written for, as [`version`] says it.
-pub const VERSION: u64 = 1_000;
+pub const VERSION: u64 = 2_000;
 
 /// The version of the library that is linked: 1,000,000 × major + 1,000 × minor + patch.
 pub fn version() -> u64 {

@@ -44,7 +44,7 @@ unsafe extern "C" {
         step: *mut [u8; 8],
         turn: *mut [u8; 8],
         rounds: u16,
-        tally: *mut [u64; 3],
+        tally: *mut [u64; 5],
         left: *mut u64,
         detail: *mut u64,
     ) -> u64;

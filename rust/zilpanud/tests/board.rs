@@ -43,7 +43,7 @@ fn a_section_from_submit_to_finish() {
     assert_eq!((board.is_idle(1), board.owner(3)), (Ok(false), Some(1)));
     assert_eq!(board.run(3).unwrap().end, End::Spent);
     assert_eq!(board.standing(1, 4), Ok(Standing::Begun));
-    let tally = Tally { turns: 14, waits: 0, stores: 14 };
+    let tally = Tally { turns: 14, waits: 0, stores: 14, already_free: 0, others: 0 };
     assert_eq!(board.run_to_idle(), Ok(Run { end: End::AllIdle, tally }));
     assert_eq!((board.is_idle(1), board.owner(3), board.cell(24)), (Ok(true), None, Some(5)));
     assert_eq!((board.finished(1), board.standing(1, 4)), (Ok(4), Ok(Standing::Finished)));

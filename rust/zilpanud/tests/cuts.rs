@@ -4,7 +4,7 @@ mod common;
 
 use common::{World, CELL_24, COUNT, LOCK_3, NUMBER, OWN, STEPS, TICKET};
 use zilpanud::cut::{self, ENOUGH};
-use zilpanud::{Cursors, End, Turn};
+use zilpanud::{Cursors, End, Passing, Turn};
 
 /// The turns that a recovery and a run to the end make.
 fn carried_on(world: &mut World) -> u64 {
@@ -57,7 +57,7 @@ fn after_15_the_second_turn_passes() {
     let mut world = World::after_turns(15);
     world.recover().unwrap();
     let answers: Vec<Turn> = (0..6).map(|_| world.turn(0).unwrap()).collect();
-    assert_eq!(answers[1], Turn::Passed);
+    assert_eq!(answers[1], Turn::Passed(Passing::AlreadyFree));
     let stored = |a: &&Turn| matches!(a, Turn::Stored(_));
     assert_eq!(answers.iter().filter(stored).count(), 5);
     assert_eq!(world.turn(0), Ok(Turn::Idle));

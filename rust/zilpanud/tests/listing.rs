@@ -66,7 +66,7 @@ fn recovery_makes_no_further_store() {
 #[test]
 fn uncut_it_takes_19_turns() {
     let mut world = World::after_turns(0);
-    let tally = Tally { turns: 19, waits: 0, stores: 19 };
+    let tally = Tally { turns: 19, waits: 0, stores: 19, already_free: 0, others: 0 };
     assert_eq!(world.run(19), Ok(Run { end: End::AllIdle, tally }));
     assert_eq!(world.image[CELL_24], 5);
     assert_eq!(world.image[LOCK_3], 0);
@@ -96,7 +96,7 @@ fn a_second_worker_waits() {
     let run = world.run(768);
     // 17 and 18 turns are left, and worker 1 waits in every round up to the one in which worker 0, whose turns come
     // first, makes its 15th turn and frees the lock: rounds 1 to 12.
-    let tally = Tally { turns: 17 + 18 + 12, waits: 12, stores: 17 + 18 };
+    let tally = Tally { turns: 17 + 18 + 12, waits: 12, stores: 17 + 18, already_free: 0, others: 0 };
     assert_eq!(run, Ok(Run { end: End::AllIdle, tally }));
 }
 

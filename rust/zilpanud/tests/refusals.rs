@@ -212,12 +212,12 @@ fn cause_11_in_a_run() {
     let mut world = World::formatted(2);
     world.submit(0, 1, &TICKET).unwrap();
     world.at.turn[1] = 0;
-    let one = Tally { turns: 1, waits: 0, stores: 1 };
+    let one = Tally { turns: 1, waits: 0, stores: 1, already_free: 0, others: 0 };
     assert_eq!(world.run(9), refused_run(Cause::Cursor { worker: 1 }, one));
     assert_eq!(world.at.turn[0], 1);
     // an idle worker 1 with the same record would have ended the run
     world.at.turn[1] = 255;
-    let tally = Tally { turns: 18, waits: 0, stores: 18 };
+    let tally = Tally { turns: 18, waits: 0, stores: 18, already_free: 0, others: 0 };
     assert_eq!(world.run(18), Ok(Run { end: End::AllIdle, tally }));
 }
 

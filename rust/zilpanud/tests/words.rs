@@ -72,7 +72,8 @@ fn refusals_say_what_is_wrong() {
 #[test]
 fn a_refused_run_says_what_was_made() {
     let refusal = Refusal(Cause::Cursor { worker: 6 });
-    let run = RefusedRun { refusal, tally: Tally { turns: 41, waits: 2, stores: 30 } };
+    let tally = Tally { turns: 41, waits: 2, stores: 30, already_free: 3, others: 1 };
+    let run = RefusedRun { refusal, tally };
     assert_eq!(run.to_string(), format!("{refusal} (41 turns were made before it)"));
     assert_eq!(run.source().unwrap().to_string(), refusal.to_string());
     assert_eq!(Refusal::from(run), refusal);

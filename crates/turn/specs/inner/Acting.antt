@@ -9,7 +9,7 @@ use Rattle.working.specs.Cursor.{setAt}
 use Rattle.working.specs.World.{World, world}
 use Rattle.log.specs.declared.Plan.{Plan}
 use Rattle.log.specs.declared.Plan.the-variants.{Store, Pass, Wait}
-use Rattle.plan.specs.Turn.{Outcome, stored, jumped, unheld, waiting, resting, refused, ready}
+use Rattle.plan.specs.Turn.{Outcome, stored, passed, waiting, resting, refused, ready}
 use Rattle.plan.specs.inner.Plan.{planOf}
 use Rattle.turn.specs.declared.Gate.{Gate}
 use Rattle.turn.specs.declared.Gate.the-variants.{Refused as GateRefused, Idle, Open}
@@ -22,17 +22,17 @@ use Rattle.turn.specs.Call.{leaves, outcomeAt}
 -- what the turn of a plan did
 abbrev pub planDid : Plan → Did
 planDid (Store i v s t) = DidStore i
-planDid (Pass s t) = DidPass
+planDid (Pass why s t) = DidPass why
 planDid (Wait b) = DidWait b
 
 abbrev pub didAnswer : Did → Answer
 didAnswer (DidStore i) = Stored i
-didAnswer DidPass = Passed
+didAnswer (DidPass why) = Passed why
 didAnswer (DidWait b) = Waiting b
 
 abbrev pub planLeaves : World → ℕ → Plan → World
 planLeaves w d (Store i v s t) = world (put (w .left) (w .image) i v) (setAt (w .cursors) d s t) (w .left - 1)
-planLeaves w d (Pass s t) = world (w .image) (setAt (w .cursors) d s t) (w .left)
+planLeaves w d (Pass why s t) = world (w .image) (setAt (w .cursors) d s t) (w .left)
 planLeaves w d (Wait b) = w
 
 -- worker d's turn did this, and left that world
@@ -49,8 +49,7 @@ tested n m c d = ready n (at n m) d (getD (c .step) d 0) (getD (c .turn) d 0)
 -- what they say of an outcome
 abbrev pub gateOf : Outcome → Gate
 gateOf (stored p v c) = Open
-gateOf (jumped c) = Open
-gateOf (unheld c) = Open
+gateOf (passed why c) = Open
 gateOf (waiting b) = Open
 gateOf resting = Idle
 gateOf (refused r) = GateRefused r

@@ -1,10 +1,8 @@
--- `plan::steps::unlock_turn` meets its contract: the lock is the worker's, or nothing is stored.
-use Prim.Native.Nat.{_+_}
-use native.Mathlib.Omega.{arith}
-use borrow.Author.Tests.{eq-eqb, ne-eqb}
+-- `plan::steps::unlock_turn` meets its contract: an arm a report.
 use borrow.Author.Needs.{needs}
 use denote.Ref.{now}
 use Rattle.image.proofs.Stores.{inside-front}
+use mathlib.Core.Path.{_∙_, sym}
 use Rattle.plan.proofs.steps.unlock_turn.Statement.{statement}
 use Rattle.plan.proofs.steps.unlock_turn.Tie as tie
 
@@ -14,24 +12,52 @@ read-lock-requires c κs =
     let A = S .args in
     (S .pre .1, inside-front (A .own) (now (A .image)) (A .d) (S .pre .0))
 
-add-if1 : tie.Need-add-if1
-add-if1 c = search needs
+report-requires : tie.Need-report-requires
+report-requires c κs = search needs
 
-returns : tie.Need-returns
-returns c =
-    let r = c .before .read-lock in
-    let A = c .before .before .before .args in
-    simp (← r .ensures (A .own), ne-eqb (r .result) (A .d + 1) (omega arith))
+enum-told : tie.Need-enum-told
+enum-told c = search needs
 
 lock-index-requires : tie.Need-lock-index-requires
 lock-index-requires c κs = search needs
 
+enum-told-2 : tie.Need-enum-told-2
+enum-told-2 c = search needs
+
+enum-told-3 : tie.Need-enum-told-3
+enum-told-3 c = search needs
+
+returns : tie.Need-returns
+returns c =
+    let u = c .before .before .before in
+    let A = u .before .before .before .args in
+    let e = sym (u .report .ensures) ∙ c .before .enum-told .given .1 in
+    rw (← u .before .read-lock .ensures (A .own), e, ← c .lock-index .ensures (A .own))
+
 returns-2 : tie.Need-returns-2
 returns-2 c =
-    let r = c .before .before .read-lock in
-    let A = c .before .before .before .before .args in
-    simp (← r .ensures (A .own), eq-eqb (r .result) (A .d + 1) (omega arith), ← c .lock-index .ensures (A .own))
+    let u = c .before .before in
+    let A = u .before .before .before .args in
+    let e = sym (u .report .ensures) ∙ c .enum-told2 .given .1 in
+    rw (← u .before .read-lock .ensures (A .own), e)
+
+returns-3 : tie.Need-returns-3
+returns-3 c =
+    let u = c .before .before in
+    let A = u .before .before .before .args in
+    let e = sym (u .report .ensures) ∙ c .enum-told3 .given .1 in
+    rw (← u .before .read-lock .ensures (A .own), e)
 
 pub unlock-turn-spec : {M : Type 1} → statement M
 unlock-turn-spec =
-    tie.close (tie.spec read-lock-requires add-if1 returns lock-index-requires returns-2)
+    tie.close
+    (tie.spec
+    read-lock-requires
+    report-requires
+    enum-told
+    lock-index-requires
+    enum-told-2
+    enum-told-3
+    returns
+    returns-2
+    returns-3)

@@ -25,7 +25,7 @@ impl Told {
         match self {
             Told::Done | Told::Taken => [0; 3],
             Told::Turned(Answer::Stored(i)) => [1, 0, i as u64],
-            Told::Turned(Answer::Passed) => [2, 0, 0],
+            Told::Turned(Answer::Passed(how)) => [2, 0, how as u64],
             Told::Turned(Answer::Waiting(bay)) => [3, 0, bay as u64],
             Told::Turned(Answer::Idle) => [4, 0, 0],
             Told::Ran(End::Idle) => [5, 0, 0],
@@ -38,7 +38,9 @@ impl Told {
             Told::Done => "done".into(),
             Told::Taken => "taken".into(),
             Told::Turned(Answer::Stored(i)) => word(w, i),
-            Told::Turned(Answer::Passed) => "passed".into(),
+            Told::Turned(Answer::Passed(Passing::Jump)) => "passed".into(),
+            Told::Turned(Answer::Passed(Passing::AlreadyFree)) => "passed already-free".into(),
+            Told::Turned(Answer::Passed(Passing::Others)) => "passed anothers".into(),
             Told::Turned(Answer::Waiting(bay)) => format!("waiting {bay}"),
             Told::Turned(Answer::Idle) | Told::Ran(End::Idle) => "idle".into(),
             Told::Ran(End::Spent) => "spent".into(),
@@ -52,7 +54,7 @@ pub fn word(w: &[u64], i: usize) -> String {
 }
 
 pub fn tally(t: &Tally) -> String {
-    format!("tally {} {} {}", t.turns, t.waits, t.stores)
+    format!("tally {} {} {} {} {}", t.turns, t.waits, t.stores, t.already_free, t.others)
 }
 
 #[derive(Clone, Copy)]

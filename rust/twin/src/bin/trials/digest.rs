@@ -31,6 +31,8 @@ impl<'a> Digest<'a> {
         self.word(m.tally.turns);
         self.word(m.tally.waits);
         self.word(m.tally.stores);
+        self.word(m.tally.already_free);
+        self.word(m.tally.others);
     }
     /// An uncut call, with the stores left of the highest number, and the image after it.
     pub fn call(&mut self, m: &Made, left: u64, w: &[u64]) {
