@@ -49,7 +49,7 @@ module _ (mark n : ℕ) where
   swept-agrees more resting w x s y e h = h
   swept-agrees more (refused r) w x s y e h = e
 
-  turned-agrees : (w : Traced) (s : Counting) (d : ℕ) → w .world ≡ s .world → turnedAt mark n w d .world ≡ turned n s d .world
+  pub turned-agrees : (w : Traced) (s : Counting) (d : ℕ) → w .world ≡ s .world → turnedAt mark n w d .world ≡ turned n s d .world
   unfolding turnedAt turned
   turned-agrees w s d e = ap (λ (v : World). leaves n v d (outcomeAt n v d)) e
 

@@ -5,6 +5,7 @@ use Rattle.claims.specs.Claims.{FormattedRests, DurableAlways, Linearizable, Ru
 use Rattle.told.specs.Once.{OnceAlways, ToldAlways, AskedAlways, BegunFinishes, ThroughAlways, RetriedAlways, ExactlyOnce}
 use Rattle.told.specs.Moments.{UntouchedAlways}
 use Rattle.told.specs.Reports.{ReportsExplained, ReleasesFree}
+use Rattle.told.specs.Tallies.{RunsTallied}
 use Rattle.told.specs.Enough.{EnoughIsWhole}
 use Rattle.claims.proofs.Durable.{durable-always, formatted-rests}
 use Rattle.claims.proofs.Linear.{linearizable}
@@ -12,6 +13,7 @@ use Rattle.told.proofs.RunTurns as run-turns
 use Rattle.told.proofs.EveryOrder.{every-order-had}
 use Rattle.told.proofs.Untouched.{untouched-always}
 use Rattle.told.proofs.Reports.{reports-explained, releases-free}
+use Rattle.told.proofs.Tallies.{runs-tallied}
 use Rattle.told.proofs.Enough.{enough-is-whole}
 use Rattle.told.proofs.Once.{admitted-always, once-always, told-always, asked-always}
 use Rattle.told.proofs.Finishes.{begun-finishes}
@@ -35,6 +37,10 @@ orders-had = every-order-had mark ownWords (omega arith) (omega arith)
 -- a run is turns
 pub runs-are-turns : RunsAreTurns mark ownWords
 runs-are-turns = run-turns.runs-are-turns mark ownWords
+
+-- and its tally is the sum over them
+pub tallies-are-sums : RunsTallied mark ownWords
+tallies-are-sums = runs-tallied mark ownWords
 
 -- ---- demand 3
 

@@ -42,6 +42,8 @@ pub mod OrderFeed
 pub mod EveryOrder
 -- Agreement: the calls that the claims speak of have the effects that the functions' contracts speak of.
 pub mod Agreement
+-- The tally of a run is the sum over its turns.
+pub mod Tallies
 -- document 01's worked rows
 pub mod Worked
 -- the demands at the edition that the entry points serve

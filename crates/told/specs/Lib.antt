@@ -2,5 +2,6 @@ pub mod Readings
 pub mod Once
 pub mod Moments
 pub mod Reports
+pub mod Tallies
 pub mod Enough
 pub mod Examples
