@@ -28,7 +28,7 @@ use Rattle.plan.specs.declared.Report.{Report}
 use Rattle.plan.specs.declared.Report.the-variants.{Freed, AlreadyFree, Others}
 use Rattle.plan.specs.Report.{reportOf}
 use Rattle.plan.specs.Turn.{stored, unlockBy, opTurn, turnAt}
-use Rattle.plan.proofs.Reports.{Found, found}
+use Rattle.plan.proofs.Outcomes.{Found, found}
 use Rattle.owed.specs.Owed.{targetOf}
 use Rattle.resuming.specs.Resumed.{targetTurn}
 use Rattle.claims.specs.Reference.{Given}

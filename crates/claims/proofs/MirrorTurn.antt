@@ -21,7 +21,7 @@ use Rattle.working.specs.Cursor.{Cursor, idle, on}
 use Rattle.log.specs.Log.{operand, wordIn, spareAddr, spareVal, activeVal, switched}
 use Rattle.plan.specs.Turn.{Outcome, stored, passed, waiting, resting, refused, logged}
 use Rattle.plan.specs.Turn.{lockTurn, unlockTurn, acquireTurn, releaseTurn, finishTurn, turnAt}
-use Rattle.plan.proofs.Reports.{unlock-either}
+use Rattle.plan.proofs.Outcomes.{unlock-either}
 use Rattle.owed.specs.Owed.{targetOf}
 use Rattle.resuming.specs.Resumed.{targetTurn}
 use Rattle.claims.specs.Reference.{Given, Job, State, follow, enqueue, initial}

@@ -60,6 +60,12 @@ ends-append b [] ys = refl
 ends-append b (whole c ∷ xs) ys = ends-append false xs ys
 ends-append b (cut k c ∷ xs) ys = ends-append true xs ys
 
+pub plain-legal : (xs : List Move) → plain xs ≡ true → legal false xs ≡ true
+unfolding plain legal
+plain-legal [] h = refl
+plain-legal (whole c ∷ xs) h = plain-legal xs (and-right (not (recovering c)) (plain xs) h)
+plain-legal (cut k c ∷ xs) h = absurd (false≢true h)
+
 pub plain-uncut : (xs : List Move) → plain xs ≡ true → endsCut false xs ≡ false
 unfolding plain endsCut
 plain-uncut [] h = refl

@@ -18,7 +18,7 @@ use Rattle.working.specs.declared.Refusal.the-variants.{Cursor as CursorRefused
 use Rattle.log.specs.Log.{operand, codeIn}
 use Rattle.plan.specs.Turn.{Outcome, stored, passed, waiting, resting, refused, logged, lockTurn, unlockTurn, acquireTurn, releaseTurn}
 use Rattle.plan.specs.Turn.{finishTurn, opTurn, ready, turnAt}
-use Rattle.plan.proofs.Reports.{unlock-either}
+use Rattle.plan.proofs.Outcomes.{unlock-either}
 use Rattle.resuming.specs.Resumed.{targetTurn}
 use Rattle.claims.specs.Reference.{Given}
 use Rattle.claims.specs.Calls.{isPc}

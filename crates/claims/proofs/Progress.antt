@@ -5,7 +5,7 @@
 use Prim.Native.Nat.{ℕ, suc, zero, _+_, _*_, _-_, _<_, _≤_}
 use mathlib.Core.Path.{_≡_, refl, ap, subst, _∙_, sym}
 use mathlib.Core.Logic.{_≢_}
-use mathlib.Core.Bool.{Bool, true, false, cond, and-false, true≢false}
+use mathlib.Core.Bool.{Bool, true, false, and-false, true≢false}
 use lib.Dec.{ltb, eqb}
 use borrow.Author.Tests.{ne-eqb}
 use native.Mathlib.Omega.{arith}
@@ -21,7 +21,7 @@ use Rattle.code.specs.Op.{opOf}
 use Rattle.working.specs.Cursor.{Cursor, idle, on, isIdle}
 use Rattle.log.specs.Log.{codeIn}
 use Rattle.plan.specs.Turn.{Outcome, stored, passed, waiting, resting, refused, logged, acquireTurn, finishTurn, opTurn, ready, turnAt}
-use Rattle.plan.proofs.Reports.{unlock-either}
+use Rattle.plan.proofs.Outcomes.{either, unlock-either}
 use Rattle.claims.specs.Reference.{Given}
 use Rattle.claims.specs.Events.{but}
 use Rattle.claims.proofs.Invariant.{Phase, resting as atRest, fresh, due, unlocking, unlocked, between, ended, Live}
@@ -201,14 +201,12 @@ private-logged n rd d s t p v c (suc zero) = refl
 private-logged n rd d s t p v c (suc (suc zero)) = refl
 private-logged n rd d s t p v c (suc (suc (suc j))) = refl
 
--- one of two outcomes
-private-either : (b : Bool) (x y : Outcome) → isResting x ≡ false → isResting y ≡ false → isResting (cond b x y) ≡ false
-private-either true x y p q = p
-private-either false x y p q = q
+abbrev Active : Outcome → Type 0
+Active o = isResting o ≡ false
 
 private-acquire : (n : ℕ) (rd : Memory) (d a s t : ℕ) → isResting (acquireTurn n rd d a s t) ≡ false
 private-acquire n rd d a s zero = refl
-private-acquire n rd d a s (suc zero) = private-either (eqb (rd (lock a)) 0) _ _ refl refl
+private-acquire n rd d a s (suc zero) = either Active (eqb (rd (lock a)) 0) _ _ (λ e. refl) (λ e. refl)
 private-acquire n rd d a s (suc (suc j)) = private-logged n rd d s _ _ _ _ j
 
 private-finish : (n : ℕ) (rd : Memory) (d s t : ℕ) → isResting (finishTurn n rd d s t) ≡ false
@@ -219,8 +217,8 @@ private-finish n rd d s (suc (suc t)) = refl
 private-op : (n : ℕ) (rd : Memory) (d s t : ℕ) (x : Op) → isResting (opTurn n rd d s t x) ≡ false
 private-op n rd d s t (Acquire a) = private-acquire n rd d a s t
 private-op n rd d s t (Release a) =
-    private-either (ltb t 4) _ _ (private-logged n rd d s t _ _ _ t)
-    (private-either (eqb t 4) _ _ (unlock-either n rd d a s (λ (o : Outcome). isResting o ≡ false) refl (λ why. refl)) refl)
+    either Active (ltb t 4) _ _ (λ e. private-logged n rd d s t _ _ _ t)
+    (λ e. either Active (eqb t 4) _ _ (λ f. unlock-either n rd d a s Active refl (λ why. refl)) (λ f. refl))
 private-op n rd d s t (Assign a e) = private-logged n rd d s t _ _ _ t
 private-op n rd d s t (Jump a b) = refl
 private-op n rd d s t Finish = private-finish n rd d s t
@@ -230,7 +228,7 @@ private-op n rd d s t Unknown = refl
 pub open-acts : (n : ℕ) (rd : Memory) (d : ℕ) (c : Cursor) → isResting (turnAt n rd d c) ≡ isIdle c
 unfolding turnAt
 open-acts n rd d idle = refl
-open-acts n rd d (on s t) = private-either (ready n rd d s t) _ _ (private-op n rd d s t (opOf (codeIn n rd d s))) refl
+open-acts n rd d (on s t) = either Active (ready n rd d s t) _ _ (λ e. private-op n rd d s t (opOf (codeIn n rd d s))) (λ e. refl)
 
 private-moves : (n : ℕ) (rd : Memory) (d : ℕ) (g : Given) (locks j : ℕ) (o : Outcome) → isResting o ≡ false → isWaiting o ≡ false → Stepped n rd d g locks j o
     → isMoving o ≡ true

@@ -26,7 +26,7 @@ use Rattle.log.specs.Log.{operand, codeIn, wordIn, second, spareAddr, spareVal}
 use Rattle.plan.specs.Turn.{Outcome, stored, passed, waiting, resting, refused, logged}
 use Rattle.plan.specs.Turn.{acquireTurn, unlockTurn, releaseTurn, finishTurn, opTurn, ready, turnAt}
 use Rattle.log.specs.declared.Passing.the-variants.{Jump as PassedJump}
-use Rattle.plan.proofs.Reports.{unlock-either}
+use Rattle.plan.proofs.Outcomes.{unlock-either}
 
 -- ---- the turns of steps
 

@@ -78,7 +78,7 @@ pub record Resting (rd : Memory) (d l j : ℕ) : Type 0 where
   pub locks : l ≡ 0
   pub jumps : j ≡ 0
 
-on-not-idle : (s t : ℕ) → on s t ≡ idle → ⊥
+pub on-not-idle : (s t : ℕ) → on s t ≡ idle → ⊥
 on-not-idle s t e = let z : _≡_ {A = ℕ} 0 1 = cc in omega arith
 
 pub idle-rests : (n : ℕ) (rd : Memory) (d : ℕ) (g : Given) (c : Cursor) (locks j : ℕ) → Phase n rd d g c locks j → c ≡ idle → Resting rd d locks j

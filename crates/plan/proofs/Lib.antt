@@ -1,2 +1,2 @@
+pub mod Outcomes
 pub mod Planned
-pub mod Reports

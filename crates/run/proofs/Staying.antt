@@ -35,7 +35,7 @@ use Rattle.turn.specs.inner.Acting.{tested}
 use Rattle.turn.specs.Call.{leaves, outcomeAt}
 use Rattle.working.proofs.Placed.{on-is}
 use Rattle.plan.proofs.Planned.{ready-says, ready-turn}
-use Rattle.plan.proofs.Reports.{unlock-either}
+use Rattle.plan.proofs.Outcomes.{either, unlock-either}
 use Rattle.working.proofs.Placed.{Full, open-turn}
 
 -- ---- where a turn of an instruction with k turns goes, from step s
@@ -90,10 +90,6 @@ turns-cond s k true x y p q = p
 turns-cond s k false x y p q = q
 
 module _ (D n : ℕ) (rd : Memory) (d : ℕ) (h : d < D) (s : ℕ) where
-  goes-cond : (k : ℕ) (b : Bool) (x y : Outcome) → Goes D n d s k x → Goes D n d s k y → Goes D n d s k (cond b x y)
-  goes-cond k true x y p q = p
-  goes-cond k false x y p q = q
-
   goes-logged : (k t : ℕ) (p : Place) (v : ℕ) (next : Cursor) (j : ℕ) → Spares D n p → Turns s k next → (j < 3 → t + 1 < k)
       → Goes D n d s k (logged n rd d s t p v next j)
   unfolding spareAddr spareVal
@@ -106,17 +102,18 @@ module _ (D n : ℕ) (rd : Memory) (d : ℕ) (h : d < D) (s : ℕ) where
 
   goes-acquire : (a t : ℕ) → a < 64 → t < 6 → Goes D n d s 6 (acquireTurn n rd d a s t)
   goes-acquire a zero f l = stores _ _ _ (quiet-field D n Intent d h refl) (same-turn s 6 1 (omega arith))
-  goes-acquire a (suc zero) f l = goes-cond 6 (eqb (rd (lock a)) 0) _ _ (stores _ _ _ (quiet-lock D n a f) (same-turn s 6 2 (omega arith))) (waits a)
+  goes-acquire a (suc zero) f l =
+      either (Goes D n d s 6) (eqb (rd (lock a)) 0) _ _ (λ e. stores _ _ _ (quiet-lock D n a f) (same-turn s 6 2 (omega arith))) (λ e. waits a)
   goes-acquire a (suc (suc j)) f l = goes-logged 6 (suc (suc j)) _ _ _ j (quiet-field D n Owned d h refl) (first-turn s 6 (s + 1)) (λ m. omega arith)
 
   goes-release : (a t : ℕ) → a < 64 → t < 6 → Goes D n d s 6 (opTurn n rd d s t (Release a))
   goes-release a t f l =
-      goes-cond 6 (ltb t 4) _ _
-      (goes-logged 6 t _ _ _ t (quiet-field D n Owned d h refl) (same-turn s 6 4 (omega arith)) (λ m. omega arith))
-      (goes-cond 6 (eqb t 4) _ _
-      (unlock-either n rd d a s (Goes D n d s 6) (stores _ _ _ (quiet-lock D n a f) (same-turn s 6 5 (omega arith)))
+      either (Goes D n d s 6) (ltb t 4) _ _
+      (λ e. goes-logged 6 t _ _ _ t (quiet-field D n Owned d h refl) (same-turn s 6 4 (omega arith)) (λ m. omega arith))
+      (λ e. either (Goes D n d s 6) (eqb t 4) _ _
+      (λ g. unlock-either n rd d a s (Goes D n d s 6) (stores _ _ _ (quiet-lock D n a f) (same-turn s 6 5 (omega arith)))
       (λ why. passes why _ (same-turn s 6 5 (omega arith))))
-      (stores _ _ _ (quiet-field D n Intent d h refl) (first-turn s 6 (s + 1))))
+      (λ g. stores _ _ _ (quiet-field D n Intent d h refl) (first-turn s 6 (s + 1))))
 
   goes-finish : (t : ℕ) → t < 3 → Goes D n d s 3 (finishTurn n rd d s t)
   goes-finish zero l = stores _ _ _ (quiet-field D n Finished d h refl) (same-turn s 3 1 (omega arith))

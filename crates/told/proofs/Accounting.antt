@@ -33,6 +33,7 @@ use Rattle.claims.proofs.Entries.{apart-of}
 use Rattle.claims.proofs.LiveTurn.{but-same, but-other}
 use Rattle.claims.proofs.Worlds.{Running}
 use Rattle.claims.proofs.Settling.{steps}
+use Rattle.claims.proofs.Submitting.{on-not-idle}
 use Rattle.claims.proofs.Cursors.{idle-at}
 use Rattle.claims.proofs.Submission.{Aside}
 use Rattle.claims.proofs.Called.{TakenAs}
@@ -46,7 +47,7 @@ use Rattle.told.proofs.Resuming.{Onto, Onward, turn-onward, same-step, 
 
 -- ---- what concerns a worker
 
-concerning-append : (d : ℕ) (xs ys : List Event) → concerning d (xs ++ ys) ≡ concerning d xs ++ concerning d ys
+pub concerning-append : (d : ℕ) (xs ys : List Event) → concerning d (xs ++ ys) ≡ concerning d xs ++ concerning d ys
 concerning-append d [] ys = refl
 concerning-append d (x ∷ xs) ys = by (concerns d x) (concerning d (xs ++ ys)) (concerning d xs) (concerning-append d xs ys)
   where
@@ -96,7 +97,7 @@ module _ (mark n : ℕ) (w : Traced) (d : ℕ) where
   own-store e i false true true s = rw (ne-eqb d e (λ q. i (sym q)))
   own-store e i false true false s = rw (ne-eqb d e (λ q. i (sym q)))
 
-  own-by : (o : Outcome) → Own d (eventsBy o)
+  pub own-by : (o : Outcome) → Own d (eventsBy o)
   own-by (stored p v c) e i = own-store e i (eqb (w .world .left) 0) (isPc p) (eqb v 0) (stepOf mark n w d)
   own-by (passed why c) e i = rw (ne-eqb d e (λ q. i (sym q)))
   own-by (waiting b) e i = rw (ne-eqb d e (λ q. i (sym q)))
@@ -163,9 +164,6 @@ touch-intent n rd d locks _ _ _ (frees a b z) e i = refl
 
 -- ---- its own turn
 
-idle-on : {s t : ℕ} → idle ≡ on s t → ⊥
-idle-on e = let z : _≡_ {A = ℕ} 0 1 = cc in omega arith
-
 module _ (mark n D : ℕ) (cells : List ℕ) (w : Traced) (d : ℕ) (r : Running mark n D cells w) (dl : d < D) where
   abbrev rd : Memory
   rd = at n (w .world .image)
@@ -192,12 +190,12 @@ module _ (mark n D : ℕ) (cells : List ℕ) (w : Traced) (d : ℕ) (r : Running
         → ((a : ℕ) → opAt n rd d k ≡ Release a → t < 4 → rd′ (field Intent d) ≡ rd (field Intent d))
         → ((a : ℕ) → opAt n rd d k ≡ Release a → t ≡ 3 → concerning d more ≡ moved d k ∷ [])
         → (c : Cursor) → Onto k t c → AccountedAt n rd′ d c (es ++ more)
-    goes-on rd′ more code intent own idle u = record { target = λ s a e o. absurd (idle-on e); lock = λ s a e o. absurd (idle-on e) }
+    goes-on rd′ more code intent own idle u = record { target = λ s a e o. absurd (on-not-idle s _ (sym e)); lock = λ s a e o. absurd (on-not-idle s _ (sym e)) }
     goes-on rd′ more code intent own (on i j) u = record { target = to-target; lock = to-lock }
       where
         to-target : (s a : ℕ) → on i j ≡ on s 3 → opAt n rd′ d s ≡ Release a → Intact n rd′ d s ⊎ SinceLoss d [] (es ++ more)
         to-target s a e o =
-            let (f, g) = same-step n rd d (w .trace .last d) e in
+            let (f, g) = same-step e in
             let (h, m) = u (λ z. omega arith) in
             let here : s ≡ k = sym f ∙ h in
             let old = op-same n rd rd′ d code s a o in
@@ -206,7 +204,7 @@ module _ (mark n D : ℕ) (cells : List ℕ) (w : Traced) (d : ℕ) (r : Running
 
         to-lock : (s a : ℕ) → on i j ≡ on s 4 → opAt n rd′ d s ≡ Release a → Intact n rd′ d s ⊎ SinceLoss d (moved d s ∷ []) (es ++ more)
         to-lock s a e o =
-            let (f, g) = same-step n rd d (w .trace .last d) e in
+            let (f, g) = same-step e in
             let (h, m) = u (λ z. omega arith) in
             let here : s ≡ k = sym f ∙ h in
             let three : t ≡ 3 = omega arith in
@@ -282,7 +280,7 @@ unfolding resumed
 resumed-other n rd d s e = by (eqb (rd (field Pc d)) 0) e
   where
     by : (b : Bool) → cond b idle (on (namedStep n rd d) (targetTurn (namedOp n rd d))) ≡ on s 4 → ⊥
-    by true q = idle-on q
+    by true q = on-not-idle s 4 (sym q)
     by false q = target-other (namedOp n rd d) (ap turnNo q)
 
 module _ (mark n D : ℕ) (cells : List ℕ) where
@@ -338,7 +336,7 @@ module _ (mark n D : ℕ) (cells : List ℕ) where
   pub idle-accounted : (m : Image) → Accounted (from m)
   idle-accounted m e l =
       let none = idle-at e in
-      record { target = λ s a q o. absurd (idle-on (sym none ∙ q)); lock = λ s a q o. absurd (idle-on (sym none ∙ q)) }
+      record { target = λ s a q o. absurd (on-not-idle s _ (sym q ∙ none)); lock = λ s a q o. absurd (on-not-idle s _ (sym q ∙ none)) }
 
   -- of what a cut leaves nothing need be known
   pub accounted-keeps : 8 ≤ n → (A : Move → Image → Type 0) → Keeps mark n D cells Accounted (λ (w : Traced). Unit {0}) A

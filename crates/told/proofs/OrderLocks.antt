@@ -26,7 +26,7 @@ use Rattle.working.specs.Cursor.{Cursor, on, cursorAt}
 use Rattle.log.specs.Log.{codeIn}
 use Rattle.plan.specs.Turn.{turnAt, stored, waiting, unlockBy}
 use Rattle.plan.specs.declared.Report.{Report}
-use Rattle.plan.proofs.Reports.{named-freed}
+use Rattle.plan.proofs.Outcomes.{named-freed}
 use Rattle.claims.specs.Reference.{Job, job, State, Given, start, heldIn, taken, onto}
 use Rattle.claims.specs.Events.{but}
 use Rattle.claims.specs.Calls.{Traced, play}

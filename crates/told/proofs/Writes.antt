@@ -18,7 +18,7 @@ use Rattle.log.specs.Log.{operand, codeIn, second, spareAddr, spareVal}
 use Rattle.plan.specs.Turn.{Outcome, stored, passed, waiting, resting as rests, refused}
 use Rattle.log.specs.Log.{switched}
 use Rattle.plan.specs.Turn.{logged, lockTurn, unlockTurn, opTurn, turnAt}
-use Rattle.plan.proofs.Reports.{unlock-either}
+use Rattle.plan.proofs.Outcomes.{unlock-either}
 use Rattle.owed.specs.Owed.{namedStep}
 use Rattle.resuming.specs.Resumed.{targetTurn}
 use Rattle.claims.specs.Reference.{Given}

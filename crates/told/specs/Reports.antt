@@ -1,6 +1,6 @@
--- Why a release passes. With no cut and no recovery every release frees its lock (`Frees`). A release that reports its lock already free or
--- another's is the one that its worker's pc named when the cursors were last lost, and it is the worker's second turn since (`Explained`).
--- So a report on the screen means that power went. Said of the turns of uncut calls: the answers of a cut one count for nothing.
+-- Why a release passes. With no cut and no recovery every release frees its lock (`Frees`), and no turn reports (`Quiet`). A release that reports
+-- its lock already free or another's is the one that its worker's pc named when the cursors were last lost, and it is the worker's second turn
+-- since (`Explained`). So a report on the screen means that power went. Said of the turns of uncut calls: the answers of a cut one count for nothing.
 use Prim.Native.Nat.{ℕ, suc, _-_, _%_, _^_, _<_}
 use mathlib.Core.Path.{_≡_}
 use mathlib.Core.Logic.{_≢_}
@@ -69,5 +69,10 @@ module _ (mark n : ℕ) where
       → opOf (codeIn n (at n (t .now .world .image)) (t .worker) s) ≡ Release a
       → outcome mark n (t .now .world) (t .worker) ≡ stored (lock a) 0 (on s 5)
 
+  -- a turn that passes is a jump
+  abbrev pub Quiet : Moment → Type 0
+  Quiet t = (why : Passing) (c : Cursor) → outcome mark n (t .now .world) (t .worker) ≡ passed why c → why ≡ Jump
+
   unfoldable pub ReleasesFree : Type 0
-  ReleasesFree = (m : Image) → Rested mark n m → (xs : List Move) → machine xs ≡ true → plain xs ≡ true → Each Frees (inUncut xs (from m))
+  ReleasesFree =
+      (m : Image) → Rested mark n m → (xs : List Move) → machine xs ≡ true → plain xs ≡ true → Each (λ t. Frees t × Quiet t) (inUncut xs (from m))

@@ -5,7 +5,7 @@ use native.Mathlib.Omega.{arith}
 use native.Mathlib.Decide.{ℕ-discrete}
 use lib.ListN.{length, getD}
 use mathlib.Core.Path.{_≡_, refl}
-use mathlib.Core.Bool.{Bool, true, false, cond}
+use mathlib.Core.Bool.{Bool, true, false}
 use mathlib.Core.Logic.{_≢_}
 use lib.Dec.{ltb, eqb}
 use Rattle.image.specs.Place.{Place, lock, Memory}
@@ -27,7 +27,7 @@ use Rattle.plan.specs.inner.Plan.{planOf}
 use Rattle.turn.specs.inner.Acting.{planDid, didAnswer, planLeaves, tested, gateOf}
 use Rattle.turn.specs.declared.Gate.the-variants.{Refused as GateRefused, Idle, Open}
 use Rattle.plan.proofs.Planned.{ready-says}
-use Rattle.plan.proofs.Reports.{unlock-either}
+use Rattle.plan.proofs.Outcomes.{either, unlock-either}
 use Rattle.working.proofs.Placed.{Full, idle-is, on-is, open-turn, idle-turn, placed-other}
 
 -- a turn that is made, that is, of an open worker and not refused
@@ -37,10 +37,6 @@ Made (passed why c) = Unit {0}
 Made (waiting b) = Unit {0}
 Made resting = ⊥
 Made (refused r) = ⊥
-
-made-cond : (b : Bool) (x y : Outcome) → Made x → Made y → Made (cond b x y)
-made-cond true x y p q = p
-made-cond false x y p q = q
 
 module _ (n : ℕ) (rd : Memory) (d s t : ℕ) where
   made-logged : (p : Place) (v : ℕ) (next : Cursor) (j : ℕ) → Made (logged n rd d s t p v next j)
@@ -52,7 +48,7 @@ module _ (n : ℕ) (rd : Memory) (d s t : ℕ) where
 module _ (n : ℕ) (rd : Memory) (d s : ℕ) where
   made-acquire : (a t : ℕ) → Made (acquireTurn n rd d a s t)
   made-acquire a zero = tt
-  made-acquire a (suc zero) = made-cond (eqb (rd (lock a)) 0) _ _ tt tt
+  made-acquire a (suc zero) = either Made (eqb (rd (lock a)) 0) _ _ (λ e. tt) (λ e. tt)
   made-acquire a (suc (suc j)) = made-logged n rd d s (suc (suc j)) _ _ _ j
 
   made-finish : (t : ℕ) → Made (finishTurn n rd d s t)
@@ -63,7 +59,8 @@ module _ (n : ℕ) (rd : Memory) (d s : ℕ) where
   made-op : (t : ℕ) (x : Op) → fits n x → Made (opTurn n rd d s t x)
   made-op t (Acquire a) f = made-acquire a t
   made-op t (Release a) f =
-      made-cond (ltb t 4) _ _ (made-logged n rd d s t _ _ _ t) (made-cond (eqb t 4) _ _ (unlock-either n rd d a s Made tt (λ why. tt)) tt)
+      either Made (ltb t 4) _ _ (λ e. made-logged n rd d s t _ _ _ t)
+      (λ e. either Made (eqb t 4) _ _ (λ f. unlock-either n rd d a s Made tt (λ why. tt)) (λ f. tt))
   made-op t (Assign a e) f = made-logged n rd d s t _ _ _ t
   made-op t (Jump a b) f = tt
   made-op t Finish f = made-finish t

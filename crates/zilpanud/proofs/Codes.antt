@@ -34,7 +34,7 @@ use Rattle.turn.specs.Call.{isRefused}
 use Rattle.working.specs.Cursor.{Cursor, idle, on, cursorAt}
 use Rattle.log.specs.Log.{codeIn}
 use Rattle.plan.specs.Turn.{Outcome, stored, passed, waiting, resting, refused, logged, opTurn, ready, turnAt}
-use Rattle.plan.proofs.Reports.{unlock-either}
+use Rattle.plan.proofs.Outcomes.{either, unlock-either}
 use Rattle.working.specs.World.{World}
 use Rattle.turn.specs.Call.{outcomeAt}
 use Rattle.formatting.specs.Format.{formattable, formatAnswer}
@@ -161,10 +161,6 @@ Caused (waiting b) = Unit {0}
 Caused resting = Unit {0}
 Caused (refused r) = eqb (causeOf r) 0 ≡ false
 
-private-caused : (b : Bool) (x y : Outcome) → Caused x → Caused y → Caused (cond b x y)
-private-caused true x y g h = g
-private-caused false x y g h = h
-
 module _ (n : ℕ) (rd : Memory) (d : ℕ) where
   private-logged : (s t : ℕ) (p : Place) (v : ℕ) (next : Cursor) (j : ℕ) → Caused (logged n rd d s t p v next j)
   private-logged s t p v next zero = tt
@@ -174,10 +170,11 @@ module _ (n : ℕ) (rd : Memory) (d : ℕ) where
 
   private-op : (s t : ℕ) (x : Op) → Caused (opTurn n rd d s t x)
   private-op s zero (Acquire a) = tt
-  private-op s (suc zero) (Acquire a) = private-caused (eqb (rd (lock a)) 0) _ _ tt tt
+  private-op s (suc zero) (Acquire a) = either Caused (eqb (rd (lock a)) 0) _ _ (λ e. tt) (λ e. tt)
   private-op s (suc (suc j)) (Acquire a) = private-logged s (suc (suc j)) _ _ _ j
   private-op s t (Release a) =
-      private-caused (ltb t 4) _ _ (private-logged s t _ _ _ t) (private-caused (eqb t 4) _ _ (unlock-either n rd d a s Caused tt (λ why. tt)) tt)
+      either Caused (ltb t 4) _ _ (λ e. private-logged s t _ _ _ t)
+      (λ e. either Caused (eqb t 4) _ _ (λ f. unlock-either n rd d a s Caused tt (λ why. tt)) (λ f. tt))
   private-op s t (Assign a e) = private-logged s t _ _ _ t
   private-op s t (Jump a b) = tt
   private-op s zero Finish = tt
@@ -188,7 +185,7 @@ module _ (n : ℕ) (rd : Memory) (d : ℕ) where
   private-turn : (x : Cursor) → Caused (turnAt n rd d x)
   unfolding turnAt
   private-turn idle = tt
-  private-turn (on s t) = private-caused (ready n rd d s t) _ _ (private-op s t (opOf (codeIn n rd d s))) refl
+  private-turn (on s t) = either Caused (ready n rd d s t) _ _ (λ e. private-op s t (opOf (codeIn n rd d s))) (λ e. refl)
 
 abbrev Halting : Sweep → Type 0
 Halting (through s) = Unit {0}

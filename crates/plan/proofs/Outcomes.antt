@@ -1,5 +1,5 @@
--- What a report says of the owner word: it is freed exactly where the word names the worker (`found`, `named-freed`). A release's lock
--- turn stores or passes (`unlock-either`).
+-- Laws of outcomes: of one of two (`either`); of a release's lock turn, which stores or passes (`unlock-either`). What its report says of the
+-- owner word: it is freed exactly where the word names the worker (`found`, `named-freed`).
 use Prim.Native.Nat.{ℕ, _+_}
 use mathlib.Core.Path.{_≡_, refl}
 use mathlib.Core.Logic.{_≢_}
@@ -13,6 +13,10 @@ use Rattle.plan.specs.declared.Report.{Report}
 use Rattle.plan.specs.declared.Report.the-variants.{Freed, AlreadyFree, Others}
 use Rattle.plan.specs.Report.{reportOf}
 use Rattle.plan.specs.Turn.{Outcome, stored, passed, unlockBy, unlockTurn}
+
+pub either : (P : Outcome → Type 0) (b : Bool) (x y : Outcome) → (b ≡ true → P x) → (b ≡ false → P y) → P (cond b x y)
+either P true x y p q = p refl
+either P false x y p q = q refl
 
 module _ (d word : ℕ) where
   pub named-freed : word ≡ d + 1 → reportOf d word ≡ Freed
