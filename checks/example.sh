@@ -67,11 +67,19 @@ done
 
 # number 3 is cut after each of its stores, and asked for again
 stores=0
+: >"$room/held"
 while cp "$room/first" "$board" && "$cut" "$board" "$stores"; do
     "$example" "$board" 3 3 >"$room/out" || fail "after a cut at store $stores"
     [ "$(tail -n 1 "$room/out")" = 'bay 2: 14 boxes; bay 5: 6 boxes; moves made: 2' ] ||
         fail "after a cut at store $stores: $(cat "$room/out")"
+    grep 'bays held' "$room/out" >>"$room/held"
     stores=$((stores + 1))
 done
 [ "$stores" -eq 69 ] || fail "a move has $stores cuts and not 69"
+
+# Of the 47 stores that the move's turns make, one bay is owed after 5 to 10 (the first take is named, with the 5th) and
+# after 36 to 41 (the bay dropped first is not owned, with the 36th), both after 11 to 35 (the second take is named)
+one=$(grep -c -x 'bays held since a cut: 1' "$room/held")
+two=$(grep -c -x 'bays held since a cut: 2' "$room/held")
+[ "$one" -eq 12 ] && [ "$two" -eq 25 ] || fail "one bay is held after $one cuts and not 12, two after $two and not 25"
 echo "example: ok, and once exactly after each of $stores cuts"

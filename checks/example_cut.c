@@ -19,10 +19,10 @@ int main(int argc, char **argv)
     uint64_t detail;
     struct board board = {.image = open_board(argv[1])};
     recover(&board);
-    zilpanud_submit(board.image, WORDS, board.step, board.turn, WORKER, finished(&board) + 1, args, move, STEPS(move),
-                    &left, &detail);
+    zilpanud_submit(board.image, WORDS, board.step, board.turn, &board.held, WORKER, finished(&board) + 1, args, move,
+                    STEPS(move), &left, &detail);
     if (left != 0) {
-        zilpanud_run(board.image, WORDS, board.step, board.turn, 384 * WORKERS, tally, &left, &detail);
+        zilpanud_run(board.image, WORDS, board.step, board.turn, &board.held, 384 * WORKERS, tally, &left, &detail);
     }
     return left == 0 ? 0 : 3;
 }

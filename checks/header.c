@@ -47,6 +47,7 @@ static const uint64_t args[ZILPANUD_ARGS] = {20, 7, 0, 0, 0, 0, 0, 0};
 static uint64_t image[WORDS];
 static uint8_t step[ZILPANUD_WORKERS];
 static uint8_t turn[ZILPANUD_WORKERS];
+static uint64_t held;
 static uint64_t tally[ZILPANUD_TALLY_WORDS];
 static uint64_t detail;
 
@@ -96,22 +97,23 @@ static void versions_agree(void)
 
 static uint64_t submit(size_t worker, uint64_t number, size_t steps_given)
 {
-    return zilpanud_submit(image, WORDS, step, turn, worker, number, args, section, steps_given, ZILPANUD_ALL, &detail);
+    return zilpanud_submit(image, WORDS, step, turn, &held, worker, number, args, section, steps_given, ZILPANUD_ALL,
+                           &detail);
 }
 
 static uint64_t one_turn(size_t worker)
 {
-    return zilpanud_turn(image, WORDS, step, turn, worker, ZILPANUD_ALL, &detail);
+    return zilpanud_turn(image, WORDS, step, turn, &held, worker, ZILPANUD_ALL, &detail);
 }
 
 static uint64_t run(uint16_t rounds)
 {
-    return zilpanud_run(image, WORDS, step, turn, rounds, tally, ZILPANUD_ALL, &detail);
+    return zilpanud_run(image, WORDS, step, turn, &held, rounds, tally, ZILPANUD_ALL, &detail);
 }
 
 static uint64_t recover(void)
 {
-    return zilpanud_recover(image, WORDS, step, turn, ZILPANUD_ALL, &detail);
+    return zilpanud_recover(image, WORDS, step, turn, &held, ZILPANUD_ALL, &detail);
 }
 
 static uint64_t standing(uint64_t number)
@@ -121,11 +123,30 @@ static uint64_t standing(uint64_t number)
     return stands;
 }
 
+/* lock 3 alone is held, or none */
+static int holds_lock_3(int holds)
+{
+    return held == (holds ? UINT64_C(1) << 3 : 0) && zilpanud_locks_held(held) == (holds ? 1 : 0);
+}
+
+static uint64_t format(size_t words, uint64_t *left)
+{
+    return zilpanud_format(image, words, WORKERS, step, turn, &held, left);
+}
+
 static void formatted(void)
 {
-    ensure(zilpanud_format(image, WORDS - 1, WORKERS, step, turn, ZILPANUD_ALL) == ZILPANUD_IMAGE, "10 for a length");
-    ensure(zilpanud_format(image, WORDS, WORKERS, step, turn, ZILPANUD_ALL) == ZILPANUD_DONE, "formatted");
+    held = UINT64_MAX;
+    ensure(format(WORDS - 1, ZILPANUD_ALL) == ZILPANUD_IMAGE && held == 0, "10 for a length, and no lock held");
+    held = UINT64_MAX;
+    ensure(format(WORDS, ZILPANUD_ALL) == ZILPANUD_DONE && held == 0, "formatted, and no lock held");
     ensure(image[0] == 1 && image[1] == WORKERS && turn[0] == ZILPANUD_IDLE, "an image of idle workers");
+}
+
+static void locks_counted(void)
+{
+    ensure(zilpanud_locks_held(0) == 0 && zilpanud_locks_held(UINT64_MAX) == ZILPANUD_LOCKS, "none and all");
+    ensure(zilpanud_locks_held(UINT64_C(0x8000000100000070)) == 5, "locks 4, 5, 6, 32 and 63");
 }
 
 /* A length of 0, with a pointer that may not be read. */
@@ -134,8 +155,10 @@ static void nothing_given(void)
     uint64_t told;
     uint64_t *const end = image + WORDS;
     ensure(zilpanud_check(end, 0, &detail) == ZILPANUD_LENGTH, "4 for no steps");
-    ensure(zilpanud_format(end, 0, 1, step, turn, ZILPANUD_ALL) == ZILPANUD_IMAGE, "10 for no words");
-    ensure(zilpanud_recover(end, 0, step, turn, ZILPANUD_ALL, &detail) == ZILPANUD_IMAGE, "10 for no words");
+    ensure(zilpanud_format(end, 0, 1, step, turn, &held, ZILPANUD_ALL) == ZILPANUD_IMAGE, "10 for no words");
+    held = UINT64_MAX;
+    ensure(zilpanud_recover(end, 0, step, turn, &held, ZILPANUD_ALL, &detail) == ZILPANUD_IMAGE, "10 for no words");
+    ensure(held == 0, "a refused recovery holds no lock");
     ensure(zilpanud_finished(end, 0, 0, &told) == ZILPANUD_IMAGE && told == 0, "10 for no words");
 }
 
@@ -148,7 +171,8 @@ static void turns_made(void)
     ensure(detail == STEPS - 2, "the step that fails");
     ensure(submit(0, 1, STEPS) == ZILPANUD_DONE && submit(0, 2, STEPS) == ZILPANUD_BUSY, "taken, and then busy");
     ensure(submit(1, 1, STEPS) == ZILPANUD_DONE, "worker 1 is given the same");
-    ensure(one_turn(0) == ZILPANUD_STORED && one_turn(0) == ZILPANUD_STORED, "two turns store");
+    ensure(one_turn(0) == ZILPANUD_STORED && holds_lock_3(0), "a turn stores the intent, and no lock is held");
+    ensure(one_turn(0) == ZILPANUD_STORED && holds_lock_3(1), "the next stores the owner word, and lock 3 is held");
     ensure(detail == ZILPANUD_OWNER_INDEX(3) && image[detail] == 1, "worker 0 has lock 3");
     ensure(one_turn(1) == ZILPANUD_STORED && one_turn(1) == ZILPANUD_WAITING && detail == 3, "worker 1 waits for it");
     ensure(zilpanud_is_idle(image, WORDS, step, turn, 0, &told) == ZILPANUD_DONE && told == 0, "not idle");
@@ -167,10 +191,11 @@ static int counted(uint64_t turns, uint64_t stores, uint64_t already_free, uint6
 static void cut_and_run(void)
 {
     uint64_t told;
-    ensure(recover() == ZILPANUD_DONE, "recovered");
+    held = 0;
+    ensure(recover() == ZILPANUD_DONE && holds_lock_3(1), "recovered, and lock 3 is held again");
     ensure(one_turn(1) == ZILPANUD_IDLE_WORKER, "worker 1's section was not begun and is withdrawn");
     ensure(run(1) == ZILPANUD_SPENT, "one round");
-    ensure(run(384 * WORKERS) == ZILPANUD_DONE, "all");
+    ensure(run(384 * WORKERS) == ZILPANUD_DONE && holds_lock_3(0), "all, and no lock is held");
     ensure(counted(26, 25, 0, 0), "the jump is the one turn that stores nothing");
     ensure(standing(1) == ZILPANUD_FINISHED && standing(2) == ZILPANUD_NOT_BEGUN, "finished");
     ensure(zilpanud_finished(image, WORDS, 0, &told) == ZILPANUD_DONE && told == 1, "number 1 is the last finished");
@@ -190,7 +215,7 @@ static void worker_1_acquires(void)
 {
     ensure(recover() == ZILPANUD_DONE && submit(1, 1, STEPS) == ZILPANUD_DONE, "worker 1 is given the section again");
     stored(1, 2);
-    ensure(image[ZILPANUD_OWNER_INDEX(3)] == 2, "worker 1 has lock 3");
+    ensure(image[ZILPANUD_OWNER_INDEX(3)] == 2 && holds_lock_3(1), "worker 1 has lock 3");
 }
 
 /* Worker 0's release frees its lock and is cut behind that, again and again. */
@@ -199,15 +224,17 @@ static void turns_passed(void)
     ensure(submit(0, 2, STEPS) == ZILPANUD_DONE, "taken");
     stored(0, 6 + 4 * 4);
     ensure(one_turn(0) == ZILPANUD_PASSED && detail == ZILPANUD_PASSED_JUMP, "the jump passes");
-    stored(0, 5);
-    ensure(detail == ZILPANUD_OWNER_INDEX(3) && image[detail] == 0, "the release frees lock 3");
+    stored(0, 4);
+    ensure(holds_lock_3(1), "lock 3 is held until the release frees it");
+    stored(0, 1);
+    ensure(detail == ZILPANUD_OWNER_INDEX(3) && image[detail] == 0 && holds_lock_3(0), "the release frees lock 3");
     ensure(recover() == ZILPANUD_DONE, "recovered");
     stored(0, 1);
     ensure(one_turn(0) == ZILPANUD_PASSED && detail == ZILPANUD_PASSED_ALREADY_FREE, "it finds lock 3 free");
     worker_1_acquires();
     stored(0, 1);
     ensure(one_turn(0) == ZILPANUD_PASSED && detail == ZILPANUD_PASSED_OTHERS, "it finds lock 3 worker 1's");
-    ensure(image[ZILPANUD_OWNER_INDEX(3)] == 2, "worker 1 keeps lock 3");
+    ensure(image[ZILPANUD_OWNER_INDEX(3)] == 2 && holds_lock_3(1), "worker 1 keeps lock 3");
     worker_1_acquires();
     ensure(run(2) == ZILPANUD_SPENT && counted(4, 3, 0, 1), "a run counts another's");
     ensure(recover() == ZILPANUD_DONE, "recovered");
@@ -219,9 +246,9 @@ static void stores_left(void)
     uint64_t left = 1;
     uint64_t *const all = ZILPANUD_ALL;
     ensure(*all == UINT64_MAX && left_elsewhere() == UINT64_MAX, "enough stores");
-    ensure(zilpanud_format(image, WORDS, WORKERS, step, turn, &left) == ZILPANUD_DONE && left == 0, "cut after one");
+    ensure(format(WORDS, &left) == ZILPANUD_DONE && left == 0, "cut after one");
     ensure(image[0] == 0, "its first store is 0 in word 0");
-    ensure(zilpanud_format(image, WORDS, WORKERS, step, turn, all) == ZILPANUD_DONE, "formatted again");
+    ensure(format(WORDS, all) == ZILPANUD_DONE, "formatted again");
     ensure(*all == UINT64_MAX - WORDS - 1 && *ZILPANUD_ALL == UINT64_MAX, "each use has enough");
 }
 
@@ -229,6 +256,7 @@ int main(void)
 {
     texts_differ();
     versions_agree();
+    locks_counted();
     formatted();
     nothing_given();
     formatted();

@@ -89,6 +89,7 @@ struct board {
     uint64_t *image;
     uint8_t step[ZILPANUD_WORKERS];
     uint8_t turn[ZILPANUD_WORKERS];
+    uint64_t held;    /* the bays held, as a mask */
 };
 
 static void fail(const char *what)
@@ -120,13 +121,14 @@ static void format(int file, const char *path)
 {
     uint8_t step[ZILPANUD_WORKERS];
     uint8_t turn[ZILPANUD_WORKERS];
+    uint64_t held;
     /* all of its room now: a store into a mapped file could not say that the disk is full */
     errno = posix_fallocate(file, 0, (off_t)BYTES);
     if (errno != 0) {
         fail(path);
     }
     uint64_t *image = map(file, path);
-    uint64_t answer = zilpanud_format(image, WORDS, WORKERS, step, turn, ZILPANUD_ALL);
+    uint64_t answer = zilpanud_format(image, WORDS, WORKERS, step, turn, &held, ZILPANUD_ALL);
     if (answer != ZILPANUD_DONE) {
         refused("formatting", answer, 0);
     }
@@ -190,7 +192,8 @@ static uint64_t *open_board(const char *path)
 static void recover(struct board *board)
 {
     uint64_t detail;
-    uint64_t answer = zilpanud_recover(board->image, WORDS, board->step, board->turn, ZILPANUD_ALL, &detail);
+    uint64_t answer = zilpanud_recover(board->image, WORDS, board->step, board->turn, &board->held, ZILPANUD_ALL,
+                                       &detail);
     if (answer != ZILPANUD_DONE) {
         refused("the recovery", answer, detail);
     }
@@ -200,8 +203,8 @@ static void run(struct board *board)
 {
     uint64_t tally[ZILPANUD_TALLY_WORDS];
     uint64_t detail;
-    uint64_t answer = zilpanud_run(board->image, WORDS, board->step, board->turn, 384 * WORKERS, tally, ZILPANUD_ALL,
-                                   &detail);
+    uint64_t answer = zilpanud_run(board->image, WORDS, board->step, board->turn, &board->held, 384 * WORKERS, tally,
+                                   ZILPANUD_ALL, &detail);
     if (answer != ZILPANUD_DONE) {
         refused("the run", answer, detail);
     }
@@ -230,8 +233,8 @@ static uint64_t standing(const struct board *board, uint64_t number)
 static void submit(struct board *board, uint64_t number, const uint64_t *args, const uint64_t *section, size_t steps)
 {
     uint64_t detail;
-    uint64_t answer = zilpanud_submit(board->image, WORDS, board->step, board->turn, WORKER, number, args, section,
-                                      steps, ZILPANUD_ALL, &detail);
+    uint64_t answer = zilpanud_submit(board->image, WORDS, board->step, board->turn, &board->held, WORKER, number,
+                                      args, section, steps, ZILPANUD_ALL, &detail);
     if (answer != ZILPANUD_DONE) {
         refused("the section", answer, detail);
     }
@@ -302,7 +305,10 @@ int main(int argc, char **argv)
     uint64_t boxes = argc > 2 ? parsed(argv[2]) : 3;
     struct board board = {.image = open_board(argv[1])};
     recover(&board);
-    /* what was begun before the cut comes to its end first */
+    /* what was begun before the cut has its bays again, and comes to its end first */
+    if (board.held != 0) {
+        printf("bays held since a cut: %" PRIu64 "\n", zilpanud_locks_held(board.held));
+    }
     run(&board);
     if (carry_out(&board, 1, (const uint64_t[ZILPANUD_ARGS]){0}, stow, STEPS(stow))) {
         printf("number 1: %d boxes stowed in bay %d\n", FIRST_BOXES, FROM);

@@ -9,14 +9,15 @@
  * board word; to submit is to hand in, to acquire and to release are to take and to drop, a cursor is a working place.
  *
  * What the caller owes, since C cannot say it: a pointer and its length name that many words; step and turn name
- * 8 bytes, args 8 words, tally 5 words; no two of a call's pointers name the same memory (only args and words, which
- * are read alone, may), and none is null; a pointer to words is aligned to 8. With a length of 0 the pointer is not
- * read, and any pointer that is not null and is aligned to 8 will do.
+ * 8 bytes, held a word, args 8 words, tally 5 words; no two of a call's pointers name the same memory (only args and
+ * words, which are read alone, may), and none is null; a pointer to words is aligned to 8. With a length of 0 the
+ * pointer is not read, and any pointer that is not null and is aligned to 8 will do.
  *
- * Threads: the library keeps nothing between calls; all it knows is the image, the cursors and the numbers that a call
- * is lent. So calls on different images, each with its cursors, may be made from different threads at once. On one
- * image and its cursors it is one call at a time, by one process: two at once lose moves or hang. Threads that share
- * an image hold a lock of their own around each call, the questions too. One thread may make the turns of all workers.
+ * Threads: the library keeps nothing between calls; all it knows is the image, the cursors (step, turn and held) and
+ * the numbers that a call is lent. So calls on different images, each with its cursors, may be made from different
+ * threads at once. On one image and its cursors it is one call at a time, by one process: two at once lose moves or
+ * hang. Threads that share an image hold a lock of their own around each call, the questions too. One thread may make
+ * the turns of all workers.
  *
  * Cuts: a call stores one word after the other, in a fixed order, and flushes nothing. So the image belongs in memory
  * that keeps every store made, in that order, when the power goes: battery-kept, and its caches with it.
@@ -33,8 +34,8 @@
  * different installs. A program compares them when it starts; examples/board.c does.
  */
 
-#define ZILPANUD_VERSION 2000
-#define ZILPANUD_VERSION_TEXT "0.2.0"
+#define ZILPANUD_VERSION 3000
+#define ZILPANUD_VERSION_TEXT "0.3.0"
 
 /* ---- sizes */
 
@@ -166,7 +167,7 @@ static inline const char *zilpanud_text(uint64_t answer)
 
 /* ---- the stores left of a call that is not to be cut: a pointer to a number that is enough for any call
  *
- *     zilpanud_turn(image, words, step, turn, 0, ZILPANUD_ALL, &detail)
+ *     zilpanud_turn(image, words, step, turn, &held, 0, ZILPANUD_ALL, &detail)
  *
  * The number is a new one at each use (in C++ the thread has one, and each use fills it again). A caller's own, lower
  * number is for tests alone: a call that ran out of stores was cut, and a recovery is due.
@@ -193,40 +194,51 @@ uint64_t zilpanud_version(void);
 /* ---- the calls
  *
  * step[d] and turn[d] are worker d's cursor, kept by the caller beside the image and lost in a cut.
+ * *held is kept and lost with them: a mask, in which bit b is set while lock b is held, by whichever worker. An
+ * acquire's store of its lock's owner word sets the bit, and a release's store of 0 there clears it; no other turn and
+ * no submit touches it, and nothing but the count of zilpanud_locks_held goes by it.
  * *left is the number of stores that the call may still make: each store takes one off, and with none left it changes
  * nothing. A call given k is that call cut after its k-th store; its answer and the cursors then count for nothing.
  * *detail is always written: with what the comment at the answer says, else 0.
  * A refused call leaves image, cursors and *left as they were, but for: format and recover, which leave all workers
- * idle; run, which keeps its earlier turns and their tally.
+ * idle and *held 0; run, which keeps its earlier turns and their tally.
  */
 
-/* 0, or 10. All workers are idle after it, also where it is refused. It is for a new image: one that a recovery refuses
- * is kept for those who can mend it, since formatting would lose it. */
+/* 0, or 10. All workers are idle and *held is 0 after it, also where it is refused; step, turn and *held are only
+ * written. It is for a new image: one that a recovery refuses is kept for those who can mend it, since formatting would
+ * lose it. */
 uint64_t zilpanud_format(uint64_t *image, size_t image_words, uint64_t workers, uint8_t *step, uint8_t *turn,
-                         uint64_t *left);
+                         uint64_t *held, uint64_t *left);
 
 /* The check of a section alone: 0, or 4 to 9. */
 uint64_t zilpanud_check(const uint64_t *words, size_t words_len, uint64_t *detail);
 
 /* Submits a section for a worker: 0, or 10, 1, 2, 3, 4 to 9, tested in this order. */
-uint64_t zilpanud_submit(uint64_t *image, size_t image_words, uint8_t *step, uint8_t *turn, size_t worker,
-                         uint64_t number, const uint64_t *args, const uint64_t *words, size_t words_len,
+uint64_t zilpanud_submit(uint64_t *image, size_t image_words, uint8_t *step, uint8_t *turn, uint64_t *held,
+                         size_t worker, uint64_t number, const uint64_t *args, const uint64_t *words, size_t words_len,
                          uint64_t *left, uint64_t *detail);
 
 /* One turn of a worker, with at most one store: 16 to 19, or 10, 1, 11. A release that frees its lock answers 16; one
  * that finds it already free or another's leaves it so and answers 17, and detail says which. */
-uint64_t zilpanud_turn(uint64_t *image, size_t image_words, uint8_t *step, uint8_t *turn, size_t worker,
-                       uint64_t *left, uint64_t *detail);
+uint64_t zilpanud_turn(uint64_t *image, size_t image_words, uint8_t *step, uint8_t *turn, uint64_t *held,
+                       size_t worker, uint64_t *left, uint64_t *detail);
 
 /* Rounds of turns until all workers are idle: 0, 20, or 10, 11. tally: what this run counts, by ZILPANUD_TALLY_TURNS to
  * ZILPANUD_TALLY_OTHERS. 384 rounds for each worker of the image end any sections; more cost nothing, since a run stops
  * where all are idle. */
-uint64_t zilpanud_run(uint64_t *image, size_t image_words, uint8_t *step, uint8_t *turn, uint16_t rounds,
-                      uint64_t *tally, uint64_t *left, uint64_t *detail);
+uint64_t zilpanud_run(uint64_t *image, size_t image_words, uint8_t *step, uint8_t *turn, uint64_t *held,
+                      uint16_t rounds, uint64_t *tally, uint64_t *left, uint64_t *detail);
 
-/* After a cut: 0, or 10, 12, 13. step and turn are only written: begun sections go on, all other workers are idle. */
-uint64_t zilpanud_recover(uint64_t *image, size_t image_words, uint8_t *step, uint8_t *turn, uint64_t *left,
-                          uint64_t *detail);
+/* After a cut: 0, or 10, 12, 13. step, turn and *held are only written: begun sections go on, with the locks that they
+ * are owed held again, and all other workers are idle. */
+uint64_t zilpanud_recover(uint64_t *image, size_t image_words, uint8_t *step, uint8_t *turn, uint64_t *held,
+                          uint64_t *left, uint64_t *detail);
+
+/* How many locks are held, 0 to 64: the number of ones of *held, as the last call left it. A screen can show it after
+ * each turn without a look at the image. In a list of submits, turns, runs and recoveries from one formatting on, each
+ * given the image and the cursors that the last one left, and a recovery next after each cut, bit b is set after every
+ * uncut call exactly if lock b's owner word is not 0. */
+uint64_t zilpanud_locks_held(uint64_t held);
 
 /* ---- questions: 0, or 10, 1, and then 0 is written */
 

@@ -6,14 +6,16 @@ static uint64_t changing(const struct call *call, struct world *w)
 {
     uint64_t *image = w->memory.image;
     switch (call->name) {
-    case FORMAT: return zilpanud_format(image, call->words, call->workers, w->step, w->turn, &w->left);
+    case FORMAT: return zilpanud_format(image, call->words, call->workers, w->step, w->turn, &w->held, &w->left);
     case SUBMIT:
-        return zilpanud_submit(image, call->words, w->step, w->turn, call->worker, call->number, call->args,
+        return zilpanud_submit(image, call->words, w->step, w->turn, &w->held, call->worker, call->number, call->args,
                                call->section, call->steps, &w->left, &w->detail);
-    case TURN: return zilpanud_turn(image, call->words, w->step, w->turn, call->worker, &w->left, &w->detail);
+    case TURN:
+        return zilpanud_turn(image, call->words, w->step, w->turn, &w->held, call->worker, &w->left, &w->detail);
     case RUN:
-        return zilpanud_run(image, call->words, w->step, w->turn, call->rounds, w->tally, &w->left, &w->detail);
-    default: return zilpanud_recover(image, call->words, w->step, w->turn, &w->left, &w->detail);
+        return zilpanud_run(image, call->words, w->step, w->turn, &w->held, call->rounds, w->tally, &w->left,
+                            &w->detail);
+    default: return zilpanud_recover(image, call->words, w->step, w->turn, &w->held, &w->left, &w->detail);
     }
 }
 
@@ -22,6 +24,10 @@ void perform(const struct call *call, struct world *w)
     const uint64_t *image = w->memory.image;
     switch (call->name) {
     case CHECK: w->answer = zilpanud_check(call->section, call->steps, &w->detail); break;
+    case LOCKS_HELD:
+        w->told = zilpanud_locks_held(w->held);
+        w->answer = ZILPANUD_DONE;
+        break;
     case IS_IDLE:
         w->answer = zilpanud_is_idle(image, call->words, w->step, w->turn, call->worker, &w->told);
         break;
@@ -36,7 +42,7 @@ void perform(const struct call *call, struct world *w)
 void describe(FILE *to, const struct call *call)
 {
     static const char *const names[NAMES] = {
-        "format", "check", "submit", "turn", "run", "recover", "is_idle", "finished", "standing",
+        "format", "check", "submit", "turn", "run", "recover", "locks_held", "is_idle", "finished", "standing",
     };
     fprintf(to, "%s of %zu words", names[call->name], call->words);
     switch (call->name) {
@@ -46,7 +52,8 @@ void describe(FILE *to, const struct call *call)
         fprintf(to, ", worker %zu, number %" PRIu64 ", steps %zu", call->worker, call->number, call->steps);
         break;
     case RUN: fprintf(to, ", rounds %d", call->rounds); break;
-    case RECOVER: break;
+    case RECOVER:
+    case LOCKS_HELD: break;
     default: fprintf(to, ", worker %zu", call->worker);
     }
 }

@@ -44,6 +44,7 @@ static void formats(void)
     for (size_t workers = 1; workers <= ZILPANUD_WORKERS; workers++) {
         fill_with_junk();
         format(workers, ZILPANUD_DONE);
+        locks_held(0);
     }
     fill_with_junk();
     format(0, ZILPANUD_IMAGE);
@@ -135,8 +136,10 @@ static void turns(void)
     turn(0, ZILPANUD_STORED);
     turn(1, ZILPANUD_STORED);
     turn(1, ZILPANUD_WAITING);
+    locks_held(1);
     turns_until_idle(0);
     turns_until_idle(1);
+    locks_held(0);
     turn(0, ZILPANUD_IDLE_WORKER);
     turn(2, ZILPANUD_NO_WORKER);
     /* a cursor on no turn, met by a run after a turn of worker 0 */
@@ -242,6 +245,7 @@ static void large_recovery(void)
     }
     cut_run(8 * 7 * 6 + 8 * 20);
     recover(ZILPANUD_DONE);
+    locks_held(56);
 }
 
 static void refused_recoveries(void)
@@ -254,6 +258,7 @@ static void refused_recoveries(void)
     go_back(&torn);
     set_word(ZILPANUD_OWNER_INDEX(63), 1);
     recover(ZILPANUD_LOCK);
+    locks_held(0);
 }
 
 void play(void)

@@ -44,6 +44,7 @@ void all_met(void)
         [TURN] = BIT(1) | BITS(10, 11) | BITS(16, 19),
         [RUN] = BIT(0) | BITS(10, 11) | BIT(20),
         [RECOVER] = BIT(0) | BIT(10) | BITS(12, 13),
+        [LOCKS_HELD] = BIT(0),
         [IS_IDLE] = asked,
         [FINISHED] = asked,
         [STANDING] = asked,
@@ -102,6 +103,7 @@ void fill_with_junk(void)
     put_junk(now.memory.before, AROUND);
     put_junk(now.memory.image, LARGEST);
     put_junk(now.memory.behind, AROUND);
+    put_junk(&now.held, 1);
 }
 
 /* ---- calls */
@@ -248,6 +250,16 @@ void recover(uint64_t answer)
 {
     const struct call call = call_of(RECOVER, 0);
     expect(&call, answer);
+}
+
+void locks_held(uint64_t count)
+{
+    const struct call call = call_of(LOCKS_HELD, 0);
+    expect(&call, ZILPANUD_DONE);
+    if (now.told != count) {
+        fprintf(stderr, "stores: %" PRIu64 " locks are held, and by the script %" PRIu64 "\n", now.told, count);
+        exit(2);
+    }
 }
 
 void questions(size_t worker, uint64_t answer)

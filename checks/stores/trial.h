@@ -18,12 +18,15 @@ void passing_turn(size_t worker, uint64_t detail);
 void turns_until_idle(size_t worker);
 void run(uint16_t rounds, uint64_t answer);
 void recover(uint64_t answer);
+
+/* So many locks are held. */
+void locks_held(uint64_t count);
 void questions(size_t worker, uint64_t answer);
 
 /* ---- calls that are not watched, and damage */
 
-/* Words whose eight bytes are different and none of them 0, so that a half of a word, or a word that is stored
- * before its time, shows. */
+/* Words, and a mask of locks held, whose eight bytes are different and none of them 0, so that a half of a word, or a
+ * word that is stored before its time, shows. */
 void fill_with_junk(void);
 
 /* A formatted image of so many workers with junk in all words that an image at rest may have it in. */

@@ -122,7 +122,16 @@ fn client(image: &mut [u64], c: Cursors, adds: bool) -> Cursors {
     r.cursors
 }
 
-// One place of the cut: what is told after the recovery and in the end, cell 24 and the last finished number (words 32 and 593).
+// Cell 24 and the last finished number (words 32 and 593).
+fn told(image: &[u64]) {
+    text(b"cell ");
+    number(image::load(image, 32));
+    text(b", number ");
+    number(image::load(image, 593));
+    text(b"\n");
+}
+
+// One place of the cut: what is told after the recovery, and in the end.
 fn row(image: &mut [u64], adds: bool, stores: u64, recovered: u64) {
     number(stores);
     text(b": ");
@@ -130,11 +139,7 @@ fn row(image: &mut [u64], adds: bool, stores: u64, recovered: u64) {
     let c = recover(image, recovered);
     let end = client(image, c, adds);
     client(image, end, adds);
-    text(b"cell ");
-    number(image::load(image, 32));
-    text(b", number ");
-    number(image::load(image, 593));
-    text(b"\n");
+    told(image);
 }
 
 fn heading(adds: bool, recovered: u64) {

@@ -9,7 +9,7 @@ use lib.Dec.{eqb}
 use native.Mathlib.Omega.{arith}
 use native.Mathlib.Decide.{ℕ-discrete}
 use Rattle.working.specs.declared.Cursors.{Cursors}
-use Rattle.working.specs.Cursor.{Cursor, idle, on, isIdle, cursorAt, setAt, placed, allIdle}
+use Rattle.working.specs.Cursor.{Cursor, idle, on, isIdle, cursorAt, setAt, holding, placed, allIdle}
 use Rattle.run.specs.Run.{anyOpen}
 use Rattle.working.proofs.Placed.{Full, sayable, placed-same, placed-other}
 use Rattle.working.proofs.Placed.{idle-is}
@@ -19,6 +19,9 @@ use Rattle.claims.proofs.LiveTurn.{but-same, but-other}
 pub full-set : (c : Cursors) (d s t : ℕ) → Full c → Full (setAt c d s t)
 unfolding setAt
 full-set c d s t f = record { steps = length-set (c .step) d s ∙ f .steps; turns = length-set (c .turn) d t ∙ f .turns }
+
+pub full-held : (h : ℕ) (c : Cursors) → Full c → Full (holding h c)
+full-held h c f = record { steps = f .steps; turns = f .turns }
 
 -- the cursors after one was placed
 pub cursors-placed : (D : ℕ) (c : Cursors) (d : ℕ) (x : Cursor) → Full c → D ≤ 8 → d < D → sayable x → (e : ℕ) → e < D

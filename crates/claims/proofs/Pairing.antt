@@ -15,7 +15,8 @@ use Rattle.image.specs.inner.Same.{upd}
 use Rattle.image.specs.Image.{indexOf, at, put}
 use Rattle.working.specs.Cursor.{Cursor, cursorAt, placed}
 use Rattle.plan.specs.Turn.{Outcome, stored, passed, waiting, resting, refused, turnAt}
-use Rattle.working.proofs.Placed.{placed-same, placed-other}
+use Rattle.working.proofs.Placed.{placed-same, held-cursor, placed-other}
+use Rattle.turn.specs.Call.{heldBy}
 use Rattle.claims.specs.Reference.{Given}
 use Rattle.claims.specs.Calls.{Traced, isPc, turnBy}
 use Rattle.claims.specs.Claims.{ofWorker}
@@ -135,6 +136,9 @@ module _ (mark n D : ℕ) (cells : List ℕ) where
         now : c ≡ cursorAt (placed (w .world .cursors) d c) d
         now = cursor-now (upd rd p v) c locks′ (cond (isPc p) 0 (w .trace .jumps d)) ph
 
+        held : (e : ℕ) → cursorAt (turnBy mark n w d (stored p v c) .world .cursors) e ≡ cursorAt (placed (w .world .cursors) d c) e
+        held = held-cursor (heldBy p v (w .world .cursors .held)) (placed (w .world .cursors) d c)
+
         memory : at n (put (w .world .left) (w .world .image) (indexOf n p) v) ≡ upd rd p v
         memory =
             memory-store n D (w .world .image) (running-sized mark n D cells w (r .reached)) (w .world .left) p v
@@ -143,9 +147,9 @@ module _ (mark n D : ℕ) (cells : List ℕ) where
         by : (b : Bool) → isPc p ≡ b → Passes (rd (field Pc d)) cursor v c b → Paired (turnBy mark n w d (stored p v c))
         by true h y e l =
             let k = mirror-counts n D rd (r .reached .state) (w .trace .jumps d) (w .trace .last d) d p v c h mi in
-            rw (h, left-over, memory, k .0) (begins-paired v c now y (k .1) e l)
+            rw (h, left-over, memory, held e, k .0) (begins-paired v c now y (k .1) e l)
         by false h y e l =
-            rw (h, memory) (still-paired (upd rd p v) c now y (λ f. rw (apart-of isPc (field Pc f) p refl h)) e l)
+            rw (h, memory, held e) (still-paired (upd rd p v) c now y (λ f. rw (apart-of isPc (field Pc f) p refl h)) e l)
     outcome-paired (passed why c) ph mi x = still-paired rd c (cursor-now rd c _ _ ph) x (λ e. refl)
     outcome-paired (waiting b) st mi x = paired
     outcome-paired resting st mi x = paired

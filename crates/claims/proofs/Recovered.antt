@@ -125,9 +125,9 @@ module _ (n : ℕ) (rd : Memory) (D : ℕ) where
 
   -- ---- who has a lock
 
-  private-someone : (b k : ℕ) → ((e : ℕ) × (e < k) × (has (owed n rd e) b ≡ true)) ⊎ ((e : ℕ) → e < k → has (owed n rd e) b ≡ false)
-  private-someone b zero = inr (λ e l. absurd (omega arith))
-  private-someone b (suc k) = by (private-someone b k) (has (owed n rd k) b) refl
+  pub someone : (b k : ℕ) → ((e : ℕ) × (e < k) × (has (owed n rd e) b ≡ true)) ⊎ ((e : ℕ) → e < k → has (owed n rd e) b ≡ false)
+  someone b zero = inr (λ e l. absurd (omega arith))
+  someone b (suc k) = by (someone b k) (has (owed n rd k) b) refl
     where
       by : ((e : ℕ) × (e < k) × (has (owed n rd e) b ≡ true)) ⊎ ((e : ℕ) → e < k → has (owed n rd e) b ≡ false) → (t : Bool) → has (owed n rd k) b ≡ t
           → ((e : ℕ) × (e < suc k) × (has (owed n rd e) b ≡ true)) ⊎ ((e : ℕ) → e < suc k → has (owed n rd e) b ≡ false)
@@ -140,7 +140,7 @@ module _ (n : ℕ) (rd : Memory) (D : ℕ) where
           go e l (no j) = r e (omega arith)
 
   pub after-owner : Parts n D rd → (b d : ℕ) → b < 64 → after (lock b) ≡ d + 1 → (d < D) × (has (owed n rd d) b ≡ true)
-  after-owner p b d u h = by (private-someone b D)
+  after-owner p b d u h = by (someone b D)
     where
       by : ((e : ℕ) × (e < D) × (has (owed n rd e) b ≡ true)) ⊎ ((e : ℕ) → e < D → has (owed n rd e) b ≡ false) → (d < D) × (has (owed n rd d) b ≡ true)
       by (inl r) =

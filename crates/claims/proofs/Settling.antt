@@ -10,11 +10,12 @@ use native.Mathlib.Decide.{decLt, ℕ-discrete}
 use Rattle.image.specs.Place.{Memory}
 use Rattle.image.specs.inner.Same.{upd}
 use Rattle.image.specs.Image.{at}
-use Rattle.working.specs.Cursor.{Cursor, isIdle, cursorAt, placed}
+use Rattle.working.specs.declared.Cursors.{Cursors}
+use Rattle.working.specs.Cursor.{Cursor, isIdle, cursorAt, holding, placed}
 use Rattle.plan.specs.Turn.{Outcome, stored, passed, waiting, resting, refused, turnAt}
 use Rattle.turn.specs.Call.{outcomeAt}
 use Rattle.run.specs.Run.{anyOpen}
-use Rattle.working.proofs.Placed.{sayable}
+use Rattle.working.proofs.Placed.{sayable, held-cursor}
 use Rattle.claims.specs.Reference.{Given}
 use Rattle.claims.specs.Events.{waited, but}
 use Rattle.claims.specs.Calls.{Traced, turnBy, turnedAt, refuses, round, rounds}
@@ -89,6 +90,9 @@ module _ (mark n D : ℕ) (cells : List ℕ) where
         (phase-sayable n rd′ d (last d) _ (locks d) (jumps d) (L .phase d dl)) in
         sum-cursors n D rd′ _ _ (λ e l. sym (cursors-placed D (w .world .cursors) d c (r .full) (few mark n D cells w (r .reached)) dl say e l))
 
+    held-sum : (rd′ : Memory) (h : ℕ) (c : Cursors) → rankSum n rd′ (cursorAt (holding h c)) D ≡ rankSum n rd′ (cursorAt c) D
+    held-sum rd′ h c = sum-cursors n D rd′ _ _ (λ e l. held-cursor h c e)
+
     -- a turn that moves lowers the sum
     moved : (o : Outcome) → turn ≡ o → Went n D rd (cursorAt (w .world .cursors)) (r .locks) (w .trace .jumps) (w .trace .last) d o → 0 < w .world .left
         → isMoving o ≡ true → sum n D (turnBy mark n w d o) < sum n D w
@@ -97,7 +101,7 @@ module _ (mark n D : ℕ) (cells : List ℕ) where
         let q = memory-store n D (w .world .image) (running-sized mark n D cells w (r .reached)) (w .world .left) p v
         (touches-valid n D rd d (r .locks d) p v (g .0) dl (g .1)) left in
         let f = sum-falls n D rd (cursorAt (w .world .cursors)) (r .locks) (w .trace .jumps) (w .trace .last) d (stored p v c) dl e g in
-        rw (q, placed-sum (upd rd p v) c _ _ _ (g .2)) f
+        rw (q, held-sum (upd rd p v) _ (placed (w .world .cursors) d c), placed-sum (upd rd p v) c _ _ _ (g .2)) f
     moved (passed why c) e g left m =
         rw (placed-sum rd c _ _ _ g) (sum-falls n D rd (cursorAt (w .world .cursors)) (r .locks) (w .trace .jumps) (w .trace .last) d (passed why c) dl e g)
     moved (waiting b) e g left m = absurd (false≢true m)

@@ -31,7 +31,7 @@ use Rattle.claims.proofs.LiveTurn.{live-turn, but-same, but-self, live-
 use Rattle.claims.proofs.AtStore.{memory-store}
 use Rattle.claims.proofs.OwnTurn.{own-turn}
 use Rattle.claims.proofs.MirrorTurn.{Mirrored, mirror-turn, mirror-still, mirror-counts, order-grows}
-use Rattle.claims.proofs.Cursors.{full-set, cursors-placed}
+use Rattle.claims.proofs.Cursors.{full-set, full-held, cursors-placed}
 
 -- the image has D workers, and stands for the state that the reference machine has reached over these cells
 pub record Reached (mark n D : ℕ) (cells : List ℕ) (m : Image) (begun : List Given) (order : List ℕ) : Type 0 where
@@ -164,6 +164,7 @@ module _ (mark n D : ℕ) (cells : List ℕ) (w : Traced) (d : ℕ) (r : Running
       (o : Outcome) → Went n D rd (cursorAt (w .world .cursors)) (r .locks) (w .trace .jumps) (w .trace .last) d o
       → (locks′ : ℕ → ℕ) × Live n D (at n (leaves n (w .world) d o .image)) (cursorAt (leaves n (w .world) d o .cursors)) locks′ (turnTrace mark n w d o .jumps)
       (turnTrace mark n w d o .last)
+  unfolding cursorAt
   turn-live (stored p v c) (l, t, L) =
       let e = memory-store n D (w .world .image) (running-sized mark n D cells w (r .reached)) (w .world .left) p v
       (touches-valid n D rd d (r .locks d) p v l dl t) some-left in
@@ -193,7 +194,7 @@ module _ (mark n D : ℕ) (cells : List ℕ) (w : Traced) (d : ℕ) (r : Running
   turn-live (refused x) h = (r .locks, r .live)
 
   turn-full : (o : Outcome) → Full (leaves n (w .world) d o .cursors)
-  turn-full (stored p v c) = full-set (w .world .cursors) d _ _ (r .full)
+  turn-full (stored p v c) = full-held _ _ (full-set (w .world .cursors) d _ _ (r .full))
   turn-full (passed why c) = full-set (w .world .cursors) d _ _ (r .full)
   turn-full (waiting b) = r .full
   turn-full rests = r .full

@@ -19,11 +19,22 @@ pub enum Passing {
 }
 
 // What the turn of an open worker that is not refused is to do, worked out before anything is stored: a store, or none and why, with
-// the cursor after it; or to wait at a lock.
+// the cursor after it; or to wait at a lock. The store of a lock's owner word says the lock: it is taken, or freed with 0.
 pub enum Plan {
     Store {
         at: usize,
         value: u64,
+        step: u8,
+        turn: u8,
+    },
+    Take {
+        lock: u64,
+        value: u64,
+        step: u8,
+        turn: u8,
+    },
+    Free {
+        lock: u64,
         step: u8,
         turn: u8,
     },

@@ -51,11 +51,11 @@ private-without : (t : Bool) (m x : ℕ) → (t ≡ true → 2 * x ≤ m) → (c
 private-without true m x h = let l : 2 * x ≤ m = h refl in (omega arith, omega arith)
 private-without false m x h = (refl, refl)
 
-with-suc : (m b : ℕ) → (with m (suc b) / 2 ≡ with (m / 2) b) × (with m (suc b) % 2 ≡ m % 2)
+pub with-suc : (m b : ℕ) → (with m (suc b) / 2 ≡ with (m / 2) b) × (with m (suc b) % 2 ≡ m % 2)
 unfolding with
 with-suc m b = rw (pow-succ' 2 b, has-suc m b) (private-with (has (m / 2) b) m (2 ^ b))
 
-without-suc : (m b : ℕ) → (without m (suc b) / 2 ≡ without (m / 2) b) × (without m (suc b) % 2 ≡ m % 2)
+pub without-suc : (m b : ℕ) → (without m (suc b) / 2 ≡ without (m / 2) b) × (without m (suc b) % 2 ≡ m % 2)
 unfolding without
 without-suc m b =
     rw (pow-succ' 2 b, has-suc m b)
@@ -65,7 +65,7 @@ private-with-0 : (m : ℕ) (t : Bool) → eqb (m % 2) 1 ≡ t → (cond t m (m +
 private-with-0 m true e = let d : m % 2 ≡ 1 = eqb-true _ _ e in (refl, d)
 private-with-0 m false e = let n : (m % 2 ≡ 1) → ⊥ = eqb-false _ _ e in (omega arith, omega arith)
 
-with-zero : (m : ℕ) → (with m 0 / 2 ≡ m / 2) × (with m 0 % 2 ≡ 1)
+pub with-zero : (m : ℕ) → (with m 0 / 2 ≡ m / 2) × (with m 0 % 2 ≡ 1)
 unfolding with
 with-zero m = rw (has-zero m) (private-with-0 m (eqb (m % 2) 1) refl)
 
@@ -73,7 +73,7 @@ private-without-0 : (m : ℕ) (t : Bool) → eqb (m % 2) 1 ≡ t → (cond t (m 
 private-without-0 m true e = let d : m % 2 ≡ 1 = eqb-true _ _ e in (omega arith, omega arith)
 private-without-0 m false e = let n : (m % 2 ≡ 1) → ⊥ = eqb-false _ _ e in (refl, omega arith)
 
-without-zero : (m : ℕ) → (without m 0 / 2 ≡ m / 2) × (without m 0 % 2 ≡ 0)
+pub without-zero : (m : ℕ) → (without m 0 / 2 ≡ m / 2) × (without m 0 % 2 ≡ 0)
 unfolding without
 without-zero m = rw (has-zero m) (private-without-0 m (eqb (m % 2) 1) refl)
 

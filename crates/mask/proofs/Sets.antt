@@ -1,15 +1,16 @@
--- Sets as a whole: two words with the same members are equal; a set with no member is 0; a set without a lock that it lacks; a
--- lock above all of a set's members.
+-- Sets as a whole: two words with the same members are equal; a set with no member is 0; a set without a lock that it lacks; a word with a lock
+-- or without it is one; a lock above all of a set's members.
 use Prim.Native.Nat.{ℕ, zero, suc, _*_, _/_, _%_, _^_, _<_, _≤_}
 use mathlib.Core.Path.{_≡_, refl, sym, _∙_}
 use mathlib.Core.Bool.{Bool, true, false}
 use native.Mathlib.Omega.{arith}
 use native.Mathlib.Nat.{pow-succ', div-lt-iff-lt-mul, div-eq-of-lt, lt-of-lt-of-le, mod-lt}
-use lib.Pow.{pow-mono, pow-pos}
+use lib.Pow.{pow-mono, pow-pos, pow-lt}
+use lib.Bits.{or-lt}
 use lib.Dec.{eqb}
 use borrow.Author.Tests.{eqb-true, eqb-false}
-use Rattle.mask.specs.Mask.{has, without}
-use Rattle.mask.proofs.Laws.{has-none, has-suc, has-zero}
+use Rattle.mask.specs.Mask.{has, with, without}
+use Rattle.mask.proofs.Laws.{has-none, has-suc, has-zero, or-bit, off-bit}
 
 private-digit : (m n : ℕ) → eqb (m % 2) 1 ≡ eqb (n % 2) 1 → m % 2 ≡ n % 2
 private-digit m n e = by (eqb (n % 2) 1) refl
@@ -45,6 +46,14 @@ no-members m h none = ext m 0 h (omega arith) (λ b l. none b l ∙ sym (has-non
 pub without-stranger : (m b : ℕ) → has m b ≡ false → without m b ≡ m
 unfolding without
 without-stranger m b e = rw e
+
+-- ---- a word stays one
+
+pub with-small : (m b : ℕ) → m < 2 ^ 64 → b < 64 → with m b < 2 ^ 64
+with-small m b h l = rw (← or-bit m b) (or-lt 64 m (2 ^ b) h (pow-lt l))
+
+pub without-small : (m b : ℕ) → m < 2 ^ 64 → without m b < 2 ^ 64
+without-small m b h = rw (← off-bit m b) (omega arith)
 
 -- ---- a lock above all members
 

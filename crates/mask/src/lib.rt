@@ -1,7 +1,8 @@
 // Sets of locks as u64 masks: bit b stands for lock b.
 ghost use mathlib.Core.Path.{_≡_};
 ghost use Prim.Native.Nat.{_<_};
-ghost use Rattle.mask.specs.Mask.{has, with, without};
+ghost use lib.Count.{ones};
+ghost use Rattle.mask.specs.Mask.{has, with, without, above};
 
 // Whether lock b is in the set.
 pub fn has(m: u64, b: u64) -> bool
@@ -25,4 +26,18 @@ pub fn without(m: u64, b: u64) -> u64
     ensures { λ r. ⌜ r ≡ without m b ⌝ }
 {
     m - (m & (1 << b))
+}
+
+// How many locks are in the set.
+pub fn count(m: u64) -> u32
+    ensures { λ r. ⌜ r ≡ ones m ⌝ }
+{
+    u64::count_ones(m)
+}
+
+// Whether lock a is above all that are in the set: above the highest, which the leading zeros give.
+pub fn above(m: u64, a: u64) -> bool
+    ensures { λ r. ⌜ r ≡ above m a ⌝ }
+{
+    64 - u64::leading_zeros(m) as u64 <= a
 }

@@ -7,6 +7,7 @@ ghost use mathlib.Core.Bool.{_||_};
 ghost use Prim.Native.Nat.{_<_, _≤_};
 ghost use lib.ListN.{length};
 ghost use lib.Dec.{eqb};
+ghost use Rattle.mask.specs.Mask.{union};
 ghost use Rattle.image.specs.Place.{lock};
 ghost use Rattle.image.specs.Image.{at, workers, lengthOf};
 ghost use Rattle.image.specs.inner.Inside.{Inside};
@@ -87,6 +88,20 @@ pub fn shared(sets: &[u64], n: usize) -> u64
         d += 1;
     }
     u64::trailing_zeros(twice) as u64
+}
+
+// The locks of the first n sets together.
+pub fn union(sets: &[u64], n: usize) -> u64
+    requires { ⌜ n ≤ length (now sets) ⌝ }
+    ensures { λ r. ⌜ r ≡ union (setsIn (now (sets .entry))) n ⌝ }
+{
+    let mut all: u64 = 0;
+    let mut d: usize = 0;
+    while d < n {
+        all = all | sets[d];
+        d += 1;
+    }
+    all
 }
 
 // Whether lock b's owner word is 0 or names a worker that intends it.

@@ -2,14 +2,15 @@
 -- only by what it is not; and what a cursor that is ready says of its instruction.
 use Prim.Native.Nat.{ℕ, suc, zero, _+_, _-_, _<_}
 use mathlib.Core.Path.{_≡_, refl}
-use mathlib.Core.Bool.{Bool, true, false, _&&_, false≢true}
+use mathlib.Core.Bool.{Bool, true, false, cond, _&&_, false≢true}
 use mathlib.Core.Logic.{_≢_}
 use native.Mathlib.Omega.{arith}
 use lib.Dec.{leb, ltb}
 use borrow.Author.Tests.{leb-true, ltb-true, lt-ltb}
 use Rattle.mask.specs.Mask.{with}
 use Rattle.image.specs.declared.Field.the-variants.{Count, Owned}
-use Rattle.image.specs.Place.{Place, field, Memory}
+use Rattle.image.specs.declared.Field.{Field}
+use Rattle.image.specs.Place.{Place, cell, field, own, Memory}
 use Rattle.image.specs.Image.{indexOf}
 use Rattle.code.specs.Table.{turnsOf}
 use Rattle.code.specs.Op.{opOf}
@@ -17,20 +18,39 @@ use Rattle.code.specs.inner.Fits.{fits}
 use Rattle.code.specs.Form.{wellFormed}
 use Rattle.code.proofs.Ranges.{formed-range, in-range, turns-most}
 use Rattle.working.specs.Cursor.{idle, on}
-use Rattle.log.specs.Log.{codeIn}
+use Rattle.log.specs.Log.{operand, codeIn}
+use Rattle.log.specs.declared.Plan.the-variants.{Store}
 use Rattle.plan.specs.Turn.{stored, logged, acquireTurn, finishTurn, ready}
 use Rattle.log.specs.inner.Logged.{loggedPlan}
-use Rattle.plan.specs.inner.Plan.{planOf}
+use Rattle.plan.specs.inner.Plan.{storePlan, planOf}
+
+-- ---- stores at no owner word
+
+-- the code says a store at this place by its index
+abbrev pub Indexed : ℕ → Place → Type 0
+Indexed n p = (v s t : ℕ) → storePlan n p v s t ≡ Store (indexOf n p) v s t
+
+pub field-indexed : (n : ℕ) (f : Field) (d : ℕ) → Indexed n (field f d)
+field-indexed n f d v s t = refl
+
+pub operand-indexed : (n d a : ℕ) → Indexed n (operand d a)
+unfolding operand
+operand-indexed n d a v s t = by (ltb a 512)
+  where
+    by : (b : Bool) → storePlan n (cond b (cell a) (own d (a - 512))) v s t ≡ Store (indexOf n (cond b (cell a) (own d (a - 512)))) v s t
+    by true = refl
+    by false = refl
 
 -- ---- turns by their number
 
 module _ (n : ℕ) (rd : Memory) (d s t : ℕ) where
-  -- a logged store at a place, as the code says it
-  pub logged-plan : (p : Place) (v ns nt j : ℕ) → planOf n (logged n rd d s t p v (on ns nt) j) ≡ loggedPlan n rd d s t (indexOf n p) v ns nt j
-  logged-plan p v ns nt zero = refl
-  logged-plan p v ns nt (suc zero) = refl
-  logged-plan p v ns nt (suc (suc zero)) = refl
-  logged-plan p v ns nt (suc (suc (suc j))) = refl
+  -- a logged store at a place that is no owner word, as the code says it
+  pub logged-plan :
+      (p : Place) (v ns nt j : ℕ) → Indexed n p → planOf n (logged n rd d s t p v (on ns nt) j) ≡ loggedPlan n rd d s t (indexOf n p) v ns nt j
+  logged-plan p v ns nt zero x = refl
+  logged-plan p v ns nt (suc zero) x = refl
+  logged-plan p v ns nt (suc (suc zero)) x = refl
+  logged-plan p v ns nt (suc (suc (suc j))) x = x _ ns nt
 
   -- its value matters at turn 1 alone
   pub value-plan : (i v ns nt j : ℕ) → j ≢ 1 → loggedPlan n rd d s t i v ns nt j ≡ loggedPlan n rd d s t i 0 ns nt j
@@ -45,7 +65,7 @@ module _ (n : ℕ) (rd : Memory) (d s : ℕ) where
       → planOf n (acquireTurn n rd d a s t) ≡ loggedPlan n rd d s t (indexOf n (field Owned d)) (with (rd (field Owned d)) a) (s + 1) 0 (t - 2)
   acquire-plan a zero x y = absurd (x refl)
   acquire-plan a (suc zero) x y = absurd (y refl)
-  acquire-plan a (suc (suc t)) x y = let e : suc (suc t) - 2 ≡ t = omega arith in rw e (logged-plan n rd d s _ _ _ _ _ t)
+  acquire-plan a (suc (suc t)) x y = let e : suc (suc t) - 2 ≡ t = omega arith in rw e (logged-plan n rd d s _ _ _ _ _ t (field-indexed n Owned d))
 
   -- a finish from turn 2 on
   pub finish-last : (t : ℕ) → t ≢ 0 → t ≢ 1 → finishTurn n rd d s t ≡ stored (field Count d) 0 idle

@@ -23,8 +23,8 @@ fn lock_turn(image: &[u64], d: usize, own: usize, a: u64, s: u8) -> Plan
     if image::read_lock(image, a) != 0 {
         return Plan::Wait(a);
     }
-    Plan::Store {
-        at: image::lock_index(a),
+    Plan::Take {
+        lock: a,
         value: d as u64 + 1,
         step: s,
         turn: 2,
@@ -70,9 +70,8 @@ fn unlock_turn(image: &[u64], d: usize, own: usize, a: u64, s: u8) -> Plan
     ensures { λ r. ⌜ r ≡ planOf own (unlockTurn own (at own (now (image .entry))) d a s) ⌝ }
 {
     match report(image::read_lock(image, a), d) {
-        Report::Freed => Plan::Store {
-            at: image::lock_index(a),
-            value: 0,
+        Report::Freed => Plan::Free {
+            lock: a,
             step: s,
             turn: 5,
         },

@@ -77,7 +77,7 @@ fn planned(image: &[u64], mark: u64, own: usize) -> Restored
     let sets = j.owed;
     Restored {
         answer: a,
-        cursors: resuming::resumed_all(image, own),
+        cursors: resuming::resumed_all(image, sets, own),
         repair: repair::stock::repair(image, sets, own),
     }
 }

@@ -8,7 +8,8 @@ ghost use Rattle.image.specs.Image.{at, workers};
 ghost use Rattle.image.specs.inner.Inside.{Inside};
 ghost use Rattle.working.specs.Cursor.{stepNo, turnNo};
 ghost use Rattle.resuming.specs.Resumed.{targetTurn, resumed, resumedAt, resumedAll};
-ghost use Rattle.soundness.specs.inner.Reading.{Legible, Restorable};
+ghost use Rattle.soundness.specs.Sound.{eight};
+ghost use Rattle.soundness.specs.inner.Reading.{Legible, Restorable, owedAt};
 
 // The step at which worker d goes on.
 fn resumed_step(image: &[u64], d: usize, own: usize) -> u8
@@ -71,9 +72,9 @@ fn turn_at(image: &[u64], d: usize, own: usize) -> u8
     resumed_turn(image, d, own)
 }
 
-// Where all workers go on.
-pub fn resumed_all(image: &[u64], own: usize) -> Cursors
-    requires { ⌜ Restorable own (now image) ⌝ }
+// Where all workers go on, with the locks held that they are owed.
+pub fn resumed_all(image: &[u64], sets: [u64; 8], own: usize) -> Cursors
+    requires { ⌜ (Restorable own (now image)) × (sets ≡ eight (owedAt own (at own (now image)) (workers (now image)))) ⌝ }
     ensures { λ r. ⌜ r ≡ resumedAll own (at own (now (image .entry))) (workers (now (image .entry))) ⌝ }
 {
     let mut step = [0u8; 8];
@@ -87,5 +88,6 @@ pub fn resumed_all(image: &[u64], own: usize) -> Cursors
     Cursors {
         step: step,
         turn: turn,
+        held: owed::union(&sets, image::workers(image) as usize),
     }
 }

@@ -82,7 +82,7 @@ pub fn ordered(h: u64, x: Op) -> bool
     ensures { λ r. ⌜ r ≡ ordered h x ⌝ }
 {
     match x {
-        Op::Acquire(a) => h >> a == 0,
+        Op::Acquire(a) => mask::above(h, a),
         Op::Release(a) => mask::has(h, a),
         Op::Assign(_, _) => true,
         Op::Jump(_, _) => true,

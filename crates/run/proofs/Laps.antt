@@ -75,15 +75,15 @@ module _ (own n to round : ℕ) (s₀ s : Counting) (next d : ℕ) (l : Lap own 
       → tested own (s .world .image) (s .world .cursors) d ≡ true
       → x ≡ planDid (planOf own (outcomeAt own (s .world) d))
       → w ≡ leaves own (s .world) d (outcomeAt own (s .world) d)
-      → t ≡ counted (didAnswer x) (s .tally)
+      → t ≡ counted (didAnswer own x) (s .tally)
       → m ≡ cond (eqb (getD (w .cursors .turn) d 0) 255) next (d + 1)
       → Lap own n to round s₀ (counting w t) m (d + 1)
   lap-turn w x t m h f test did left count kept =
       let few : d < 8 = omega (arith, l .top, l .few) in
       let made = made-at own (s .world) d (l .full) few test in
       let o = outcomeAt own (s .world) d in
-      let said : didAnswer x ≡ answerOf own o = ap didAnswer did ∙ did-answers own o made in
-      let turn = turned-is own s d w (didAnswer x) t left said count in
+      let said : didAnswer own x ≡ answerOf own o = ap (didAnswer own) did ∙ did-answers own o made in
+      let turn = turned-is own s d w (didAnswer own x) t left said count in
       let others : (i : ℕ) → i ≢ d → cursorAt (w .cursors) i ≡ cursorAt (s .world .cursors) i = λ i q. rw left (leaves-other own (s .world) d i o q) in
       let below : next ≡ openTo d (w .cursors) = l .last ∙ sym (to-same (s .world .cursors) (w .cursors) d (λ i q. others i (λ r. omega arith))) in
       record {
@@ -92,7 +92,7 @@ module _ (own n to round : ℕ) (s₀ s : Counting) (next d : ℕ) (l : Lap own 
         few = l .few;
         full = f;
         size = rw left (sized-leaves n own (s .world) d (l .full) (l .size) (omega (arith, l .top)) few o);
-        most = rw count (most-more (8 * round + d + 1) (8 * round + (d + 1)) (most-counted (8 * round + d) (didAnswer x) (l .most)) (omega arith));
+        most = rw count (most-more (8 * round + d + 1) (8 * round + (d + 1)) (most-counted (8 * round + d) (didAnswer own x) (l .most)) (omega arith));
         last = kept ∙ to-with (w .cursors) d next (rw (f .turns) (omega (arith, l .top, l .few))) below;
         rest = λ i a b. rw (others i (λ r. omega arith)) (l .rest i a b);
         known =

@@ -8,7 +8,7 @@ use working::Refusal;
 pub mod codes;
 
 ghost use mathlib.Core.Path.{_≡_};
-ghost use Prim.Native.Nat.{_+_, _<_, _≤_};
+ghost use Prim.Native.Nat.{ℕ, _+_, _<_, _≤_};
 ghost use mathlib.Core.Bool.{cond};
 ghost use lib.Dec.{eqb};
 ghost use lib.ListN.{length};
@@ -91,10 +91,12 @@ fn passed(why: Passing, t: Tally) -> Tally
 // The tally with a turn counted by what it did.
 fn counted(x: Did, t: Tally) -> Tally
     requires { ⌜ Room t ⌝ }
-    ensures { λ r. ⌜ r ≡ counted (didAnswer x) t ⌝ }
+    ensures { λ r. ⌜ ((n : ℕ) → r ≡ counted (didAnswer n x) t) ⌝ }
 {
     match x {
         Did::Stored(_) => tally::stored(t),
+        Did::Took(_) => tally::stored(t),
+        Did::Freed(_) => tally::stored(t),
         Did::Passed(why) => passed(why, t),
         Did::Waiting(_) => tally::waiting(t),
     }
@@ -115,6 +117,7 @@ fn rounds_of(
         ≡ roundsOf own rounds n (counting (world (now (image .entry)) cursors (now (left .entry))) none) ⌝ }
 {
     let mut c = cursors;
+    let mut held = cursors.held;
     let mut tally = tally::zero();
     let mut round: u16 = 0;
     let mut to = open_to(c, n);
@@ -141,6 +144,7 @@ fn rounds_of(
             c.step[d] = acted.step;
             c.turn[d] = acted.turn;
             let did = acted.did;
+            held = turn::held_after(did, held);
             tally = counted(did, tally);
             next = open_with(c.turn[d], d, next);
             d += 1;
@@ -148,6 +152,7 @@ fn rounds_of(
         to = next;
         round += 1;
     };
+    c.held = held;
     Ran {
         end: end,
         cursors: c,

@@ -1,2 +1,3 @@
 pub mod Legible
 pub mod Sets
+pub mod Owing

@@ -10,6 +10,8 @@ use native.Mathlib.Omega.{arith}
 use lib.ListN.{length, getD, set, length-set}
 use lib.Seq.{ext-getD, getD-set-same, getD-set-other}
 use Rattle.base.proofs.Counting.{left-step, left-none}
+use Rattle.mask.specs.Mask.{union}
+use Rattle.mask.proofs.Members.{union-same}
 use Rattle.image.specs.Place.{lock, Memory}
 use Rattle.owed.specs.Owed.{owed, claimants, ownerOk}
 use Rattle.soundness.specs.Sound.{eight, lockOk, badLock}
@@ -50,6 +52,10 @@ module _ (n : ℕ) (rd : Memory) (D : ℕ) where
   unfolding claimants
   claimants-are b zero h g = refl
   claimants-are b (suc k) h g = rw (eight-at (owedAt n rd D) 0 k (omega arith), owed-inside k (omega arith), claimants-are b k (omega arith) g)
+
+  -- what the sets have together
+  pub union-are : D ≤ 8 → union (setsIn (eight (owedAt n rd D))) D ≡ union (owed n rd) D
+  union-are h = union-same _ (owed n rd) D (λ d l. eight-at (owedAt n rd D) 0 d (omega arith) ∙ owed-inside d l)
 
   -- the owed sets of one worker more
   pub owed-next : (sets : List ℕ) (d v : ℕ) → d < 8 → sets ≡ eight (owedAt n rd d) → v ≡ owed n rd d → set sets d v ≡ eight (owedAt n rd (d + 1))

@@ -2,7 +2,7 @@
 -- behind a turn (`turned-memory`, `turned-cursors`), the words that a submission leaves (`submitted-aside`), and those that a recovery
 -- does, with the cursors behind it (`recovered-fixed`, `recovered-cursors`).
 use Prim.Native.Nat.{ℕ, _^_, _-_, _<_, _≤_}
-use mathlib.Core.Path.{_≡_, refl, sym}
+use mathlib.Core.Path.{_≡_, refl, sym, _∙_}
 use mathlib.Core.Bool.{true}
 use mathlib.Core.List.{List}
 use lib.ListN.{length}
@@ -19,7 +19,7 @@ use Rattle.intake.specs.declared.Submitted.the-variants.{Taken}
 use Rattle.working.specs.Cursor.{Cursor, on, cursorAt, placed}
 use Rattle.plan.specs.Turn.{Outcome, stored, passed, waiting, resting, refused}
 use Rattle.intake.specs.Submit.{submission}
-use Rattle.working.proofs.Placed.{sayable}
+use Rattle.working.proofs.Placed.{sayable, held-cursor}
 use Rattle.intake.proofs.Submission.{submission-length}
 use Rattle.resuming.specs.Resumed.{resumed}
 use Rattle.claims.specs.Events.{but}
@@ -83,11 +83,12 @@ module _ (mark n D : ℕ) (cells : List ℕ) (w : Traced) (d : ℕ) (r : Running
   cursors-by :
       (o : Outcome) → Stepped n rd d (w .trace .last d) (r .locks d) (w .trace .jumps d) o → (e : ℕ) → e < D
       → cursorAt (turnBy mark n w d o .world .cursors) e ≡ but cursors d (turnCursor (cursors d) o) e
-  cursors-by (stored p v c) (l, t, ph) = placed-by c (phase-sayable n (upd rd p v) d (w .trace .last d) c l _ ph)
-  cursors-by (passed why c) ph = placed-by c (phase-sayable n rd d (w .trace .last d) c (r .locks d) _ ph)
-  cursors-by (waiting b) s = λ e l. sym (but-self cursors d e)
-  cursors-by resting s = λ e l. sym (but-self cursors d e)
-  cursors-by (refused x) s = λ e l. sym (but-self cursors d e)
+  cursors-by (stored p v c) (l, t, ph) e h =
+      held-cursor _ (placed (w .world .cursors) d c) e ∙ placed-by c (phase-sayable n (upd rd p v) d (w .trace .last d) c l _ ph) e h
+  cursors-by (passed why c) ph e h = placed-by c (phase-sayable n rd d (w .trace .last d) c (r .locks d) _ ph) e h
+  cursors-by (waiting b) s e h = sym (but-self cursors d e)
+  cursors-by resting s e h = sym (but-self cursors d e)
+  cursors-by (refused x) s e h = sym (but-self cursors d e)
 
   pub turned-cursors :
       (e : ℕ) → e < D

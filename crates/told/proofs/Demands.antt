@@ -6,6 +6,7 @@ use Rattle.told.specs.Once.{OnceAlways, ToldAlways, AskedAlways, BegunFi
 use Rattle.told.specs.Moments.{UntouchedAlways}
 use Rattle.told.specs.Reports.{ReportsExplained, ReleasesFree}
 use Rattle.told.specs.Tallies.{RunsTallied}
+use Rattle.told.specs.Held.{LocksCounted}
 use Rattle.told.specs.Enough.{EnoughIsWhole}
 use Rattle.claims.proofs.Durable.{durable-always, formatted-rests}
 use Rattle.claims.proofs.Linear.{linearizable}
@@ -14,6 +15,7 @@ use Rattle.told.proofs.EveryOrder.{every-order-had}
 use Rattle.told.proofs.Untouched.{untouched-always}
 use Rattle.told.proofs.Reports.{reports-explained, releases-free}
 use Rattle.told.proofs.Tallies.{runs-tallied}
+use Rattle.told.proofs.Held as held
 use Rattle.told.proofs.Enough.{enough-is-whole}
 use Rattle.told.proofs.Once.{admitted-always, once-always, told-always, asked-always}
 use Rattle.told.proofs.Finishes.{begun-finishes}
@@ -59,6 +61,10 @@ reports-mean-loss = reports-explained mark ownWords (omega arith) (omega arith)
 -- with no cut and no recovery every release frees its lock
 pub locks-freed : ReleasesFree mark ownWords
 locks-freed = releases-free mark ownWords (omega arith) (omega arith)
+
+-- the mask that a call returns has just the locks with an owner, and its ones are their number
+pub locks-counted : LocksCounted mark ownWords
+locks-counted = held.locks-counted mark ownWords (omega arith) (omega arith)
 
 -- an uncut call may be lent any number of stores that suffices
 pub enough-stores : EnoughIsWhole mark ownWords

@@ -15,6 +15,8 @@ pub mod Collecting
 pub mod Resuming
 pub mod Accounting
 pub mod Reports
+-- How many locks are held, by the mask alone.
+pub mod Held
 -- What a planner may be told: which sections are begun, by the events and by the records, after any calls and cuts; that they are
 -- finished in the end; and what a client has that numbers its sections one after the other, or hands one in again and again.
 pub mod Numbers

@@ -15,15 +15,15 @@ use Rattle.image.specs.inner.Same.{upd}
 use Rattle.image.specs.Image.{at, workers, headerOk}
 use Rattle.image.proofs.Header.{Sized, header-sized, header-workers}
 use Rattle.image.proofs.Stores.{header-store, workers-store}
-use Rattle.working.specs.Cursor.{Cursor, cursorAt}
+use Rattle.working.specs.Cursor.{Cursor, cursorAt, placed}
 use Rattle.plan.specs.Turn.{Outcome, stored, passed, turnAt}
 use Rattle.log.specs.declared.Passing.the-variants.{Jump}
 use Rattle.turn.specs.Call.{outcomeAt, outcome}
-use Rattle.working.proofs.Placed.{Full, sayable, placed-same, placed-other}
+use Rattle.working.proofs.Placed.{Full, sayable, placed-same, held-cursor, placed-other}
 use Rattle.claims.specs.Reference.{Given}
 use Rattle.claims.specs.Calls.{Trace, Traced, recording, isPc, call, turns, whole, move, lent}
 use Rattle.claims.proofs.AtStore.{memory-store}
-use Rattle.claims.proofs.Cursors.{full-set}
+use Rattle.claims.proofs.Cursors.{full-set, full-held}
 
 pub record View (mark n D : ℕ) (w : Traced) (rd : Memory) (d : ℕ) (c : Cursor) (cur : ℕ → Cursor) (taken : List Given) : Type 0 where
   pub header : headerOk mark n (w .world .image) ≡ true
@@ -61,10 +61,10 @@ module _ (mark n D : ℕ) (w : Traced) (rd : Memory) (d : ℕ) (c : Cursor) (cur
       (record {
         header = header-store n mark (2 ^ 64 - 1) (w .world .image) p v ∙ view .header;
         many = workers-store n (2 ^ 64 - 1) (w .world .image) p v ∙ view .many;
-        full = full-set (w .world .cursors) d _ _ (view .full);
+        full = full-held _ _ (full-set (w .world .cursors) d _ _ (view .full));
         memory = memory-store n D (w .world .image) view-sized (2 ^ 64 - 1) p v ok (omega arith) ∙ ap (λ (m : Memory). upd m p v) (view .memory);
-        mine = placed-same (w .world .cursors) d x (view .full) (omega arith) say;
-        others = λ f h. placed-other (w .world .cursors) d f x h ∙ view .others f h;
+        mine = held-cursor _ (placed (w .world .cursors) d x) d ∙ placed-same (w .world .cursors) d x (view .full) (omega arith) say;
+        others = λ f h. held-cursor _ (placed (w .world .cursors) d x) f ∙ (placed-other (w .world .cursors) d f x h ∙ view .others f h);
         entered = private-taken (isPc p && not (eqb (2 ^ 64 - 1) 0)) (w .trace) d (eqb (at n (w .world .image) (field Pc d)) 0) ∙ view .entered;
       })
 

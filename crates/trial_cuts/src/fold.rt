@@ -44,6 +44,11 @@ fn cursors(h: u64, c: Cursors) -> u64 {
     v
 }
 
+// The working record: the cursors, then the mask of the locks held.
+fn record(h: u64, c: Cursors) -> u64 {
+    word(cursors(h, c), c.held)
+}
+
 fn tally(h: u64, t: Tally) -> u64 {
     word(
         word(word(word(word(h, t.turns), t.waits), t.stores), t.free),
@@ -55,7 +60,7 @@ fn tally(h: u64, t: Tally) -> u64 {
 pub fn made(h: u64, m: Made) -> u64 {
     let t = m.told;
     let v = word(word(word(h, t.tag % 8), t.cause), t.value);
-    tally(cursors(v, m.cursors), m.tally)
+    tally(record(v, m.cursors), m.tally)
 }
 
 // What an uncut call answered and left: the image, and the stores left of the highest number.

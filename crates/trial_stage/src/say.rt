@@ -101,6 +101,12 @@ pub fn cursor(c: Cursors, d: usize) {
     two_numbers(s as u64, t as u64);
 }
 
+// How many locks are held.
+pub fn held(c: Cursors) {
+    text(b"held ");
+    number(working::locks_held(c));
+}
+
 // Whether what is told is as it was before.
 pub fn kept(yes: bool) {
     if yes {

@@ -25,6 +25,11 @@ fn same_cursors(a: Cursors, b: Cursors) -> bool {
     true
 }
 
+// Whether they are the same, with the same locks held.
+fn same_record(a: Cursors, b: Cursors) -> bool {
+    a.held == b.held && same_cursors(a, b)
+}
+
 // Whether the first words of the image are those marked.
 fn same_words(image: &[u64], shelf: &[u64], n: usize) -> bool {
     let mut i: usize = 0;
@@ -45,18 +50,19 @@ fn kept(image: &[u64], shelf: &[u64], s: Stage) -> bool {
     if s.left != s.given {
         return false;
     }
-    same_words(image, shelf, s.words) && same_cursors(s.cursors, s.before)
+    same_words(image, shelf, s.words) && same_record(s.cursors, s.before)
 }
 
 // One thing that `show` names; answers whether there is such a thing.
 fn item(w: &[u8], image: &[u64], shelf: &[u64], s: Stage) -> bool {
-    let n = text::position(b"answer tally left kept idle", w);
+    let n = text::position(b"answer tally left kept idle held", w);
     match n {
         1 => say::answer(image, s.told),
         2 => say::tally(s.tally),
         3 => say::left(s.left),
         4 => say::kept(kept(image, shelf, s)),
-        5 => say::idle(same_cursors(s.cursors, working::all_idle())),
+        5 => say::idle(same_record(s.cursors, working::all_idle())),
+        6 => say::held(s.cursors),
         _ => return false,
     }
     true

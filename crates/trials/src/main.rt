@@ -5,10 +5,10 @@
 // other is decimal. The first line that is none of these is told on standard error with its file and number, and ends its script; its label, and
 // what a `show` names before what can't be shown, are printed all the same.
 //
-// A script has an image, a working record (all idle at first), a section, eight arguments, and a marked image and record.
+// A script has an image, a working record (all idle at first, with no lock held), a section, eight arguments, and a marked image and record.
 //   image N FILL          a fresh image of N words, all FILL; the record is all idle
 //   overwrite AT VALUE    one word of the image
-//   put D STEP TURN       worker D of the record; turn 255 is idle
+//   put D STEP TURN       worker D of the record; turn 255 is idle; the locks held stay
 //   section LIST          the section: instructions with '/' between them, each its kind and fields (those left out are 0) or its word in
 //                         sixteen digits; '* N' behind one repeats it
 //   args A ..             the arguments, those left out 0
@@ -18,7 +18,7 @@
 //   given N CALL          the call given N stores; without this it has more than enough
 // What is shown:
 //   show THING ..         in one line: answer (of the last call), tally, left (its stores left), kept (whether image and record are those marked and
-//                         the call took no store), idle (whether all workers are)
+//                         the call took no store), idle (whether all workers are, with no lock held), held (how many locks are, by the record)
 //   words AT ..           a line for each word, index and value as in document 01's listing
 //   cursors D ..          a line for each worker, step and turn
 //   changes               a line for each word that is not the marked one

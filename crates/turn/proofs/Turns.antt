@@ -4,31 +4,33 @@ use borrow.Author.Tests.{lt-ltb, le-ltb, ltb-true, ltb-false}
 use native.Mathlib.Omega.{arith}
 use native.Mathlib.Decide.{ℕ-discrete}
 use lib.ListN.{length, getD}
-use mathlib.Core.Path.{_≡_, refl}
-use mathlib.Core.Bool.{Bool, true, false}
+use mathlib.Core.Path.{_≡_, refl, _∙_}
+use mathlib.Core.Bool.{Bool, true, false, cond}
 use mathlib.Core.Logic.{_≢_}
 use lib.Dec.{ltb, eqb}
-use Rattle.image.specs.Place.{Place, lock, Memory}
+use Rattle.image.specs.Place.{Place, cell, lock, field, own, step, Memory}
 use Rattle.code.specs.declared.Op.{Op}
 use Rattle.code.specs.declared.Op.the-variants.{Acquire, Release, Assign, Jump, Finish, Unknown}
 use Rattle.code.specs.Op.{opOf}
 use Rattle.code.specs.inner.Fits.{fits}
-use Rattle.image.specs.Image.{at, workers, headerOk}
+use Rattle.image.specs.Image.{indexOf, at, workers, headerOk}
 use Rattle.image.specs.inner.Inside.{Inside}
 use Rattle.image.proofs.Header.{header-workers, header-inside}
 use Rattle.working.specs.declared.Refusal.{Refusal}
 use Rattle.working.specs.declared.Refusal.the-variants.{Worker, Image as ImageRefused, Cursor as CursorRefused}
-use Rattle.working.specs.Cursor.{Cursor, on, isIdle, cursorAt}
+use Rattle.working.specs.Cursor.{Cursor, on, isIdle, stepNo, turnNo, cursorAt, placed}
 use Rattle.log.specs.Log.{codeIn}
 use Rattle.plan.specs.Turn.{Outcome, stored, passed, waiting, resting, refused, logged, acquireTurn, finishTurn, opTurn, ready, turnAt}
 use Rattle.working.specs.World.{World}
 use Rattle.turn.specs.Call.{answerOf, leaves, outcomeAt, outcome, isRefused}
-use Rattle.plan.specs.inner.Plan.{planOf}
-use Rattle.turn.specs.inner.Acting.{planDid, didAnswer, planLeaves, tested, gateOf}
+use Rattle.log.specs.declared.Plan.the-variants.{Take, Free}
+use Rattle.plan.specs.inner.Plan.{storePlan, planOf}
+use Rattle.turn.specs.inner.Acting.{planDid, didAnswer, tested, gateOf}
+use Rattle.turn.specs.declared.Answer.the-variants.{Stored}
 use Rattle.turn.specs.declared.Gate.the-variants.{Refused as GateRefused, Idle, Open}
 use Rattle.plan.proofs.Planned.{ready-says}
 use Rattle.plan.proofs.Outcomes.{either, unlock-either}
-use Rattle.working.proofs.Placed.{Full, idle-is, on-is, open-turn, idle-turn, placed-other}
+use Rattle.working.proofs.Placed.{Full, idle-is, on-is, open-turn, idle-turn, held-cursor, placed-other}
 
 -- a turn that is made, that is, of an open worker and not refused
 abbrev pub Made : Outcome → Type 0
@@ -76,8 +78,19 @@ module _ (n : ℕ) where
   unfolding outcomeAt turnAt
   rests w d e = rw (idle-is (cursorAt (w .cursors) d) e)
 
-  pub did-answers : (o : Outcome) → Made o → didAnswer (planDid (planOf n o)) ≡ answerOf n o
-  did-answers (stored p v c) m = refl
+  private-lock : (b v s t : ℕ) (z : Bool) → didAnswer n (planDid (cond z (Free b s t) (Take b v s t))) ≡ Stored (indexOf n (lock b))
+  private-lock b v s t true = refl
+  private-lock b v s t false = refl
+
+  store-answers : (p : Place) (v s t : ℕ) → didAnswer n (planDid (storePlan n p v s t)) ≡ Stored (indexOf n p)
+  store-answers (cell x) v s t = refl
+  store-answers (lock b) v s t = private-lock b v s t (eqb v 0)
+  store-answers (field f d) v s t = refl
+  store-answers (own d i) v s t = refl
+  store-answers (step d i) v s t = refl
+
+  pub did-answers : (o : Outcome) → Made o → didAnswer n (planDid (planOf n o)) ≡ answerOf n o
+  did-answers (stored p v c) m = store-answers p v (stepNo c) (turnNo c)
   did-answers (passed why c) m = refl
   did-answers (waiting b) m = refl
   did-answers resting m = absurd m
@@ -92,18 +105,11 @@ module _ (n : ℕ) where
 
   -- a turn leaves the cursors of the other workers
   pub leaves-other : (w : World) (d e : ℕ) (o : Outcome) → e ≢ d → cursorAt (leaves n w d o .cursors) e ≡ cursorAt (w .cursors) e
-  leaves-other w d e (stored p v c) h = placed-other (w .cursors) d e c h
+  leaves-other w d e (stored p v c) h = held-cursor _ (placed (w .cursors) d c) e ∙ placed-other (w .cursors) d e c h
   leaves-other w d e (passed why c) h = placed-other (w .cursors) d e c h
   leaves-other w d e (waiting b) h = refl
   leaves-other w d e resting h = refl
   leaves-other w d e (refused r) h = refl
-
-  pub plan-leaves : (w : World) (d : ℕ) (o : Outcome) → planLeaves w d (planOf n o) ≡ leaves n w d o
-  plan-leaves w d (stored p v c) = refl
-  plan-leaves w d (passed why c) = refl
-  plan-leaves w d (waiting b) = refl
-  plan-leaves w d resting = refl
-  plan-leaves w d (refused r) = refl
 
 -- ---- causes 10 and 1, or the turn
 

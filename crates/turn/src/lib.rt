@@ -13,9 +13,9 @@ ghost use Rattle.image.specs.Image.{at};
 ghost use Rattle.image.specs.inner.Inside.{Inside};
 ghost use Rattle.plan.specs.Turn.{ready};
 ghost use Rattle.working.specs.inner.At.{At};
-ghost use Rattle.working.specs.Cursor.{setAt};
+ghost use Rattle.working.specs.Cursor.{setAt, holding};
 ghost use Rattle.working.specs.World.{world};
-ghost use Rattle.turn.specs.inner.Acting.{tested, gateOf, Acts, planDid, didAnswer, planLeaves};
+ghost use Rattle.turn.specs.inner.Acting.{planLock, planDid, planLeaves, didLock, didHeld, didAnswer, Acts, tested, gateOf};
 ghost use Rattle.turn.specs.Call.{answerOf, leaves, outcomeAt, outcome};
 
 // What a turn answers.
@@ -37,9 +37,11 @@ enum Gate {
     Open,
 }
 
-// What the turn of an open worker did, where it is not refused.
+// What the turn of an open worker did, where it is not refused: a store, of a lock's owner word with the lock; or none.
 pub enum Did {
     Stored(usize),
+    Took(u64),
+    Freed(u64),
     Passed(Passing),
     Waiting(u64),
 }
@@ -58,9 +60,11 @@ pub struct Turned {
 
 // A plan done, with the step and turn behind it: the plan's, or where it waits those that the worker has.
 fn done(image: &mut [u64], p: Plan, s: u8, t: u8, left: &mut u64) -> Acted
+    requires { ⌜ planLock p ⌝ }
     ensures did { λ r. ⌜ r .did ≡ planDid p ⌝ }
-    ensures after { λ r. ⌜ ((c : Cursors) (d : ℕ) → At c d s t
-        → world (now (image .exit)) (setAt c d (r .step) (r .turn)) (now (left .exit)) ≡ planLeaves (world (now (image .entry)) c (now (left .entry))) d p) ⌝ }
+    ensures after { λ r. ⌜ ((n : ℕ) (c : Cursors) (d : ℕ) → At c d s t
+        → world (now (image .exit)) (holding (didHeld (r .did) (c .held)) (setAt c d (r .step) (r .turn))) (now (left .exit))
+        ≡ planLeaves n (world (now (image .entry)) c (now (left .entry))) d p) ⌝ }
 {
     match p {
         Plan::Store {
@@ -72,6 +76,27 @@ fn done(image: &mut [u64], p: Plan, s: u8, t: u8, left: &mut u64) -> Acted
             image::store(image, at, value, left);
             Acted {
                 did: Did::Stored(at),
+                step: step,
+                turn: turn,
+            }
+        }
+        Plan::Take {
+            lock,
+            value,
+            step,
+            turn,
+        } => {
+            image::store(image, image::lock_index(lock), value, left);
+            Acted {
+                did: Did::Took(lock),
+                step: step,
+                turn: turn,
+            }
+        }
+        Plan::Free { lock, step, turn } => {
+            image::store(image, image::lock_index(lock), 0, left);
+            Acted {
+                did: Did::Freed(lock),
                 step: step,
                 turn: turn,
             }
@@ -92,20 +117,38 @@ fn done(image: &mut [u64], p: Plan, s: u8, t: u8, left: &mut u64) -> Acted
 // The turn of worker d, which is ready at step s, turn t.
 pub fn turn_on(image: &mut [u64], d: usize, s: u8, t: u8, own: usize, left: &mut u64) -> Acted
     requires { ⌜ (Inside own (now image) d) × (ready own (at own (now image)) d s t ≡ true) ⌝ }
-    ensures { λ r. ⌜ ((c : Cursors) → At c d s t
+    ensures lock { λ r. ⌜ didLock (r .did) ⌝ }
+    ensures acts { λ r. ⌜ ((c : Cursors) → At c d s t
         → Acts own (world (now (image .entry)) c (now (left .entry))) d (r .did)
-        (world (now (image .exit)) (setAt c d (r .step) (r .turn)) (now (left .exit)))) ⌝ }
+        (world (now (image .exit)) (holding (didHeld (r .did) (c .held)) (setAt c d (r .step) (r .turn))) (now (left .exit)))) ⌝ }
 {
     let p = plan::next(image, d, own, s, t);
     done(image, p, s, t, left)
 }
 
+// The locks held after it.
+pub fn held_after(x: Did, held: u64) -> u64
+    requires { ⌜ didLock x ⌝ }
+    ensures { λ r. ⌜ r ≡ didHeld x held ⌝ }
+{
+    match x {
+        Did::Stored(_) => held,
+        Did::Took(b) => mask::with(held, b),
+        Did::Freed(b) => mask::without(held, b),
+        Did::Passed(_) => held,
+        Did::Waiting(_) => held,
+    }
+}
+
 // What it answers.
 fn answer_of(x: Did) -> Answer
-    ensures { λ r. ⌜ r ≡ didAnswer x ⌝ }
+    requires { ⌜ didLock x ⌝ }
+    ensures { λ r. ⌜ ((n : ℕ) → r ≡ didAnswer n x) ⌝ }
 {
     match x {
         Did::Stored(at) => Answer::Stored(at),
+        Did::Took(b) => Answer::Stored(image::lock_index(b)),
+        Did::Freed(b) => Answer::Stored(image::lock_index(b)),
         Did::Passed(why) => Answer::Passed(why),
         Did::Waiting(b) => Answer::Waiting(b),
     }
@@ -148,9 +191,12 @@ fn open_turn(image: &mut [u64], c: Cursors, d: usize, own: usize, left: &mut u64
 {
     let acted = turn_on(image, d, c.step[d], c.turn[d], own, left);
     let did = acted.did;
+    let held = held_after(did, c.held);
+    let mut next = working::place(c, d, acted.step, acted.turn);
+    next.held = held;
     Turned {
         answer: answer_of(did),
-        cursors: working::place(c, d, acted.step, acted.turn),
+        cursors: next,
     }
 }
 

@@ -9,7 +9,7 @@ use lib.Dec.{eqb}
 use borrow.Author.Tests.{eq-eqb, ne-eqb, eqb-true}
 use Rattle.base.proofs.Filling.{getD-inside}
 use Rattle.working.specs.declared.Cursors.{Cursors}
-use Rattle.working.specs.Cursor.{Cursor, idle, on, isIdle, stepNo, turnNo, cursorAt, setAt, placed}
+use Rattle.working.specs.Cursor.{Cursor, idle, on, isIdle, stepNo, turnNo, cursorAt, setAt, holding, placed}
 
 private-idle : (b : Bool) (s t : ℕ) → isIdle (cond b idle (on s t)) ≡ b
 private-idle true s t = refl
@@ -46,6 +46,11 @@ placed-same c d x f h s =
 pub placed-other : (c : Cursors) (d e : ℕ) (x : Cursor) → e ≢ d → cursorAt (placed c d x) e ≡ cursorAt c e
 unfolding cursorAt setAt
 placed-other c d e x h = rw (getD-set-other (c .turn) d e (turnNo x) 255 h, getD-set-other (c .step) d e (stepNo x) 0 h)
+
+-- the locks held have no part in it
+pub held-cursor : (h : ℕ) (c : Cursors) (e : ℕ) → cursorAt (holding h c) e ≡ cursorAt c e
+unfolding cursorAt
+held-cursor h c e = refl
 
 -- the same by the turn itself
 pub idle-turn : (c : Cursors) (d : ℕ) → d < length (c .turn) → getD (c .turn) d 0 ≡ 255 → isIdle (cursorAt c d) ≡ true

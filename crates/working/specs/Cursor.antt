@@ -1,7 +1,9 @@
--- Where the workers stand. (Document 01: working places, kept in one working record.)
+-- The working record: where the workers stand, and the locks held. (Document 01: working places, kept in one working record; document 02, 2/14:
+-- a mask beside them.)
 use Prim.Native.Nat.{ℕ}
 use mathlib.Core.Bool.{Bool, true, false, cond}
 use lib.ListN.{getD, set, replicate}
+use lib.Count.{ones}
 use lib.Dec.{eqb}
 use Rattle.working.specs.declared.Cursors.{Cursors}
 
@@ -29,11 +31,19 @@ cursorAt c d = cond (eqb (getD (c .turn) d 255) 255) idle (on (getD (c .step) d 
 
 -- the record with these numbers for worker d
 unfoldable pub setAt : Cursors → ℕ → ℕ → ℕ → Cursors
-setAt c d s t = record { step = set (c .step) d s; turn = set (c .turn) d t }
+setAt c d s t = record { step = set (c .step) d s; turn = set (c .turn) d t; held = c .held }
+
+-- the record with these locks held
+abbrev pub holding : ℕ → Cursors → Cursors
+holding h c = record { step = c .step; turn = c .turn; held = h }
 
 -- the record with worker d at a cursor
 abbrev pub placed : Cursors → ℕ → Cursor → Cursors
 placed c d x = setAt c d (stepNo x) (turnNo x)
 
 unfoldable pub allIdle : Cursors
-allIdle = record { step = replicate 8 0; turn = replicate 8 255 }
+allIdle = record { step = replicate 8 0; turn = replicate 8 255; held = 0 }
+
+-- how many locks are held (document 02: how many bays)
+abbrev pub locksHeld : Cursors → ℕ
+locksHeld c = ones (c .held)

@@ -1,13 +1,14 @@
 // What the calls have in common: the working record, which says where the workers stand, and why a call is refused.
 use section::Verdict;
 ghost use mathlib.Core.Path.{_≡_};
-ghost use Rattle.working.specs.Cursor.{isIdle, cursorAt, setAt, allIdle};
+ghost use Rattle.working.specs.Cursor.{isIdle, cursorAt, setAt, allIdle, locksHeld};
 ghost use Rattle.working.specs.Refusal.{causeOf, valueOf};
 
-// Where the workers stand: a step and a turn for each. Turn 255 is idle.
+// Where the workers stand: a step and a turn for each. Turn 255 is idle. And the locks held, as a mask.
 pub struct Cursors {
     pub step: [u8; 8],
     pub turn: [u8; 8],
+    pub held: u64,
 }
 
 // Why a call is refused.
@@ -64,25 +65,39 @@ pub fn idle(c: Cursors, d: usize) -> bool
     c.turn[d] == 255
 }
 
-// The record with worker d at step s, turn t.
+// The record with worker d at step s, turn t. The two arrays are copied one by one: a copy of the whole record would wait for both of the
+// stores that brought them.
 pub fn place(c: Cursors, d: usize, s: u8, t: u8) -> Cursors
     ensures { λ r. ⌜ r ≡ setAt c d s t ⌝ }
 {
     if 8 <= d {
         return c;
     }
-    let mut next = c;
-    next.step[d] = s;
-    next.turn[d] = t;
-    next
+    let mut step = c.step;
+    step[d] = s;
+    let mut turn = c.turn;
+    turn[d] = t;
+    Cursors {
+        step: step,
+        turn: turn,
+        held: c.held,
+    }
 }
 
-// All workers idle.
+// All workers idle, and no lock held.
 pub fn all_idle() -> Cursors
     ensures { λ r. ⌜ r ≡ allIdle ⌝ }
 {
     Cursors {
         step: [0; 8],
         turn: [255; 8],
+        held: 0,
     }
+}
+
+// How many locks are held.
+pub fn locks_held(c: Cursors) -> u64
+    ensures { λ r. ⌜ r ≡ locksHeld c ⌝ }
+{
+    mask::count(c.held) as u64
 }

@@ -1,5 +1,5 @@
--- What a call is lent and leaves, as the engine's world: an image, the cursors as two arrays, and the stores left; and what each
--- call answers and leaves there, in the edition of images that the library serves.
+-- What a call is lent and leaves, as the engine's world: an image, the working record as two arrays and a mask, and the stores left; and
+-- what each call answers and leaves there, in the edition of images that the library serves.
 use Prim.Native.Nat.{ℕ}
 use mathlib.Core.List.{List, [], _∷_}
 use lib.ListN.{length}
@@ -22,14 +22,14 @@ use Rattle.soundness.specs.declared.Answer.{Answer as Recovery}
 use Rattle.recovery.specs.Recovery.{recovery}
 use Rattle.recovery.specs.Recover.{answerOf as recoveryAnswer, cursorsOf, recoveryLeaves, recoveryLeft}
 
--- a step and a turn for each worker
-abbrev pub cursors : List ℕ → List ℕ → Cursors
-cursors step turn = record { step = step; turn = turn }
+-- a step and a turn for each worker, and the mask of the locks held
+abbrev pub cursors : List ℕ → List ℕ → ℕ → Cursors
+cursors step turn held = record { step = step; turn = turn; held = held }
 
-abbrev pub lent : Image → List ℕ → List ℕ → ℕ → World
-lent image step turn left = world image (cursors step turn) left
+abbrev pub lent : Image → List ℕ → List ℕ → ℕ → ℕ → World
+lent image step turn held left = world image (cursors step turn held) left
 
--- ---- formatting, of which the cursors lent do not matter
+-- ---- formatting, of which the record lent does not matter
 
 abbrev pub formatting : Image → ℕ → Formatted
 formatting m D = formatAnswer ownWords m D
@@ -66,7 +66,7 @@ running w rounds = runOf mark ownWords w rounds
 abbrev pub counts : Tally → List ℕ
 counts t = t .turns ∷ t .waits ∷ t .stores ∷ t .free ∷ t .others ∷ []
 
--- ---- recovery, of which the cursors lent do not matter
+-- ---- recovery, of which the record lent does not matter
 
 abbrev pub recovering : Image → Recovery
 recovering m = recoveryAnswer (recovery mark ownWords m)

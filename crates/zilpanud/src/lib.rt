@@ -1,9 +1,11 @@
-// What C and Rust link: the engine's entry points and three questions, over slices, arrays and numbers. An answer crosses as a
-// number and a detail (`codes` of the crates that answer, `cause` and `step` of section); the cursors as two arrays, a step and a turn for each worker.
+// What C and Rust link: the engine's entry points, three questions and the count of the locks held, over slices, arrays and numbers. An answer
+// crosses as a number and a detail (`codes` of the crates that answer, `cause` and `step` of section); the working record as two arrays, a step
+// and a turn for each worker, and the mask of the locks held.
 mod answers;
 mod cursors;
 
 ghost use mathlib.Core.Path.{_≡_};
+ghost use lib.Count.{ones};
 ghost use Rattle.section.specs.Check.{causeOf, stepOf};
 ghost use Rattle.formatting.specs.Codes.{formatCode};
 ghost use Rattle.intake.specs.Codes.{submitCode, submitDetail};
@@ -15,22 +17,23 @@ ghost use Rattle.zilpanud.specs.Lent.{turning, turnsTo, running, counts,
 ghost use Rattle.zilpanud.specs.Ask.{askCode, told, idleBit, finishedNo, stands};
 ghost use Rattle.zilpanud.specs.Version.{version};
 
-// Formats an image for so many workers: 0, or 10. All workers are idle, also where it is refused.
+// Formats an image for so many workers: 0, or 10. All workers are idle and no lock is held, also where it is refused.
 #[no_mangle]
 pub extern "C" fn zilpanud_format(
     image: &mut [u64],
     workers: u64,
     step: &mut [u8; 8],
     turn: &mut [u8; 8],
+    held: &mut u64,
     left: &mut u64,
 ) -> u64
     ensures code { λ r. ⌜ r ≡ formatCode (formatting (now (image .entry)) workers) ⌝ }
-    ensures after { λ r. ⌜ lent (now (image .exit)) (now (step .exit)) (now (turn .exit)) (now (left .exit))
+    ensures after { λ r. ⌜ lent (now (image .exit)) (now (step .exit)) (now (turn .exit)) (now (held .exit)) (now (left .exit))
         ≡ formatsTo (now (image .entry)) workers (now (left .entry)) ⌝ }
 {
     let r = edition::format(image, workers, left);
     let next = r.cursors;
-    cursors::leave(next, step, turn);
+    cursors::leave(next, step, turn, held);
     let a = r.answer;
     formatting::codes::format_code(a)
 }
@@ -52,6 +55,7 @@ pub extern "C" fn zilpanud_submit(
     image: &mut [u64],
     step: &mut [u8; 8],
     turn: &mut [u8; 8],
+    held: &mut u64,
     worker: usize,
     number: u64,
     args: &[u64; 8],
@@ -60,18 +64,21 @@ pub extern "C" fn zilpanud_submit(
     detail: &mut u64,
 ) -> u64
     ensures code { λ r. ⌜ r
-        ≡ submitCode (submitting (lent (now (image .entry)) (now (step .entry)) (now (turn .entry)) (now (left .entry))) worker number (now (words .entry))) ⌝ }
+        ≡ submitCode
+        (submitting (lent (now (image .entry)) (now (step .entry)) (now (turn .entry)) (now (held .entry)) (now (left .entry))) worker
+        number (now (words .entry))) ⌝ }
     ensures detail { λ r. ⌜ now (detail .exit)
         ≡ submitDetail
-        (submitting (lent (now (image .entry)) (now (step .entry)) (now (turn .entry)) (now (left .entry))) worker number (now (words .entry))) ⌝ }
-    ensures after { λ r. ⌜ lent (now (image .exit)) (now (step .exit)) (now (turn .exit)) (now (left .exit))
-        ≡ submitsTo (lent (now (image .entry)) (now (step .entry)) (now (turn .entry)) (now (left .entry))) worker number
+        (submitting (lent (now (image .entry)) (now (step .entry)) (now (turn .entry)) (now (held .entry)) (now (left .entry))) worker
+        number (now (words .entry))) ⌝ }
+    ensures after { λ r. ⌜ lent (now (image .exit)) (now (step .exit)) (now (turn .exit)) (now (held .exit)) (now (left .exit))
+        ≡ submitsTo (lent (now (image .entry)) (now (step .entry)) (now (turn .entry)) (now (held .entry)) (now (left .entry))) worker number
         (now (args .entry)) (now (words .entry)) ⌝ }
 {
-    let c = cursors::lent(step, turn);
+    let c = cursors::lent(step, turn, *held);
     let r = edition::submit(image, c, worker, number, args, words, left);
     let placed = r.cursors;
-    cursors::leave(placed, step, turn);
+    cursors::leave(placed, step, turn, held);
     let a = r.answer;
     *detail = intake::codes::submit_detail(a);
     intake::codes::submit_code(a)
@@ -83,20 +90,22 @@ pub extern "C" fn zilpanud_turn(
     image: &mut [u64],
     step: &mut [u8; 8],
     turn: &mut [u8; 8],
+    held: &mut u64,
     worker: usize,
     left: &mut u64,
     detail: &mut u64,
 ) -> u64
-    ensures code { λ r. ⌜ r ≡ turnCode (turning (lent (now (image .entry)) (now (step .entry)) (now (turn .entry)) (now (left .entry))) worker) ⌝ }
+    ensures code { λ r. ⌜ r
+        ≡ turnCode (turning (lent (now (image .entry)) (now (step .entry)) (now (turn .entry)) (now (held .entry)) (now (left .entry))) worker) ⌝ }
     ensures detail { λ r. ⌜ now (detail .exit)
-        ≡ turnDetail (turning (lent (now (image .entry)) (now (step .entry)) (now (turn .entry)) (now (left .entry))) worker) ⌝ }
-    ensures after { λ r. ⌜ lent (now (image .exit)) (now (step .exit)) (now (turn .exit)) (now (left .exit))
-        ≡ turnsTo (lent (now (image .entry)) (now (step .entry)) (now (turn .entry)) (now (left .entry))) worker ⌝ }
+        ≡ turnDetail (turning (lent (now (image .entry)) (now (step .entry)) (now (turn .entry)) (now (held .entry)) (now (left .entry))) worker) ⌝ }
+    ensures after { λ r. ⌜ lent (now (image .exit)) (now (step .exit)) (now (turn .exit)) (now (held .exit)) (now (left .exit))
+        ≡ turnsTo (lent (now (image .entry)) (now (step .entry)) (now (turn .entry)) (now (held .entry)) (now (left .entry))) worker ⌝ }
 {
-    let c = cursors::lent(step, turn);
+    let c = cursors::lent(step, turn, *held);
     let r = edition::turn(image, c, worker, left);
     let next = r.cursors;
-    cursors::leave(next, step, turn);
+    cursors::leave(next, step, turn, held);
     let a = r.answer;
     *detail = turn::codes::turn_detail(a);
     turn::codes::turn_code(a)
@@ -109,23 +118,25 @@ pub extern "C" fn zilpanud_run(
     image: &mut [u64],
     step: &mut [u8; 8],
     turn: &mut [u8; 8],
+    held: &mut u64,
     rounds: u16,
     tally: &mut [u64; 5],
     left: &mut u64,
     detail: &mut u64,
 ) -> u64
-    ensures code { λ r. ⌜ r ≡ endCode (running (lent (now (image .entry)) (now (step .entry)) (now (turn .entry)) (now (left .entry))) rounds .end) ⌝ }
+    ensures code { λ r. ⌜ r
+        ≡ endCode (running (lent (now (image .entry)) (now (step .entry)) (now (turn .entry)) (now (held .entry)) (now (left .entry))) rounds .end) ⌝ }
     ensures detail { λ r. ⌜ now (detail .exit)
-        ≡ endDetail (running (lent (now (image .entry)) (now (step .entry)) (now (turn .entry)) (now (left .entry))) rounds .end) ⌝ }
-    ensures after { λ r. ⌜ lent (now (image .exit)) (now (step .exit)) (now (turn .exit)) (now (left .exit))
-        ≡ running (lent (now (image .entry)) (now (step .entry)) (now (turn .entry)) (now (left .entry))) rounds .after .world ⌝ }
+        ≡ endDetail (running (lent (now (image .entry)) (now (step .entry)) (now (turn .entry)) (now (held .entry)) (now (left .entry))) rounds .end) ⌝ }
+    ensures after { λ r. ⌜ lent (now (image .exit)) (now (step .exit)) (now (turn .exit)) (now (held .exit)) (now (left .exit))
+        ≡ running (lent (now (image .entry)) (now (step .entry)) (now (turn .entry)) (now (held .entry)) (now (left .entry))) rounds .after .world ⌝ }
     ensures tally { λ r. ⌜ now (tally .exit)
-        ≡ counts (running (lent (now (image .entry)) (now (step .entry)) (now (turn .entry)) (now (left .entry))) rounds .after .tally) ⌝ }
+        ≡ counts (running (lent (now (image .entry)) (now (step .entry)) (now (turn .entry)) (now (held .entry)) (now (left .entry))) rounds .after .tally) ⌝ }
 {
-    let c = cursors::lent(step, turn);
+    let c = cursors::lent(step, turn, *held);
     let r = edition::run(image, c, rounds, left);
     let next = r.cursors;
-    cursors::leave(next, step, turn);
+    cursors::leave(next, step, turn, held);
     let n = r.tally;
     *tally = [n.turns, n.waits, n.stores, n.free, n.others];
     let e = r.end;
@@ -133,29 +144,31 @@ pub extern "C" fn zilpanud_run(
     run::codes::end_code(e)
 }
 
-// Recovers an image after a cut: 0, or 10, 12 with the worker, 13 with the lock. The arrays are lent for the new cursors alone.
+// Recovers an image after a cut: 0, or 10, 12 with the worker, 13 with the lock. Arrays and mask are lent for the new record alone.
 #[no_mangle]
 pub extern "C" fn zilpanud_recover(
     image: &mut [u64],
     step: &mut [u8; 8],
     turn: &mut [u8; 8],
+    held: &mut u64,
     left: &mut u64,
     detail: &mut u64,
 ) -> u64
     ensures code { λ r. ⌜ r ≡ recoverCode (recovering (now (image .entry))) ⌝ }
     ensures detail { λ r. ⌜ now (detail .exit) ≡ recoverDetail (recovering (now (image .entry))) ⌝ }
-    ensures after { λ r. ⌜ lent (now (image .exit)) (now (step .exit)) (now (turn .exit)) (now (left .exit))
+    ensures after { λ r. ⌜ lent (now (image .exit)) (now (step .exit)) (now (turn .exit)) (now (held .exit)) (now (left .exit))
         ≡ recoversTo (now (image .entry)) (now (left .entry)) ⌝ }
 {
     let r = edition::recover(image, left);
     let next = r.cursors;
-    cursors::leave(next, step, turn);
+    cursors::leave(next, step, turn, held);
     let a = r.answer;
     *detail = soundness::codes::recover_detail(a);
     soundness::codes::recover_code(a)
 }
 
-// Whether a worker is idle, 1 or 0. It returns 0, or 10, 1, as all questions do, and answers 0 where it is refused.
+// Whether a worker is idle, 1 or 0, by its cursor, whatever locks are held. It returns 0, or 10, 1, as all questions do, and answers 0 where
+// it is refused.
 #[no_mangle]
 pub extern "C" fn zilpanud_is_idle(
     image: &[u64],
@@ -166,16 +179,24 @@ pub extern "C" fn zilpanud_is_idle(
 ) -> u64
     ensures code { λ r. ⌜ r ≡ askCode (now (image .entry)) worker ⌝ }
     ensures answer { λ r. ⌜ now (answer .exit)
-        ≡ told (now (image .entry)) worker (idleBit (cursors (now (step .entry)) (now (turn .entry))) worker) ⌝ }
+        ≡ told (now (image .entry)) worker (idleBit (cursors (now (step .entry)) (now (turn .entry)) 0) worker) ⌝ }
 {
     let no = edition::asked(image, worker);
     if no != 0 {
         *answer = 0;
         return no;
     }
-    let c = cursors::lent(step, turn);
+    let c = cursors::lent(step, turn, 0);
     *answer = answers::idle(c, worker);
     0
+}
+
+// How many locks are held, by the mask that a call has left.
+#[no_mangle]
+pub extern "C" fn zilpanud_locks_held(held: u64) -> u64
+    ensures { λ r. ⌜ r ≡ ones held ⌝ }
+{
+    mask::count(held) as u64
 }
 
 // The number of the last section that a worker finished.
@@ -209,5 +230,5 @@ pub extern "C" fn zilpanud_standing(
 pub extern "C" fn zilpanud_version() -> u64
     ensures { λ r. ⌜ r ≡ version ⌝ }
 {
-    2_000
+    3_000
 }

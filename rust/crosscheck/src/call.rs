@@ -41,6 +41,8 @@ impl Call {
 pub struct Lent {
     pub step: [u8; 8],
     pub turn: [u8; 8],
+    /// The mask of the locks held.
+    pub held: u64,
     pub left: u64,
 }
 
@@ -52,6 +54,8 @@ pub struct Given {
     pub detail: u64,
     pub lent: Lent,
     pub tally: Tally,
+    /// How many locks are held, as each counts them in the mask that it leaves.
+    pub locks_held: u64,
 }
 
 fn of_ours<T>(result: Result<T, zilpanud::Refusal>, told: impl Fn(T) -> (u64, u64)) -> (u64, u64) {
@@ -74,7 +78,7 @@ fn told_turn(answer: Turn) -> (u64, u64) {
 
 /// The call on our engine.
 pub fn ours(call: &Call, image: &mut [u64], lent: Lent) -> Given {
-    let mut at = Cursors { step: lent.step, turn: lent.turn };
+    let mut at = Cursors { step: lent.step, turn: lent.turn, held: lent.held };
     let mut left = lent.left;
     let mut tally = Tally::default();
     let done = |()| (0, 0);
@@ -98,7 +102,9 @@ pub fn ours(call: &Call, image: &mut [u64], lent: Lent) -> Given {
             of_ours(zilpanud::standing(image, *worker, *number), |s| (0, told_standing(s)))
         }
     };
-    Given { answer, detail, lent: Lent { step: at.step, turn: at.turn, left }, tally }
+    let locks_held = at.locks_held() as u64;
+    let Cursors { step, turn, held } = at;
+    Given { answer, detail, lent: Lent { step, turn, held, left }, tally, locks_held }
 }
 
 fn told_standing(standing: Standing) -> u64 {
@@ -160,14 +166,15 @@ fn twin_told(
 
 /// The call on the twin.
 pub fn twins(call: &Call, image: &mut [u64], lent: Lent) -> Given {
-    let at = Working { step: lent.step, turn: lent.turn };
+    let at = Working { step: lent.step, turn: lent.turn, held: lent.held };
     let mut sums = twin::Tally::default();
     let ((answer, detail), after, stores) = twin_told(call, image, at, lent.left, &mut sums);
     let left = lent.left.saturating_sub(stores);
-    let lent = Lent { step: after.step, turn: after.turn, left };
+    let locks_held = after.bays_held() as u64;
+    let Working { step, turn, held } = after;
     let twin::Tally { turns, waits, stores, already_free, others } = sums;
     let tally = Tally { turns, waits, stores, already_free, others };
-    Given { answer, detail, lent, tally }
+    Given { answer, detail, lent: Lent { step, turn, held, left }, tally, locks_held }
 }
 
 fn told_end(end: twin::End) -> (u64, u64) {

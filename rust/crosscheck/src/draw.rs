@@ -95,6 +95,13 @@ pub fn call(r: &mut Rng, image: &[u64], workers: u64, lent: &Lent) -> Call {
     }
 }
 
+/// Any mask of locks held: one lock more or less than there were, none, all, or anything.
+pub fn odd_mask(r: &mut Rng, lent: &mut Lent) {
+    let was = lent.held;
+    let masks = [was ^ 1 << r.below(6), was ^ 1 << r.below(64), r.word(), r.next(), 0, u64::MAX];
+    lent.held = r.pick(&masks);
+}
+
 /// Cursors of any bytes: for one worker or for all, near a section's steps and turns or anything.
 pub fn odd_cursors(r: &mut Rng, lent: &mut Lent) {
     let all = r.chance(30);

@@ -1,5 +1,5 @@
 //! Random lists of calls on the library and on the twin, compared after every call: the image word for word, the
-//! answer, the cursors, the stores left and the tally. See usage().
+//! answer, the cursors, the locks held, the stores left and the tally. See usage().
 
 mod call;
 mod damage;
@@ -34,6 +34,8 @@ struct Difference {
     twins: Given,
     /// The first word of the image that differs: its index, ours and the twin's.
     word: Option<(usize, u64, u64)>,
+    /// The owner words' mask, where both left another one and must not.
+    owned: Option<u64>,
 }
 
 /// The same call on both, each with its own image of the same words.
@@ -44,13 +46,30 @@ fn both(call: &Call, mine: &mut [u64], other: &mut [u64], lent: Lent) -> Result<
         return Ok(ours);
     }
     let word = (0..mine.len()).find(|&i| mine[i] != other[i]).map(|i| (i, mine[i], other[i]));
-    Err(Box::new(Difference { call: call.clone(), lent, ours, twins, word }))
+    Err(Box::new(Difference { call: call.clone(), lent, ours, twins, word, owned: None }))
+}
+
+/// The owner words' mask: the locks whose owner words are not 0.
+fn owned(image: &[u64]) -> u64 {
+    let owners = &image[twin::LOCKS..twin::HEAD];
+    owners.iter().rev().fold(0, |mask, &owner| mask << 1 | (owner != 0) as u64)
+}
+
+/// Whether an uncut call must leave the owner words' mask; `was_theirs`: it was given that. Document 02 asks it of
+/// lists as in demand 3. More than that holds: on any image a finished formatting and an accepted recovery leave it,
+/// and a submit, a turn and a run keep it, refused or not.
+fn must_be_theirs(call: &Call, given: &Given, was_theirs: bool) -> bool {
+    match call {
+        Call::Format { .. } | Call::Recover => given.answer == 0,
+        Call::Submit { .. } | Call::Turn { .. } | Call::Run { .. } => was_theirs,
+        _ => false,
+    }
 }
 
 /// How a list is played.
 #[derive(Clone, Copy)]
 struct Manner {
-    /// Damaged words and odd cursors, in 100 calls.
+    /// Damaged words, and odd cursors or masks, in 100 calls.
     damages: u64,
     odd_cursors: u64,
     /// Only owner words are damaged: the records stay sound, and two workers may come to be owed one lock.
@@ -106,7 +125,7 @@ impl Play<'_> {
         Ok(())
     }
 
-    /// Damage and odd cursors before a call.
+    /// Damage, odd cursors and odd masks before a call.
     fn disturb(&mut self, manner: Manner) {
         while self.r.chance(manner.damages) {
             if let Some((sort, (index, word))) = damage::drawn(&mut self.r, &self.mine, manner.only_owners) {
@@ -119,6 +138,25 @@ impl Play<'_> {
             draw::odd_cursors(&mut self.r, &mut self.lent);
             self.met.odd_cursors += 1;
         }
+        if self.r.chance(manner.odd_cursors) {
+            draw::odd_mask(&mut self.r, &mut self.lent);
+            self.met.odd_masks += 1;
+        }
+    }
+
+    /// Compares the mask that a call left with the owner words, where it must be theirs. With no store left, the call
+    /// may have been cut.
+    fn compare(&mut self, call: &Call, given: &Given, was_theirs: bool) -> Result<(), Box<Difference>> {
+        if given.lent.left == 0 || !must_be_theirs(call, given, was_theirs) {
+            return Ok(());
+        }
+        let owned = owned(&self.mine);
+        if given.lent.held == owned && given.locks_held == owned.count_ones() as u64 {
+            self.met.mask(owned);
+            return Ok(());
+        }
+        let (call, lent) = (call.clone(), self.lent);
+        Err(Box::new(Difference { call, lent, ours: *given, twins: *given, word: None, owned: Some(owned) }))
     }
 
     /// The stores that a call is lent: enough, or a number up to one more than it makes.
@@ -158,11 +196,13 @@ impl Play<'_> {
         }
         self.lent.left = self.left(&call);
         let (before, kind) = (self.lent.left, self.kind(&call));
+        let was_theirs = self.lent.held == owned(&self.mine);
         let given = both(&call, &mut self.mine, &mut self.other, self.lent)?;
         // with none left one cannot tell whether a store was wanted: taken for a cut where the call stores at all
         let stores = matches!(given.answer, 0 | 16 | 20) && call.sort() < 6 && call.sort() != 1;
         self.was_cut = stores && before != u64::MAX && given.lent.left == 0;
         self.met.call(&call, &given, self.was_cut, kind);
+        self.compare(&call, &given, was_theirs)?;
         self.lent = given.lent;
         Ok(())
     }
@@ -184,7 +224,7 @@ fn list(seed: u64, number: u64, met: &mut Met) -> Result<(), (u64, Box<Differenc
     let manner = manner(&mut r);
     let (fill, calls) = (r.word(), 10 + r.below(60));
     let image = vec![fill; twin::HEAD + twin::REC * workers as usize];
-    let lent = Lent { step: [fill as u8; 8], turn: [!fill as u8; 8], left: u64::MAX };
+    let lent = Lent { step: [fill as u8; 8], turn: [!fill as u8; 8], held: !fill, left: u64::MAX };
     let (mine, other) = (image.clone(), image);
     let mut play = Play { r, met, mine, other, lent, workers, was_cut: false };
     let first = both(&Call::Format { workers }, &mut play.mine, &mut play.other, lent);
@@ -208,6 +248,9 @@ fn tell(seed: u64, list: u64, call: u64, d: &Difference) {
             println!("image word {index}: ours {ours:#x}, twin {twins:#x}")
         }
         None => println!("the images are the same"),
+    }
+    if let Some(owned) = d.owned {
+        println!("the owner words' mask is {owned:#x}, and the one left {:#x}", d.ours.lent.held);
     }
 }
 

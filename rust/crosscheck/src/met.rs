@@ -35,6 +35,7 @@ pub struct Met {
     pub damages: [u64; DAMAGES.len()],
     pub odd_lengths: u64,
     pub odd_cursors: u64,
+    pub odd_masks: u64,
     /// Turns by the kind of the instruction.
     kinds: [u64; 9],
     /// Turns that passed, by `PASSINGS`, and what the tallies of runs have of them.
@@ -42,6 +43,10 @@ pub struct Met {
     counted: [u64; 2],
     /// Standings told: not begun, begun, finished.
     standings: [u64; 3],
+    /// Masks that were compared with the owner words, those of them with locks held, and the most locks held.
+    masks: u64,
+    holding: u64,
+    most_held: u32,
 }
 
 impl Met {
@@ -62,6 +67,13 @@ impl Met {
         }
     }
 
+    /// A mask that was compared with the owner words.
+    pub fn mask(&mut self, held: u64) {
+        self.masks += 1;
+        self.holding += (held != 0) as u64;
+        self.most_held = self.most_held.max(held.count_ones());
+    }
+
     /// The answers that a sort of call can have and that were not met, as lines; empty if all were.
     pub fn missing(&self) -> Vec<String> {
         let mut lines = vec![];
@@ -80,6 +92,8 @@ impl Met {
         let (passed, counted) = (PASSINGS.iter().zip(self.passed), PASSINGS[1..].iter().zip(self.counted));
         lines.extend(passed.filter(|(_, n)| *n == 0).map(|(why, _)| format!("no turn passed: {why}")));
         lines.extend(counted.filter(|(_, n)| *n == 0).map(|(why, _)| format!("no run counted: {why}")));
+        let masks = [(self.holding, "no mask with locks held was compared"), (self.odd_masks, "no odd mask")];
+        lines.extend(masks.iter().filter(|(n, _)| *n == 0).map(|(_, line)| line.to_string()));
         lines
     }
 
@@ -111,7 +125,11 @@ impl Met {
         println!("18 waiting, 19 idle, 20 spent; '-' is an answer that the call does not have):");
         self.answers();
         println!("{} calls with every number of stores from 0 to all: {} tries", self.swept, self.sweeps);
-        println!("images of another length: {}; odd cursors: {}", self.odd_lengths, self.odd_cursors);
+        let (odd_cursors, odd_masks) = (self.odd_cursors, self.odd_masks);
+        println!(
+            "images of another length: {}; odd cursors: {odd_cursors}; odd masks: {odd_masks}",
+            self.odd_lengths
+        );
         print!("damaged words:");
         DAMAGES.iter().zip(self.damages).for_each(|(name, n)| print!(" {name} {n};"));
         print!("\nturns by kind of instruction:");
@@ -122,5 +140,7 @@ impl Met {
         PASSINGS[1..].iter().zip(self.counted).for_each(|(why, n)| print!(" {why} {n};"));
         let [not_begun, begun, finished] = self.standings;
         println!("\nstandings: not begun {not_begun}; begun {begun}; finished {finished}");
+        let (masks, holding, most) = (self.masks, self.holding, self.most_held);
+        println!("masks compared with the owner words: {masks}; with locks held: {holding}, {most} at most");
     }
 }

@@ -1,5 +1,6 @@
 //! The process that is killed.
 
+use crate::locks::locks_held;
 use crate::moves::Move;
 use crate::rng::Rng;
 use std::convert::Infallible;
@@ -76,15 +77,16 @@ impl Work {
         Ok(())
     }
 
-    /// A run of a few rounds, or a few turns of any workers.
+    /// A run of a few rounds, or a few turns of any workers; then the locks held are compared.
     fn go_on(&self, board: &mut Board, r: &mut Rng) -> Result<(), Box<dyn Error>> {
         if r.below(2) == 0 {
             board.run(r.below(30) as u16)?;
-            return Ok(());
+        } else {
+            for _ in 0..r.below(50) {
+                board.turn(r.below(self.workers as u64) as usize)?;
+            }
         }
-        for _ in 0..r.below(50) {
-            board.turn(r.below(self.workers as u64) as usize)?;
-        }
+        locks_held(board)?;
         Ok(())
     }
 }

@@ -1,9 +1,11 @@
 //! The power-cut trial on a mapped file: a child process makes moves on a board, several workers contending, and is
 //! killed at a random moment, of its start and the making of the board too. Then the board is recovered and run until
-//! all workers are idle, and each of its 512 cells is compared with what the finished numbers alone say. See usage().
+//! all workers are idle, and each of its 512 cells is compared with what the finished numbers alone say. On the way the
+//! board's count of the locks held is compared with its owner words. See usage().
 
 mod child;
 mod image;
+mod locks;
 mod moves;
 mod rng;
 mod trial;
@@ -69,11 +71,12 @@ fn all(kills: u64, seed: u64) -> Result<Met, Box<dyn Error>> {
 
 fn tell(met: &Met, seed: u64, seconds: f64) {
     let Met { kills, sections, amid_sections, begun, submitted, .. } = met;
-    let Met { amid_recoveries, amid_makings, before_the_file, .. } = met;
+    let Met { amid_recoveries, amid_makings, before_the_file, holding, .. } = met;
     println!(
         "{kills} kills, seed {seed}, {seconds:.1} seconds: {sections} sections finished, each once; {amid_sections} \
          kills fell amid sections ({begun} with one begun, {submitted} with one to withdraw), {amid_recoveries} amid \
-         a recovery's stores, {amid_makings} amid the making of a file, {before_the_file} before there was one"
+         a recovery's stores, {amid_makings} amid the making of a file, {before_the_file} before there was one; \
+         {holding} recoveries gave locks back"
     );
 }
 

@@ -2,6 +2,7 @@
 
 use crate::child::{Work, STARTED};
 use crate::image::Image;
+use crate::locks::locks_held;
 use crate::moves::{count_cell, Move, MOVED};
 use crate::rng::Rng;
 use std::error::Error;
@@ -32,6 +33,8 @@ pub struct Met {
     pub begun: u64,
     pub submitted: u64,
     pub amid_recoveries: u64,
+    /// Recoveries that gave locks back.
+    pub holding: u64,
     /// While the file was made: it has not got its name, or has another one beside it.
     pub amid_makings: u64,
     pub before_the_file: u64,
@@ -126,10 +129,12 @@ impl Trial {
     fn check(&mut self, left: Option<Image>) -> Result<(), Box<dyn Error>> {
         let workers = self.board.workers();
         let mut board = Board::open_or_create(&self.board.path, workers)?;
+        self.met.holding += (locks_held(&board)? > 0) as u64;
         let run = board.run_to_idle()?;
         if run.end != End::AllIdle {
             return Err("the run did not end with all workers idle".into());
         }
+        locks_held(&board)?;
         for worker in 0..workers {
             let due = left.as_ref().map_or(0, |image| image.due(worker));
             self.carry_on(&board, worker, due)?;

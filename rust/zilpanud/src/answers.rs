@@ -1,5 +1,7 @@
 //! Answers, and the records that calls are lent.
 
+use crate::{raw, LOCKS};
+
 /// What a turn answers.
 #[derive(Clone, Copy, PartialEq, Eq, Hash, Debug)]
 pub enum Turn {
@@ -73,19 +75,36 @@ pub enum Standing {
     Finished,
 }
 
-/// Where all workers stand (document 01's working record): a step and a turn for each. It is not in the image, and a
-/// cut loses it.
+/// Where all workers stand (document 01's working record): a step and a turn for each, and beside them the locks held.
+/// It is not in the image, and a cut loses it.
 #[derive(Clone, Copy, PartialEq, Eq, Hash, Debug)]
 pub struct Cursors {
     /// The step of each worker's section.
     pub step: [u8; 8],
     /// The turn of that step; 255 is idle.
     pub turn: [u8; 8],
+    /// The locks held, by whichever worker: bit b is set while lock b is. An acquire's store of its lock's owner word
+    /// sets the bit, and a release's store of 0 there clears it. No call goes by it.
+    pub held: u64,
 }
 
 impl Cursors {
-    /// All workers are idle.
-    pub const IDLE: Cursors = Cursors { step: [0; 8], turn: [255; 8] };
+    /// All workers are idle, and no lock is held.
+    pub const IDLE: Cursors = Cursors { step: [0; 8], turn: [255; 8], held: 0 };
+
+    /// How many locks are held (document 02's question): the number of ones of [`held`](Cursors::held).
+    ///
+    /// In a list of submits, turns, runs and recoveries from one formatting on, each given the image and the cursors
+    /// that the last one left, and a recovery next after each cut, it is after every uncut call the number of owner
+    /// words that are not 0; the image need not be looked at.
+    pub fn locks_held(&self) -> usize {
+        raw::zilpanud_locks_held(self.held) as usize
+    }
+
+    /// Whether a lock, 0 to 63, is held; another number is no lock's.
+    pub const fn holds(&self, lock: usize) -> bool {
+        lock < LOCKS && self.held >> lock & 1 == 1
+    }
 }
 
 impl Default for Cursors {

@@ -4,7 +4,8 @@
 use crate::cut::{self, done, ENOUGH};
 use crate::{raw, Cause, Cursors, Refusal, RefusedRun, Run, Standing, Turn};
 
-/// Formats an image for so many workers, and gives the cursors, all idle. Refuses with cause 10 and stores nothing.
+/// Formats an image for so many workers, and gives the cursors, all idle with no lock held. Refuses with cause 10 and
+/// stores nothing.
 ///
 /// It is for a new image. One that a recovery refuses is better kept for those who can mend it: formatting loses it.
 pub fn format(image: &mut [u64], workers: usize) -> Result<Cursors, Refusal> {
@@ -49,9 +50,9 @@ pub fn run(image: &mut [u64], cursors: &mut Cursors, rounds: u16) -> Result<Run,
     cut::run(image, cursors, rounds, &mut { ENOUGH })
 }
 
-/// Recovery after a cut. It gives the cursors: a section that was begun goes on where it was, one that was submitted
-/// and not begun is withdrawn, and all other workers are idle. Refuses with causes 10, 12, 13 and leaves the image as
-/// it was.
+/// Recovery after a cut. It gives the cursors: a section that was begun goes on where it was, with the locks that it is
+/// owed held again, one that was submitted and not begun is withdrawn, and all other workers are idle. Refuses with
+/// causes 10, 12, 13 and leaves the image as it was.
 pub fn recover(image: &mut [u64]) -> Result<Cursors, Refusal> {
     let mut cursors = Cursors::IDLE;
     cut::recover(image, &mut cursors, &mut { ENOUGH })?;

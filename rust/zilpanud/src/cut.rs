@@ -37,17 +37,17 @@ pub(crate) fn done(answer: u64, detail: u64) -> Result<(), Refusal> {
     Err(Refusal::of(answer, detail))
 }
 
-/// [`format`](crate::format). It leaves all cursors idle, also where it refuses.
+/// [`format`](crate::format). It reads no cursors, and leaves [`Cursors::IDLE`], also where it refuses.
 pub fn format(
     image: &mut [u64],
     workers: usize,
     cursors: &mut Cursors,
     left: &mut u64,
 ) -> Result<(), Refusal> {
-    let (step, turn) = (&mut cursors.step, &mut cursors.turn);
+    let Cursors { step, turn, held } = cursors;
     let (words, len) = (image.as_mut_ptr(), image.len());
     // SAFETY: here and below, every pointer comes from a live reference of its own, and every length is its slice's.
-    let answer = unsafe { raw::zilpanud_format(words, len, workers as u64, step, turn, left) };
+    let answer = unsafe { raw::zilpanud_format(words, len, workers as u64, step, turn, held, left) };
     done(answer, 0)
 }
 
@@ -69,6 +69,7 @@ pub fn submit(
             image.len(),
             &mut cursors.step,
             &mut cursors.turn,
+            &mut cursors.held,
             worker,
             number,
             args,
@@ -102,10 +103,10 @@ pub fn turn(
     left: &mut u64,
 ) -> Result<Turn, Refusal> {
     let mut detail = 0;
-    let (step, turn) = (&mut cursors.step, &mut cursors.turn);
+    let Cursors { step, turn, held } = cursors;
     let (words, len) = (image.as_mut_ptr(), image.len());
     // SAFETY: as in `format`.
-    let answer = unsafe { raw::zilpanud_turn(words, len, step, turn, worker, left, &mut detail) };
+    let answer = unsafe { raw::zilpanud_turn(words, len, step, turn, held, worker, left, &mut detail) };
     turned(answer, detail)
 }
 
@@ -113,10 +114,11 @@ pub fn turn(
 pub fn run(image: &mut [u64], cursors: &mut Cursors, rounds: u16, left: &mut u64) -> Result<Run, RefusedRun> {
     let mut detail = 0;
     let mut counts = [0; 5];
-    let (step, turn) = (&mut cursors.step, &mut cursors.turn);
+    let Cursors { step, turn, held } = cursors;
     let (words, len) = (image.as_mut_ptr(), image.len());
     // SAFETY: as in `format`.
-    let answer = unsafe { raw::zilpanud_run(words, len, step, turn, rounds, &mut counts, left, &mut detail) };
+    let answer =
+        unsafe { raw::zilpanud_run(words, len, step, turn, held, rounds, &mut counts, left, &mut detail) };
     let [turns, waits, stores, already_free, others] = counts;
     let tally = Tally { turns, waits, stores, already_free, others };
     match answer {
@@ -126,13 +128,13 @@ pub fn run(image: &mut [u64], cursors: &mut Cursors, rounds: u16, left: &mut u64
     }
 }
 
-/// [`recover`](crate::recover). It reads no cursors, and leaves all idle where it refuses.
+/// [`recover`](crate::recover). It reads no cursors, and leaves [`Cursors::IDLE`] where it refuses.
 pub fn recover(image: &mut [u64], cursors: &mut Cursors, left: &mut u64) -> Result<(), Refusal> {
     let mut detail = 0;
-    let (step, turn) = (&mut cursors.step, &mut cursors.turn);
+    let Cursors { step, turn, held } = cursors;
     let (words, len) = (image.as_mut_ptr(), image.len());
     // SAFETY: as in `format`.
-    let answer = unsafe { raw::zilpanud_recover(words, len, step, turn, left, &mut detail) };
+    let answer = unsafe { raw::zilpanud_recover(words, len, step, turn, held, left, &mut detail) };
     done(answer, detail)
 }
 

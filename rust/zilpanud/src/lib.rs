@@ -44,11 +44,13 @@
 //!     let answer = zilpanud::turn(&mut image, &mut cursors, 0)?;
 //!     assert_eq!(answer, Turn::Stored(index));
 //! }
+//! assert_eq!(cursors.locks_held(), 1);
 //!
 //! // The power goes and the cursors are lost. Recovery frees lock 3, takes it again and goes on at the logged store.
 //! let mut cursors = zilpanud::recover(&mut image)?;
+//! assert!(cursors.holds(3));
 //! let run = zilpanud::run(&mut image, &mut cursors, 384)?;
-//! assert_eq!((run.end, run.tally.turns), (End::AllIdle, 14));
+//! assert_eq!((run.end, run.tally.turns, cursors.locks_held()), (End::AllIdle, 14, 0));
 //! assert_eq!(image[zilpanud::cell_index(24)], 5);
 //! assert_eq!(zilpanud::finished(&image, 0)?, 1);
 //! # Ok::<(), zilpanud::Refusal>(())
@@ -89,7 +91,7 @@ pub const CELLS: usize = 512;
 pub const LOCKS: usize = 64;
 
 /// The version of the library that this crate was written for, as [`version`] says it.
-pub const VERSION: u64 = 2_000;
+pub const VERSION: u64 = 3_000;
 
 /// The version of the library that is linked: 1,000,000 × major + 1,000 × minor + patch.
 pub fn version() -> u64 {

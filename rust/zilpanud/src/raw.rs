@@ -7,12 +7,14 @@
 
 unsafe extern "C" {
     pub safe fn zilpanud_version() -> u64;
+    pub safe fn zilpanud_locks_held(held: u64) -> u64;
     pub fn zilpanud_format(
         image: *mut u64,
         len: usize,
         workers: u64,
         step: *mut [u8; 8],
         turn: *mut [u8; 8],
+        held: *mut u64,
         left: *mut u64,
     ) -> u64;
     pub fn zilpanud_check(words: *const u64, count: usize, detail: *mut u64) -> u64;
@@ -21,6 +23,7 @@ unsafe extern "C" {
         len: usize,
         step: *mut [u8; 8],
         turn: *mut [u8; 8],
+        held: *mut u64,
         worker: usize,
         number: u64,
         args: *const [u64; 8],
@@ -34,6 +37,7 @@ unsafe extern "C" {
         len: usize,
         step: *mut [u8; 8],
         turn: *mut [u8; 8],
+        held: *mut u64,
         worker: usize,
         left: *mut u64,
         detail: *mut u64,
@@ -43,6 +47,7 @@ unsafe extern "C" {
         len: usize,
         step: *mut [u8; 8],
         turn: *mut [u8; 8],
+        held: *mut u64,
         rounds: u16,
         tally: *mut [u64; 5],
         left: *mut u64,
@@ -53,6 +58,7 @@ unsafe extern "C" {
         len: usize,
         step: *mut [u8; 8],
         turn: *mut [u8; 8],
+        held: *mut u64,
         left: *mut u64,
         detail: *mut u64,
     ) -> u64;

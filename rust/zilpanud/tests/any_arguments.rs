@@ -2,15 +2,18 @@
 
 mod common;
 
-use common::{World, TICKET};
+use common::{World, ODD, TICKET};
 use zilpanud::code::*;
 use zilpanud::cut::{self, ENOUGH};
 use zilpanud::{Cause, Cursors, Refusal};
 
 const WORKERS: [usize; 7] = [0, 1, 2, 7, 8, 1 << 32, usize::MAX];
 const NUMBERS: [u64; 4] = [0, 1, 1 << 63, u64::MAX];
-const CURSORS: [Cursors; 3] =
-    [Cursors::IDLE, Cursors { step: [0; 8], turn: [0; 8] }, Cursors { step: [255; 8], turn: [254; 8] }];
+const CURSORS: [Cursors; 3] = [
+    Cursors::IDLE,
+    Cursors { step: [0; 8], turn: [0; 8], held: 1 << 63 },
+    Cursors { step: [255; 8], turn: [254; 8], held: u64::MAX },
+];
 
 /// Images of every length up to one more than the longest has, all words the same.
 fn images() -> impl Iterator<Item = Vec<u64>> {
@@ -27,6 +30,8 @@ fn all_calls(image: &mut [u64], worker: usize) {
         }
         let _ = zilpanud::turn(image, &mut at, worker);
         let _ = zilpanud::run(image, &mut at, u16::MAX);
+        assert!(at.locks_held() <= 64);
+        let _ = at.holds(worker);
         let _ = zilpanud::is_idle(image, &at, worker);
         let _ = zilpanud::finished(image, worker);
     }
@@ -46,16 +51,18 @@ fn calls() {
 #[test]
 fn an_empty_image_is_refused() {
     let no = Refusal(Cause::Image);
-    let (image, at) = (&mut [][..], &mut Cursors::IDLE.clone());
+    let (image, at) = (&mut [][..], &mut { ODD });
     assert_eq!(zilpanud::format(image, 1), Err(no));
     assert_eq!(zilpanud::submit(image, at, 0, 1, &[0; 8], &TICKET), Err(no));
     assert_eq!(zilpanud::turn(image, at, 0), Err(no));
     assert_eq!(zilpanud::run(image, at, 1).map_err(Refusal::from), Err(no));
+    assert_eq!(*at, ODD);
     assert_eq!(zilpanud::recover(image), Err(no));
     assert_eq!(zilpanud::is_idle(image, at, 0), Err(no));
     assert_eq!(zilpanud::finished(image, 0), Err(no));
     assert_eq!(zilpanud::standing(image, 0, 1), Err(no));
     assert_eq!(cut::recover(image, at, &mut { ENOUGH }), Err(no));
+    assert_eq!(*at, Cursors::IDLE);
 }
 
 #[test]

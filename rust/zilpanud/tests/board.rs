@@ -29,6 +29,7 @@ fn a_new_board() {
         assert_eq!(board.standing(worker, 1), Ok(Standing::NotBegun));
     }
     assert!((0..64).all(|lock| board.owner(lock).is_none()));
+    assert_eq!(board.locks_held(), 0);
 }
 
 #[test]
@@ -40,12 +41,13 @@ fn a_section_from_submit_to_finish() {
     for _ in 0..2 {
         board.turn(1).unwrap();
     }
-    assert_eq!((board.is_idle(1), board.owner(3)), (Ok(false), Some(1)));
+    assert_eq!((board.is_idle(1), board.owner(3), board.locks_held()), (Ok(false), Some(1), 1));
     assert_eq!(board.run(3).unwrap().end, End::Spent);
     assert_eq!(board.standing(1, 4), Ok(Standing::Begun));
     let tally = Tally { turns: 14, waits: 0, stores: 14, already_free: 0, others: 0 };
     assert_eq!(board.run_to_idle(), Ok(Run { end: End::AllIdle, tally }));
     assert_eq!((board.is_idle(1), board.owner(3), board.cell(24)), (Ok(true), None, Some(5)));
+    assert_eq!(board.locks_held(), 0);
     assert_eq!((board.finished(1), board.standing(1, 4)), (Ok(4), Ok(Standing::Finished)));
     assert_eq!(board.submit_next(1, &NO_ARGS, &TICKET), Ok(5));
 }
@@ -66,12 +68,15 @@ fn a_begun_section_goes_on() {
             _ => (Standing::Finished, true),
         };
         assert_eq!((board.standing(0, 1), board.is_idle(0)), (Ok(standing), Ok(idle)), "{turns} turns");
+        // the lock is owed from the fifth turn on, and no longer when the 14th has stored that it is not owned
+        assert_eq!(board.locks_held(), (5..14).contains(&turns) as usize, "{turns} turns");
         if standing == Standing::NotBegun {
             assert_eq!(board.cells(), [0; 512]);
             board.submit(0, 1, &NO_ARGS, &TICKET).unwrap();
         }
         assert_eq!(board.run_to_idle().unwrap().end, End::AllIdle);
         assert_eq!((board.cell(24), board.finished(0), board.owner(3)), (Some(5), Ok(1), None));
+        assert_eq!(board.locks_held(), 0);
     }
 }
 

@@ -2,16 +2,18 @@
 
 mod common;
 
-use common::{World, CELL_24, COUNT, LOCK_3, NUMBER, OWN, STEPS, TICKET};
+use common::{World, CELL_24, COUNT, LOCK_3, NUMBER, ODD, ONLY_3, OWN, STEPS, TICKET};
 use zilpanud::cut::{self, ENOUGH};
 use zilpanud::{Cursors, End, Passing, Turn};
 
-/// The turns that a recovery and a run to the end make.
+/// The turns that a recovery and a run to the end make. The cursors from before the cut are lost.
 fn carried_on(world: &mut World) -> u64 {
-    world.at = Cursors::IDLE;
+    world.at = ODD;
     world.recover().unwrap();
+    assert_eq!(world.at.held, if world.image[LOCK_3] == 0 { 0 } else { ONLY_3 });
     let run = world.run(384).unwrap();
     assert_eq!((run.end, world.image[LOCK_3]), (End::AllIdle, 0));
+    assert_eq!(world.at.held, 0);
     run.tally.turns
 }
 
@@ -92,7 +94,7 @@ fn in_the_formatting() {
     let len = zilpanud::image_len(1);
     for k in 0..=len + 1 {
         let mut image = vec![7; len];
-        let (mut at, mut left) = (Cursors::IDLE, k as u64);
+        let (mut at, mut left) = (ODD, k as u64);
         cut::format(&mut image, 1, &mut at, &mut left).unwrap();
         let expected: Vec<u64> = (0..len)
             .map(|i| match i {
@@ -102,7 +104,7 @@ fn in_the_formatting() {
                 _ => 7,
             })
             .collect();
-        assert_eq!((image, left), (expected, 0), "cut after {k}");
+        assert_eq!((image, at, left), (expected, Cursors::IDLE, 0), "cut after {k}");
     }
 }
 

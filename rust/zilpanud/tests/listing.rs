@@ -2,8 +2,8 @@
 
 mod common;
 
-use common::{World, CELL_24, FINISHED, LOCK_3};
-use zilpanud::{cut, Cursors, End, Run, Standing, Tally, Turn};
+use common::{World, CELL_24, FINISHED, LOCK_3, ODD, ONLY_3};
+use zilpanud::{cut, End, Run, Standing, Tally, Turn};
 
 /// The listing's lines, as they stand in document 01: five of turns, three of the recovery.
 const LISTING: &str = "\
@@ -48,7 +48,7 @@ fn recovery_stores_what_the_listing_says() {
         for (index, value) in &stores[..k] {
             expected[*index] = *value;
         }
-        let (mut image, mut at, mut left) = (start.clone(), Cursors::IDLE, k as u64);
+        let (mut image, mut at, mut left) = (start.clone(), ODD, k as u64);
         cut::recover(&mut image, &mut at, &mut left).unwrap();
         assert_eq!((image, left), (expected, 0));
     }
@@ -60,7 +60,7 @@ fn recovery_makes_no_further_store() {
     world.left = 10;
     world.recover().unwrap();
     assert_eq!(world.left, 7);
-    assert_eq!((world.at.step[0], world.at.turn[0]), (0, 5));
+    assert_eq!((world.at.step[0], world.at.turn[0], world.at.held), (0, 5, ONLY_3));
 }
 
 #[test]

@@ -15,11 +15,16 @@ fn refused_run(cause: Cause, tally: Tally) -> Result<Run, RefusedRun> {
     Err(RefusedRun { refusal: Refusal(cause), tally })
 }
 
-/// A submit that is refused and leaves image, cursors and stores left.
+/// A submit that is refused and leaves image, cursors and stores left; the mask too, whatever it is.
 fn not_taken(world: &mut World, worker: usize, number: u64, section: &[u64], cause: Cause) {
-    let before = (world.image.clone(), world.at, world.left);
-    assert_eq!(world.submit(worker, number, section), refused(cause));
-    assert_eq!((world.image.clone(), world.at, world.left), before);
+    let held = world.at.held;
+    for given in [held, !held] {
+        world.at.held = given;
+        let before = (world.image.clone(), world.at, world.left);
+        assert_eq!(world.submit(worker, number, section), refused(cause));
+        assert_eq!((world.image.clone(), world.at, world.left), before);
+    }
+    world.at.held = held;
 }
 
 #[test]
@@ -151,8 +156,7 @@ fn wrong_images() -> Vec<Vec<u64>> {
 fn cause_10_image() {
     let no = Cause::Image;
     for image in wrong_images() {
-        let busy = Cursors { step: [1; 8], turn: [2; 8] };
-        let mut world = World { image, at: busy, left: ENOUGH };
+        let mut world = World { image, at: ODD, left: ENOUGH };
         not_taken(&mut world, 9, 0, &[], no);
         let before = world.image.clone();
         assert_eq!(world.turn(9), refused(no));
@@ -161,7 +165,7 @@ fn cause_10_image() {
         assert_eq!(zilpanud::is_idle(image, at, 0), refused(no));
         assert_eq!(zilpanud::finished(image, 0), refused(no));
         assert_eq!(zilpanud::standing(image, 9, 0), refused(no));
-        assert_eq!(*at, busy);
+        assert_eq!(*at, ODD);
         assert_eq!(cut::recover(image, at, left), refused(no));
         assert_eq!(*at, Cursors::IDLE);
         assert_eq!((world.image, world.left), (before, ENOUGH));
@@ -172,8 +176,7 @@ fn cause_10_image() {
 fn cause_10_of_a_formatting() {
     for (len, workers) in [(584, 0), (1322, 9), (665, 1), (667, 1), (666, 2), (0, 1)] {
         let mut image = vec![7; len];
-        let mut at = Cursors { step: [1; 8], turn: [2; 8] };
-        let mut left = 3;
+        let (mut at, mut left) = (ODD, 3);
         let answer = cut::format(&mut image, workers, &mut at, &mut left);
         assert_eq!(answer, refused(Cause::Image));
         assert_eq!((image, at, left), (vec![7; len], Cursors::IDLE, 3));
@@ -200,6 +203,7 @@ fn cause_11_cursor() {
 /// A turn and a run of this worker are refused with 11 and leave all as it was.
 fn halts(world: &mut World, worker: usize) {
     let no = Cause::Cursor { worker };
+    world.at.held = ODD.held;
     let before = (world.image.clone(), world.at, world.left);
     assert_eq!(world.turn(worker), refused(no));
     assert_eq!(world.run(9), refused_run(no, Tally::default()));
@@ -221,8 +225,9 @@ fn cause_11_in_a_run() {
     assert_eq!(world.run(18), Ok(Run { end: End::AllIdle, tally }));
 }
 
-/// A recovery that is refused leaves the image and all workers idle.
+/// A recovery that is refused leaves the image, all workers idle and no lock held.
 fn unrecovered(mut world: World, cause: Cause) {
+    world.at.held = ODD.held;
     let before = (world.image.clone(), Cursors::IDLE, world.left);
     assert_eq!(world.recover(), refused(cause));
     assert_eq!((world.image.clone(), world.at, world.left), before);

@@ -36,11 +36,11 @@ fn worker_1_acquires(world: &mut World) {
     assert_eq!(world.image[LOCK_3], 2);
 }
 
-/// A turn of worker 0 that passes, and leaves every word as it was.
+/// A turn of worker 0 that passes, and leaves every word and the locks held as they were.
 fn passes(world: &mut World, why: Passing) {
-    let (image, left) = (world.image.clone(), world.left);
+    let (image, held, left) = (world.image.clone(), world.at.held, world.left);
     assert_eq!(world.turn(0), Ok(Turn::Passed(why)));
-    assert_eq!((&world.image, world.left), (&image, left));
+    assert_eq!((&world.image, world.at.held, world.left), (&image, held, left));
 }
 
 #[test]

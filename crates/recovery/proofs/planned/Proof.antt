@@ -33,8 +33,9 @@ resumed-all-requires : tie.Need-resumed-all-requires
 resumed-all-requires c κs =
     let S = c .before .before .before .before .before in
     let A = S .args in
-    done-restorable (A .mark) (A .own) (now (A .image)) (S .pre)
-    (ap isDone (sym (c .before .before .before .judge .ensures .0)) ∙ granted (c .before .before .done .ensures) (c .before .if1 .left))
+    let j = c .before .before .before .judge in
+    let e = granted (c .before .before .done .ensures) (c .before .if1 .left) in
+    (done-restorable (A .mark) (A .own) (now (A .image)) (S .pre) (ap isDone (sym (j .ensures .0)) ∙ e), j .ensures .1 e)
 
 repair-requires : tie.Need-repair-requires
 repair-requires c κs =

@@ -1,14 +1,15 @@
 -- `rules::ordered` meets its contract: each arm is the definition's case.
 use borrow.Author.Tests.{ltb-true}
 use borrow.Author.Needs.{needs}
+use Rattle.mask.specs.Mask.{above}
 use Rattle.rules.proofs.ordered.Statement.{statement}
 use Rattle.rules.proofs.ordered.Tie as tie
 
 enum-known-x : tie.Need-enum-known-x
 enum-known-x c = search needs
 
-shr-result : tie.Need-shr-result
-shr-result c = ltb-true _ 64 (rw (c .before .x .given .1) at (c .before .before .before .pre))
+above-requires : tie.Need-above-requires
+above-requires c κs = search needs
 
 enum-known-x-2 : tie.Need-enum-known-x-2
 enum-known-x-2 c = search needs
@@ -29,7 +30,8 @@ enum-told-4 : tie.Need-enum-told-4
 enum-told-4 c = search needs
 
 returns : tie.Need-returns
-returns c = rw (c .before .x .given .1)
+unfolding above
+returns c = rw (c .before .before .x .given .1) (c .above .ensures)
 
 returns-2 : tie.Need-returns-2
 returns-2 c = cc
@@ -51,7 +53,7 @@ ordered-spec =
     tie.close
     (tie.spec
     enum-known-x
-    shr-result
+    above-requires
     enum-known-x-2
     has-requires
     enum-told

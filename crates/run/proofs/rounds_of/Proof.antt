@@ -9,7 +9,7 @@ use Rattle.base.proofs.Counting.{left-all}
 use Rattle.base.proofs.Bools.{denied, granted}
 use Rattle.image.proofs.Header.{sized-inside}
 use Rattle.tally.specs.Tally.{none}
-use Rattle.working.specs.Cursor.{setAt}
+use Rattle.working.specs.Cursor.{setAt, holding}
 use Rattle.working.specs.World.{world}
 use Rattle.run.specs.Run.{counting}
 use Rattle.run.proofs.Rounds.{most-none, most-room}
@@ -19,18 +19,20 @@ use Rattle.run.proofs.rounds_of.Statement.{statement}
 use Rattle.run.proofs.rounds_of.Tie as tie
 
 abbrev Inv-loop : tie.InvT-loop
-Inv-loop image₀ n own rounds left₀ c₀ tally₀ round to next₀ d₀ image left c tally next d =
-    (length image ≡ length image₀) × Lap own n to round (counting (world image₀ c₀ left₀) tally₀) (counting (world image c left) tally) next d
+Inv-loop image₀ n own rounds left₀ c₀ held₀ tally₀ round to next₀ d₀ image left c held tally next d =
+    (length image ≡ length image₀)
+    × Lap own n to round (counting (world image₀ (holding held₀ c₀) left₀) tally₀) (counting (world image (holding held c) left) tally) next d
 
 abbrev μ-loop : tie.MeasureT-loop
-μ-loop image₀ n own rounds left₀ c₀ tally₀ round to next₀ d₀ image left c tally next d = to - d
+μ-loop image₀ n own rounds left₀ c₀ held₀ tally₀ round to next₀ d₀ image left c held tally next d = to - d
 
 abbrev Inv-rounds : tie.InvT-rounds
-Inv-rounds image₀ n own rounds left₀ c₀ tally₀ round₀ to₀ image left c tally round to =
-    (length image ≡ length image₀) × Laps own n rounds (counting (world image₀ c₀ left₀) none) (counting (world image c left) tally) round to
+Inv-rounds image₀ n own rounds left₀ c₀ held₀ tally₀ round₀ to₀ image left c held tally round to =
+    (length image ≡ length image₀)
+    × Laps own n rounds (counting (world image₀ (holding held₀ c₀) left₀) none) (counting (world image (holding held c) left) tally) round to
 
 abbrev μ-rounds : tie.MeasureT-rounds
-μ-rounds image₀ n own rounds left₀ c₀ tally₀ round₀ to₀ image left c tally round to = rounds - round
+μ-rounds image₀ n own rounds left₀ c₀ held₀ tally₀ round₀ to₀ image left c held tally round to = rounds - round
 
 zero-requires : tie.Need-zero-requires Inv-loop μ-loop Inv-rounds μ-rounds
 zero-requires c κs = search needs
@@ -76,7 +78,7 @@ loop-again : tie.Need-loop-again Inv-loop μ-loop Inv-rounds μ-rounds
 loop-again c =
     let L = c .before .before .before .before .loop in
     let l = L .inv .1 in
-    let idle = idle-turn (L .c) (L .d) (rw (l .full .turns) (omega (arith, l .top, l .few))) (c .if3 .taken) in
+    let idle = idle-turn (holding (L .held) (L .c)) (L .d) (rw (l .full .turns) (omega (arith, l .top, l .few))) (c .if3 .taken) in
     (L .inv .0, lap-idle _ _ _ _ _ _ _ _ l (c .before .before .before .loop-test .taken) idle)
 
 ready-in-requires : tie.Need-ready-in-requires Inv-loop μ-loop Inv-rounds μ-rounds
@@ -110,9 +112,12 @@ element-write-c-2 c =
     let back = c .before .before .before .before .before .before .before .before .before in
     let l = back .before .before .before .loop .inv .1 in omega (arith, l .top, l .few)
 
+held-after-requires : tie.Need-held-after-requires Inv-loop μ-loop Inv-rounds μ-rounds
+held-after-requires c κs = c .before .before .turn-on .ensures .0
+
 counted-requires : tie.Need-counted-requires Inv-loop μ-loop Inv-rounds μ-rounds
 counted-requires c κs =
-    let back = c .before .before .before .before .before .before .before .before .before in
+    let back = c .before .before .before .before .before .before .before .before .before .before in
     let l = back .before .before .before .loop .inv .1 in
     let r = back .before .before .before .before .before .before .rounds .inv .1 in
     most-room _ (l .most) (omega (
@@ -126,12 +131,12 @@ counted-requires c κs =
 
 element-copy-out-open-with : tie.Need-element-copy-out-open-with Inv-loop μ-loop Inv-rounds μ-rounds
 element-copy-out-open-with c =
-    let back = c .before .before .before .before .before .before .before .before .before in
+    let back = c .before .before .before .before .before .before .before .before .before .before in
     let l = back .before .before .before .before .loop .inv .1 in omega (arith, l .top, l .few)
 
 open-with-requires : tie.Need-open-with-requires Inv-loop μ-loop Inv-rounds μ-rounds
 open-with-requires c κs =
-    let back = c .before .before .before .before .before .before .before .before .before in
+    let back = c .before .before .before .before .before .before .before .before .before .before in
     let l = back .before .before .before .before .before .loop .inv .1 in omega (arith, l .top, l .few)
 
 add-d-2 : tie.Need-add-d-2 Inv-loop μ-loop Inv-rounds μ-rounds
@@ -143,20 +148,21 @@ loop-less-2 c = omega arith
 loop-again-2 : tie.Need-loop-again-2 Inv-loop μ-loop Inv-rounds μ-rounds
 unfolding setAt
 loop-again-2 c =
-    let T = c .before .before .before .before .before in
+    let T = c .before .before .before .before .before .before in
     let u = T .turn-on in
     let L = T .before .before .before .before .before .before .before .before .before .before .loop in
     let l = L .inv .1 in
     let inside : L .d < length (L .c .turn) = rw (l .full .turns)
     (omega (arith, l .top, l .few, T .before .before .before .before .before .before .before .before .before .loop-test .taken)) in
-    let acts = u .ensures (L .c) (record { inside = inside; step = refl; turn = refl }) in
-    let full : Full (setAt (L .c) (L .d) (u .result .step) (u .result .turn)) = record
+    let acts = u .ensures .1 (holding (L .held) (L .c)) (record { inside = inside; step = refl; turn = refl }) in
+    let h = c .before .before .before .held-after in
+    let full : Full (holding (h .result) (setAt (L .c) (L .d) (u .result .step) (u .result .turn))) = record
     { steps = length-set (L .c .step) (L .d) (u .result .step) ∙ l .full .steps; turns = length-set (L .c .turn) (L .d) (u .result .turn) ∙ l .full .turns }
     in
     let test = granted (T .before .before .before .before .ready-in .ensures) (T .before .before .before .if4 .left) in (
       u .kept .0 ∙ L .inv .0,
       lap-turn _ _ _ _ _ _ _ _ l _ _ _ _ (T .before .before .before .before .before .before .before .before .before .loop-test .taken)
-          full test (acts .did) (acts .after) (c .before .before .counted .ensures) (c .open-with .ensures),
+          full test (acts .did) (rw (← h .ensures) at (acts .after)) (c .before .before .counted .ensures _) (c .open-with .ensures),
     )
 
 add-round : tie.Need-add-round Inv-loop μ-loop Inv-rounds μ-rounds
@@ -217,6 +223,7 @@ rounds-of-spec =
     turn-on-requires
     element-write-c
     element-write-c-2
+    held-after-requires
     counted-requires
     element-copy-out-open-with
     open-with-requires

@@ -1,11 +1,11 @@
--- `turn::done` meets its contract: each plan by its arm, the store and the record by their callees.
+-- `turn::done` meets its contract: each plan by its arm, the store by its callee.
 use borrow.Author.Needs.{needs}
 use Prim.Native.Nat.{ℕ}
 use mathlib.Core.Path.{_≡_, refl}
 use lib.Seq.{set-getD}
 use Rattle.working.specs.declared.Cursors.{Cursors}
 use Rattle.working.specs.inner.At.{At}
-use Rattle.working.specs.Cursor.{setAt}
+use Rattle.working.specs.Cursor.{setAt, holding}
 use Rattle.turn.proofs.done.Statement.{statement}
 use Rattle.turn.proofs.done.Tie as tie
 
@@ -13,6 +13,11 @@ use Rattle.turn.proofs.done.Tie as tie
 placed-self : (c : Cursors) (d s t : ℕ) → At c d s t → setAt c d s t ≡ c
 unfolding setAt
 placed-self c d s t h = rw (← h .step, ← h .turn, set-getD (c .step) d 0, set-getD (c .turn) d 0)
+
+-- with the locks held that it holds
+held-self : (c : Cursors) (d s t : ℕ) → holding (c .held) (setAt c d s t) ≡ setAt c d s t
+unfolding setAt
+held-self c d s t = refl
 
 enum-known-p : tie.Need-enum-known-p
 enum-known-p c = search needs
@@ -23,8 +28,26 @@ store-requires c κs = search needs
 enum-known-p-2 : tie.Need-enum-known-p-2
 enum-known-p-2 c = search needs
 
+lock-index-requires : tie.Need-lock-index-requires
+lock-index-requires c κs = rw (c .before .before .p2 .given .1) at (c .before .before .before .before .before .pre)
+
+store-requires-2 : tie.Need-store-requires-2
+store-requires-2 c κs = search needs
+
 enum-known-p-3 : tie.Need-enum-known-p-3
 enum-known-p-3 c = search needs
+
+lock-index-requires-2 : tie.Need-lock-index-requires-2
+lock-index-requires-2 c κs = rw (c .before .before .p3 .given .1) at (c .before .before .before .before .before .pre)
+
+store-requires-3 : tie.Need-store-requires-3
+store-requires-3 c κs = search needs
+
+enum-known-p-4 : tie.Need-enum-known-p-4
+enum-known-p-4 c = search needs
+
+enum-known-p-5 : tie.Need-enum-known-p-5
+enum-known-p-5 c = search needs
 
 same-length : tie.Need-same-length
 same-length c = search needs
@@ -32,13 +55,33 @@ same-length c = search needs
 returns : tie.Need-returns
 returns c =
     let s = c .before .before .store in
-    rw (c .before .before .before .before .before .before .p .given .1, ← s .ensures .0, ← s .ensures .1) (refl, λ x d h. refl)
+    rw (c .before .before .before .before .before .before .p .given .1, ← s .ensures .0, ← s .ensures .1) (refl, λ n x d h. rw (held-self x d _ _))
+
+same-length-2 : tie.Need-same-length-2
+same-length-2 c = search needs
 
 returns-2 : tie.Need-returns-2
-returns-2 c = rw (c .before .p2 .given .1) (refl, λ x d h. refl)
+returns-2 c =
+    let s = c .before .before .store2 in
+    let l = c .before .before .before .before .lock-index in
+    rw (c .before .before .before .before .before .before .before .p2 .given .1) (refl, λ n x d h. rw (← l .ensures n, ← s .ensures .0, ← s .ensures .1))
+
+same-length-3 : tie.Need-same-length-3
+same-length-3 c = search needs
 
 returns-3 : tie.Need-returns-3
-returns-3 c = let A = c .before .before .before .before .args in rw (c .before .p3 .given .1) (refl, λ x d h. rw (placed-self x d (A .s) (A .t) h))
+returns-3 c =
+    let s = c .before .before .store3 in
+    let l = c .before .before .before .before .lock-index2 in
+    rw (c .before .before .before .before .before .before .before .p3 .given .1) (refl, λ n x d h. rw (← l .ensures n, ← s .ensures .0, ← s .ensures .1))
+
+returns-4 : tie.Need-returns-4
+returns-4 c = rw (c .before .p4 .given .1) (refl, λ n x d h. rw (held-self x d _ _))
+
+returns-5 : tie.Need-returns-5
+returns-5 c =
+    let A = c .before .before .before .before .args in
+    rw (c .before .p5 .given .1) (refl, λ n x d h. rw (held-self x d (A .s) (A .t), placed-self x d (A .s) (A .t) h))
 
 pub done-spec : {M : Type 1} → statement M
 done-spec =
@@ -47,8 +90,18 @@ done-spec =
     enum-known-p
     store-requires
     enum-known-p-2
+    lock-index-requires
+    store-requires-2
     enum-known-p-3
+    lock-index-requires-2
+    store-requires-3
+    enum-known-p-4
+    enum-known-p-5
     same-length
     returns
+    same-length-2
     returns-2
-    returns-3)
+    same-length-3
+    returns-3
+    returns-4
+    returns-5)

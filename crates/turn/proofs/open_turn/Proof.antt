@@ -22,29 +22,33 @@ element-copy-out-turn-on-2 c = search needs
 turn-on-requires : tie.Need-turn-on-requires
 turn-on-requires c κs = search needs
 
-answer-of-requires : tie.Need-answer-of-requires
-answer-of-requires c κs = search needs
+held-after-requires : tie.Need-held-after-requires
+held-after-requires c κs = c .before .before .turn-on .ensures .0
 
 place-requires : tie.Need-place-requires
 place-requires c κs = search needs
+
+answer-of-requires : tie.Need-answer-of-requires
+answer-of-requires c κs = c .before .before .before .before .turn-on .ensures .0
 
 same-length : tie.Need-same-length
 same-length c = search needs
 
 returns : tie.Need-returns
 returns c =
-    let S = c .before .before .before .before .before .before .before .before .before .before in
+    let T = c .before .before .before .before .before in
+    let S = T .before .before .before .before .before .before in
     let A = S .args in
     let w = world (now (A .image)) (A .t2) (now (A .left)) in
     let l : A .d < 8 = omega (arith, S .pre .0 .below, S .pre .0 .most) in
-    let p : length (A .t2 .step) ≡ 8 = search needs in
-    let q : length (A .t2 .turn) ≡ 8 = search needs in
+    let p : length (A .t2 .step) ≡ 8 = search (needs, S .good .1 .0) in
+    let q : length (A .t2 .turn) ≡ 8 = search (needs, S .good .1 .0) in
     let f : Full (A .t2) = record { steps = p; turns = q } in
     let inside : A .d < length (A .t2 .turn) = rw q l in
-    let acts = c .before .before .before .before .turn-on .ensures (A .t2) (record { inside = inside; step = refl; turn = refl }) in
+    let acts = T .turn-on .ensures .1 (A .t2) (record { inside = inside; step = refl; turn = refl }) in
     let made = made-at (A .own) w (A .d) f l (S .pre .1) in (
-      c .before .answer-of .ensures ∙ (ap didAnswer (acts .did) ∙ did-answers (A .own) (outcomeAt (A .own) w (A .d)) made),
-      rw (← c .place .ensures) at
+      c .answer-of .ensures (A .own) ∙ (ap (didAnswer (A .own)) (acts .did) ∙ did-answers (A .own) (outcomeAt (A .own) w (A .d)) made),
+      rw (← c .before .place .ensures, ← c .before .before .held-after .ensures) at
           (acts .after),
     )
 
@@ -55,7 +59,8 @@ open-turn-spec =
     element-copy-out-turn-on
     element-copy-out-turn-on-2
     turn-on-requires
-    answer-of-requires
+    held-after-requires
     place-requires
+    answer-of-requires
     same-length
     returns)

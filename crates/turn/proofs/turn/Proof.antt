@@ -62,8 +62,8 @@ returns-3 c =
     let S = M .before .before .before .before .before in
     let A = S .args in
     let w = world (now (A .image)) (A .c) (now (A .left)) in
-    let p : length (A .c .step) ≡ 8 = search needs in
-    let q : length (A .c .turn) ≡ 8 = search needs in
+    let p : length (A .c .step) ≡ 8 = search (needs, S .good .1 .0) in
+    let q : length (A .c .turn) ≡ 8 = search (needs, S .good .1 .0) in
     let f : Full (A .c) = record { steps = p; turns = q } in
     let e = sym (M .before .before .tests .ensures (now (A .left))) ∙ M .enum-told2 .given .1 in
     rw (gate-opens (A .mark) (A .own) w (A .d) (S .pre) f e .same) (c .before .before .open-turn .ensures)

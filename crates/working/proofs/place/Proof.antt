@@ -16,15 +16,15 @@ returns c =
     let q : length (a .c .turn) ≡ 8 = search needs in
     rw (set-out (a .c .step) (a .d) (a .s) (omega arith), set-out (a .c .turn) (a .d) (a .t) (omega arith))
 
-element-write-next : tie.Need-element-write-next
-element-write-next c = search needs
+array-write-step : tie.Need-array-write-step
+array-write-step c = search needs
 
-element-write-next-2 : tie.Need-element-write-next-2
-element-write-next-2 c = search needs
+array-write-turn : tie.Need-array-write-turn
+array-write-turn c = search needs
 
 returns-2 : tie.Need-returns-2
 unfolding setAt
 returns-2 c = refl
 
 pub place-spec : {M : Type 1} → statement M
-place-spec = tie.close (tie.spec returns element-write-next element-write-next-2 returns-2)
+place-spec = tie.close (tie.spec returns array-write-step array-write-turn returns-2)

@@ -20,7 +20,7 @@ same-length c = search needs
 returns : tie.Need-returns
 returns c =
     let v = c .before in
-    let f = v .before .before .before .before .before .before .format .ensures in
+    let f = v .before .before .before .before .before .before .before .format .ensures in
     (c .format-code .ensures ∙ ap formatCode (f .0), rw (v .leave .ensures, f .1 .0, f .1 .1 .0, f .1 .1 .1))
 
 pub zilpanud-format-spec : {M : Type 1} → statement M

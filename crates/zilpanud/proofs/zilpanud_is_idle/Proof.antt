@@ -15,7 +15,7 @@ returns : tie.Need-returns
 returns c =
     let a = c .before in
     let A = a .before .before .args in
-    let v = idleBit (cursors (now (A .step)) (now (A .turn))) (A .worker) in
+    let v = idleBit (cursors (now (A .step)) (now (A .turn)) 0) (A .worker) in
     (a .asked .ensures, told-no (now (A .image)) (A .worker) v (λ e. c .if1 .taken (a .asked .ensures ∙ e)))
 
 lent-requires : tie.Need-lent-requires
@@ -29,7 +29,7 @@ returns-2 c =
     let l = c .before in
     let a = l .before .before in
     let A = a .before .before .args in
-    let v = idleBit (cursors (now (A .step)) (now (A .turn))) (A .worker) in
+    let v = idleBit (cursors (now (A .step)) (now (A .turn)) 0) (A .worker) in
     let z = sym (a .asked .ensures) ∙ l .before .if1 .left in
     (sym z, rw (l .lent .ensures) at (c .idle .ensures) ∙ told-yes (now (A .image)) (A .worker) v z)
 

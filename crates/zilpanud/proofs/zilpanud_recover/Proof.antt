@@ -23,7 +23,7 @@ same-length c = search needs
 returns : tie.Need-returns
 returns c =
     let v = c .before .before in
-    let e = v .before .before .before .before .before .before .recover .ensures in (
+    let e = v .before .before .before .before .before .before .before .recover .ensures in (
       c .recover-code .ensures ∙ ap recoverCode (e .0),
       (c .before .recover-detail .ensures ∙ ap recoverDetail (e .0), rw (v .leave .ensures, e .1 .0, e .1 .1 .1 .0, e .1 .1 .1 .1)),
     )

@@ -28,7 +28,7 @@ same-length c = search needs
 returns : tie.Need-returns
 returns c =
     let v = c .before .before .before .before in
-    let t = v .before .before .before .before .before .before in
+    let t = v .before .before .before .before .before .before .before in
     let e = rw (t .before .before .before .lent .ensures) at (t .run .ensures) in (
       c .end-code .ensures ∙ ap (λ (x : Course). endCode (x .end)) e,
       (

@@ -40,6 +40,7 @@ use std::path::Path;
 /// let number = board.finished(1)? + 1;
 /// board.submit(1, number, &args, &section)?;
 /// board.run(20)?;
+/// assert_eq!(board.locks_held(), 2);
 /// drop(board); // or the process is killed, here or anywhere
 ///
 /// let mut board = Board::open(&path)?;
@@ -201,6 +202,12 @@ impl Board {
     /// The value of a cell, 0 to 511; none for another number.
     pub fn cell(&self, cell: usize) -> Option<u64> {
         self.cells().get(cell).copied()
+    }
+
+    /// How many locks are held, by all workers together: for a screen that shows it after each turn. The cursors have
+    /// it, so that the owner words are not looked at.
+    pub fn locks_held(&self) -> usize {
+        self.cursors.locks_held()
     }
 
     /// The worker that has a lock, 0 to 63; none if it is free, and for another number.

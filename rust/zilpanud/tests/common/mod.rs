@@ -15,6 +15,12 @@ pub const CELL_24: usize = cell_index(24);
 /// Lock 3's owner word: 520 + 3.
 pub const LOCK_3: usize = 523;
 
+/// Lock 3 alone, as a mask.
+pub const ONLY_3: u64 = 1 << 3;
+
+/// Cursors that no call leaves: what a recovery and a formatting must not read.
+pub const ODD: Cursors = Cursors { step: [9; 8], turn: [3; 8], held: 0x8000_0100_0000_0bad };
+
 /// The record of worker 0, and the offsets that document 01 gives.
 pub const RECORD: usize = 584;
 pub const COUNT: usize = RECORD;

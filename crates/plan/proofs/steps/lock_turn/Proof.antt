@@ -2,6 +2,7 @@
 use native.Mathlib.Omega.{arith}
 use borrow.Author.Tests.{eq-eqb, ne-eqb}
 use borrow.Author.Needs.{needs}
+use Prim.Native.Nat.{_+_}
 use denote.Ref.{now}
 use Rattle.image.proofs.Stores.{inside-front}
 use Rattle.plan.proofs.steps.lock_turn.Statement.{statement}
@@ -18,18 +19,15 @@ returns c =
     let r = c .before .read-lock in
     simp (← r .ensures (c .before .before .before .args .own), ne-eqb (r .result) 0 (omega arith))
 
-lock-index-requires : tie.Need-lock-index-requires
-lock-index-requires c κs = search needs
-
-add-t9 : tie.Need-add-t9
-add-t9 c = search needs
+add-t8 : tie.Need-add-t8
+add-t8 c = search needs
 
 returns-2 : tie.Need-returns-2
 returns-2 c =
-    let r = c .before .before .read-lock in
-    let A = c .before .before .before .before .args in
-    simp (← r .ensures (A .own), eq-eqb (r .result) 0 (omega arith), ← c .lock-index .ensures (A .own))
+    let r = c .before .read-lock in
+    let A = c .before .before .before .args in
+    simp (← r .ensures (A .own), eq-eqb (r .result) 0 (omega arith), ne-eqb (A .d + 1) 0 (λ z. omega arith))
 
 pub lock-turn-spec : {M : Type 1} → statement M
 lock-turn-spec =
-    tie.close (tie.spec read-lock-requires returns lock-index-requires add-t9 returns-2)
+    tie.close (tie.spec read-lock-requires returns add-t8 returns-2)

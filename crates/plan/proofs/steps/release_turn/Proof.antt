@@ -1,7 +1,7 @@
 -- `plan::steps::release_turn` meets its contract: a logged store at turns 0 to 3, then the lock, and the intent last.
 use borrow.Author.Tests.{lt-ltb, le-ltb, eq-eqb, ne-eqb}
 use borrow.Author.Needs.{needs}
-use Rattle.plan.proofs.Planned.{logged-plan}
+use Rattle.plan.proofs.Planned.{field-indexed, logged-plan}
 use Rattle.plan.proofs.steps.release_turn.Statement.{statement}
 use Rattle.plan.proofs.steps.release_turn.Tie as tie
 
@@ -21,7 +21,14 @@ returns : tie.Need-returns
 returns c =
     let u = c .before .before in
     let l = lt-ltb _ _ (u .before .before .if1 .taken) in
-    rw (l, logged-plan _ _ _ _ _ _ _ _ _ _, ← u .read-field .ensures, ← c .before .without .ensures, ← u .before .field-index .ensures) (c .logged .ensures)
+    rw (
+      l,
+      logged-plan _ _ _ _ _ _ _ _ _ _ (field-indexed _ _ _),
+      ← u .read-field .ensures,
+      ← c .before .without .ensures,
+      ← u .before .field-index .ensures,
+    )
+    (c .logged .ensures)
 
 unlock-turn-requires : tie.Need-unlock-turn-requires
 unlock-turn-requires c κs = search needs

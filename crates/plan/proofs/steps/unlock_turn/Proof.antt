@@ -18,9 +18,6 @@ report-requires c κs = search needs
 enum-told : tie.Need-enum-told
 enum-told c = search needs
 
-lock-index-requires : tie.Need-lock-index-requires
-lock-index-requires c κs = search needs
-
 enum-told-2 : tie.Need-enum-told-2
 enum-told-2 c = search needs
 
@@ -29,10 +26,10 @@ enum-told-3 c = search needs
 
 returns : tie.Need-returns
 returns c =
-    let u = c .before .before .before in
+    let u = c .before .before in
     let A = u .before .before .before .args in
-    let e = sym (u .report .ensures) ∙ c .before .enum-told .given .1 in
-    rw (← u .before .read-lock .ensures (A .own), e, ← c .lock-index .ensures (A .own))
+    let e = sym (u .report .ensures) ∙ c .enum-told .given .1 in
+    rw (← u .before .read-lock .ensures (A .own), e)
 
 returns-2 : tie.Need-returns-2
 returns-2 c =
@@ -55,7 +52,6 @@ unlock-turn-spec =
     read-lock-requires
     report-requires
     enum-told
-    lock-index-requires
     enum-told-2
     enum-told-3
     returns

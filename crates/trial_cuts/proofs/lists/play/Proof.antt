@@ -2,6 +2,7 @@
 use Prim.Native.Nat.{_-_, _≤_}
 use mathlib.Core.Path.{_≡_}
 use lib.ListN.{length}
+use native.Mathlib.Omega.{arith}
 use borrow.Author.Needs.{needs}
 use Rattle.trial_cuts.proofs.lists.play.Statement.{statement}
 use Rattle.trial_cuts.proofs.lists.play.Tie as tie
@@ -26,7 +27,10 @@ call-requires : tie.Need-call-requires Inv-loop μ-loop
 call-requires c κs = search needs
 
 add-i : tie.Need-add-i Inv-loop μ-loop
-add-i c = search needs
+add-i c =
+    let T = c .before .before .before .before .before .before .before .before .before .before in
+    let S = T .before .before .before .before .before .before .before .before .before in
+    omega (arith, T .loop-test .taken, S .fits)
 
 loop-less : tie.Need-loop-less Inv-loop μ-loop
 loop-less c = search needs

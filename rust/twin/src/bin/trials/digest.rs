@@ -28,6 +28,7 @@ impl<'a> Digest<'a> {
                 self.word(m.places.step[d] as u64);
             }
         }
+        self.word(m.places.held);
         self.word(m.tally.turns);
         self.word(m.tally.waits);
         self.word(m.tally.stores);

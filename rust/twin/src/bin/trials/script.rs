@@ -59,6 +59,7 @@ impl Script {
             "answer" => self.made.told.text(&self.w),
             "tally" => tally(&self.made.tally),
             "left" => format!("left {}", self.left),
+            "held" => format!("held {}", self.places.bays_held()),
             "kept" => {
                 let kept = self.w == self.marked.0 && self.places == self.marked.1 && self.left == self.given;
                 if kept { "as before" } else { "changed" }.into()
