@@ -65,8 +65,7 @@ pub fn idle(c: Cursors, d: usize) -> bool
     c.turn[d] == 255
 }
 
-// The record with worker d at step s, turn t. The two arrays are copied one by one: a copy of the whole record would wait for both of the
-// stores that brought them.
+// The record with worker d at step s, turn t. The two arrays are copied one by one, which was measured to be faster than a copy of the whole.
 pub fn place(c: Cursors, d: usize, s: u8, t: u8) -> Cursors
     ensures { λ r. ⌜ r ≡ setAt c d s t ⌝ }
 {
