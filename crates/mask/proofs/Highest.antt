@@ -24,7 +24,8 @@ top-is m j l h =
     let e : m / 2 ^ j ≡ 1 = div-eq-of-lt-le (2 ^ j) (omega arith) u in
     rw e
 
-pub highest : (m : ℕ) → 0 < m → m < 2 ^ 64 → (has m (63 - leadingZeros 64 m) ≡ true) × ((c : ℕ) → 63 - leadingZeros 64 m < c → has m c ≡ false)
+pub highest :
+    (m : ℕ) → 0 < m → m < 2 ^ 64 → (has m (63 - leadingZeros 64 m) ≡ true) × ((c : ℕ) → 63 - leadingZeros 64 m < c → has m c ≡ false)
 highest m p h =
     let t = leading-top 64 m p h in
     let e : 63 - leadingZeros 64 m ≡ t .0 = omega (arith, t .1) in
@@ -32,11 +33,9 @@ highest m p h =
 
 -- nothing stands from lock a up, or something does
 low-above : (m a : ℕ) → m < 2 ^ a → above m a ≡ true
-unfolding above
 low-above m a h = rw (div-eq-of-lt h)
 
 high-above : (m a : ℕ) → 2 ^ a ≤ m → above m a ≡ false
-unfolding above
 high-above m a h =
     ne-eqb (m / 2 ^ a) 0
     (λ e. let p : 0 < 2 ^ a = pow-pos a in let l : m < 1 * 2 ^ a = div-lt-iff-lt-mul p .0 (omega arith) in omega arith)

@@ -22,7 +22,7 @@ union sets zero = 0
 union sets (suc k) = bitOr (union sets k) (sets k)
 
 -- lock a is above all that are in the set m
-unfoldable pub above : ℕ → ℕ → Bool
+abbrev pub above : ℕ → ℕ → Bool
 above m a = eqb (m / 2 ^ a) 0
 
 -- how many of the numbers below k are such

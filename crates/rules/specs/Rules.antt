@@ -1,8 +1,8 @@
 -- Causes 6, 7 and 8: each the test of an instruction with h held before it. Cause 9 looks at the section, and stands with the check.
-use Prim.Native.Nat.{ℕ, _/_, _^_}
+use Prim.Native.Nat.{ℕ, _/_}
 use mathlib.Core.Bool.{Bool, true, false, cond, _&&_, _||_, not}
 use lib.Dec.{leb, eqb}
-use Rattle.mask.specs.Mask.{has}
+use Rattle.mask.specs.Mask.{has, above}
 use Rattle.code.specs.declared.Expr.{Expr}
 use Rattle.code.specs.declared.Expr.the-variants.{Literal, Sum, Difference, Less}
 use Rattle.code.specs.declared.Op.{Op}
@@ -40,7 +40,7 @@ bracketed i h x = cond (eqb i 0) (begins x) (goesOn h x)
 
 -- cause 7: an acquire is above all that is held, a release's lock is held
 abbrev pub ordered : ℕ → Op → Bool
-ordered h (Acquire a) = eqb (h / 2 ^ a) 0
+ordered h (Acquire a) = above h a
 ordered h (Release a) = has h a
 ordered h (Assign a e) = true
 ordered h (Jump a b) = true

@@ -36,7 +36,8 @@ last-of b x a c e h = and-right a c (sym (ap (λ (t : Bool). cond t x (a && c)) 
 module _ (n : ℕ) (rd : Memory) (d : ℕ) where
   -- the last of the pc's tests
   owned-ok :
-      pcOk n rd d ≡ true → eqb (rd (field Pc d)) 0 ≡ false → (eqb (rd (field Owned d)) (heldHere n rd d) || eqb (rd (field Owned d)) (heldNext n rd d)) ≡ true
+      pcOk n rd d ≡ true → eqb (rd (field Pc d)) 0 ≡ false
+      → (eqb (rd (field Owned d)) (heldHere n rd d) || eqb (rd (field Owned d)) (heldNext n rd d)) ≡ true
   unfolding pcOk
   owned-ok p e =
       last-of (eqb (rd (field Pc d)) 0) _

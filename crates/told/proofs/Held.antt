@@ -71,7 +71,9 @@ held-left n w d (refused r) = refl
 
 module _ (rd : Memory) (h : ℕ) (x : Agrees rd h) where
   -- a store of v in lock b's owner word, by whether v is 0
-  lock-bits : (b v : ℕ) (t : Bool) → eqb v 0 ≡ t → (c : ℕ) → c < 64 → has (cond t (without h b) (with h b)) c ≡ not (eqb (cond (eqb c b) v (rd (lock c))) 0)
+  lock-bits :
+      (b v : ℕ) (t : Bool) → eqb v 0 ≡ t → (c : ℕ) → c < 64
+      → has (cond t (without h b) (with h b)) c ≡ not (eqb (cond (eqb c b) v (rd (lock c))) 0)
   lock-bits b v t e c l = by t e (ℕ-discrete c b)
     where
       by : (t : Bool) → eqb v 0 ≡ t → Dec (c ≡ b) → has (cond t (without h b) (with h b)) c ≡ not (eqb (cond (eqb c b) v (rd (lock c))) 0)
@@ -122,7 +124,9 @@ module _ (mark n D : ℕ) (cells : List ℕ) where
   abbrev pub Agreeing : Traced → Type 0
   Agreeing w = Agrees (at n (w .world .image)) (w .world .cursors .held)
 
-  turned : (w : Traced) (d : ℕ) → Running mark n D cells w → d < D → Fed w (nextTurn n w d) → Agreeing w → Agreeing (turnBy mark n w d (nextTurn n w d))
+  turned :
+      (w : Traced) (d : ℕ) → Running mark n D cells w → d < D → Fed w (nextTurn n w d)
+      → Agreeing w → Agreeing (turnBy mark n w d (nextTurn n w d))
   turned w d r l fed x =
       let rd = at n (w .world .image) in
       let o = nextTurn n w d in

@@ -16,13 +16,12 @@ use Rattle.working.specs.Cursor.{Cursor, idle, on, stepNo, turnNo, setAt, holdi
 use Rattle.working.specs.World.{World, world}
 use Rattle.log.specs.Log.{operand, codeIn}
 use Rattle.plan.specs.Turn.{Outcome, stored, passed, waiting, resting, refused, logged, acquireTurn, finishTurn, opTurn, ready, turnAt}
-use Rattle.log.specs.declared.Plan.{Plan}
 use Rattle.log.specs.declared.Plan.the-variants.{Take, Free}
 use Rattle.plan.specs.inner.Plan.{storePlan, planOf}
 use Rattle.plan.proofs.Planned.{ready-says}
 use Rattle.plan.proofs.Outcomes.{either, unlock-either}
 use Rattle.turn.specs.Call.{leaves}
-use Rattle.turn.specs.inner.Acting.{planLock, planDid, planLeaves, didLock}
+use Rattle.turn.specs.inner.Acting.{planDid, planLeaves, didLock}
 
 -- a cell or a lock of this number is an image's
 abbrev pub Numbered : Place → Type 0
@@ -108,20 +107,20 @@ module _ (n : ℕ) (w : World) (d : ℕ) where
   plan-leaves (refused r) = refl
 
 -- the lock that it names is an image's
-lock-in : (P : Plan → Type 0) (b v s t : ℕ) (z : Bool) → P (Free b s t) → P (Take b v s t) → P (cond z (Free b s t) (Take b v s t))
-lock-in P b v s t true x y = x
-lock-in P b v s t false x y = y
+store-in : (n : ℕ) (p : Place) (v s t : ℕ) → Numbered p → didLock (planDid (storePlan n p v s t))
+store-in n (cell x) v s t h = tt
+store-in n (lock b) v s t h = by (eqb v 0)
+  where
+    by : (z : Bool) → didLock (planDid (cond z (Free b s t) (Take b v s t)))
+    by true = h
+    by false = h
+store-in n (field f d) v s t h = tt
+store-in n (own d i) v s t h = tt
+store-in n (step d i) v s t h = tt
 
-store-in : (n : ℕ) (p : Place) (v s t : ℕ) → Numbered p → planLock (storePlan n p v s t) × didLock (planDid (storePlan n p v s t))
-store-in n (cell x) v s t h = (tt, tt)
-store-in n (lock b) v s t h = lock-in (λ p. planLock p × didLock (planDid p)) b v s t (eqb v 0) (h, h) (h, h)
-store-in n (field f d) v s t h = (tt, tt)
-store-in n (own d i) v s t h = (tt, tt)
-store-in n (step d i) v s t h = (tt, tt)
-
-pub plan-in : (n : ℕ) (o : Outcome) → Within o → planLock (planOf n o) × didLock (planDid (planOf n o))
+pub plan-in : (n : ℕ) (o : Outcome) → Within o → didLock (planDid (planOf n o))
 plan-in n (stored p v c) h = store-in n p v (stepNo c) (turnNo c) h
-plan-in n (passed why c) h = (tt, tt)
-plan-in n (waiting b) h = (tt, tt)
-plan-in n resting h = (tt, tt)
-plan-in n (refused r) h = (tt, tt)
+plan-in n (passed why c) h = tt
+plan-in n (waiting b) h = tt
+plan-in n resting h = tt
+plan-in n (refused r) h = tt

@@ -15,7 +15,7 @@ ghost use Rattle.plan.specs.Turn.{ready};
 ghost use Rattle.working.specs.inner.At.{At};
 ghost use Rattle.working.specs.Cursor.{setAt, holding};
 ghost use Rattle.working.specs.World.{world};
-ghost use Rattle.turn.specs.inner.Acting.{planLock, planDid, planLeaves, didLock, didHeld, didAnswer, Acts, tested, gateOf};
+ghost use Rattle.turn.specs.inner.Acting.{planDid, planLeaves, didLock, didHeld, didAnswer, Acts, tested, gateOf};
 ghost use Rattle.turn.specs.Call.{answerOf, leaves, outcomeAt, outcome};
 
 // What a turn answers.
@@ -58,9 +58,20 @@ pub struct Turned {
     pub cursors: Cursors,
 }
 
+// What it did, with these numbers behind it.
+fn behind(did: Did, step: u8, turn: u8) -> Acted
+    ensures { λ r. ⌜ r ≡ record { did = did; step = step; turn = turn } ⌝ }
+{
+    Acted {
+        did: did,
+        step: step,
+        turn: turn,
+    }
+}
+
 // A plan done, with the step and turn behind it: the plan's, or where it waits those that the worker has.
 fn done(image: &mut [u64], p: Plan, s: u8, t: u8, left: &mut u64) -> Acted
-    requires { ⌜ planLock p ⌝ }
+    requires { ⌜ didLock (planDid p) ⌝ }
     ensures did { λ r. ⌜ r .did ≡ planDid p ⌝ }
     ensures after { λ r. ⌜ ((n : ℕ) (c : Cursors) (d : ℕ) → At c d s t
         → world (now (image .exit)) (holding (didHeld (r .did) (c .held)) (setAt c d (r .step) (r .turn))) (now (left .exit))
@@ -74,11 +85,7 @@ fn done(image: &mut [u64], p: Plan, s: u8, t: u8, left: &mut u64) -> Acted
             turn,
         } => {
             image::store(image, at, value, left);
-            Acted {
-                did: Did::Stored(at),
-                step: step,
-                turn: turn,
-            }
+            behind(Did::Stored(at), step, turn)
         }
         Plan::Take {
             lock,
@@ -87,30 +94,14 @@ fn done(image: &mut [u64], p: Plan, s: u8, t: u8, left: &mut u64) -> Acted
             turn,
         } => {
             image::store(image, image::lock_index(lock), value, left);
-            Acted {
-                did: Did::Took(lock),
-                step: step,
-                turn: turn,
-            }
+            behind(Did::Took(lock), step, turn)
         }
         Plan::Free { lock, step, turn } => {
             image::store(image, image::lock_index(lock), 0, left);
-            Acted {
-                did: Did::Freed(lock),
-                step: step,
-                turn: turn,
-            }
+            behind(Did::Freed(lock), step, turn)
         }
-        Plan::Pass { why, step, turn } => Acted {
-            did: Did::Passed(why),
-            step: step,
-            turn: turn,
-        },
-        Plan::Wait(b) => Acted {
-            did: Did::Waiting(b),
-            step: s,
-            turn: t,
-        },
+        Plan::Pass { why, step, turn } => behind(Did::Passed(why), step, turn),
+        Plan::Wait(b) => behind(Did::Waiting(b), s, t),
     }
 }
 

@@ -131,7 +131,8 @@ pub extern "C" fn zilpanud_run(
     ensures after { λ r. ⌜ lent (now (image .exit)) (now (step .exit)) (now (turn .exit)) (now (held .exit)) (now (left .exit))
         ≡ running (lent (now (image .entry)) (now (step .entry)) (now (turn .entry)) (now (held .entry)) (now (left .entry))) rounds .after .world ⌝ }
     ensures tally { λ r. ⌜ now (tally .exit)
-        ≡ counts (running (lent (now (image .entry)) (now (step .entry)) (now (turn .entry)) (now (held .entry)) (now (left .entry))) rounds .after .tally) ⌝ }
+        ≡ counts
+        (running (lent (now (image .entry)) (now (step .entry)) (now (turn .entry)) (now (held .entry)) (now (left .entry))) rounds .after .tally) ⌝ }
 {
     let c = cursors::lent(step, turn, *held);
     let r = edition::run(image, c, rounds, left);

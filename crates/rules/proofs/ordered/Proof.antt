@@ -1,7 +1,6 @@
 -- `rules::ordered` meets its contract: each arm is the definition's case.
 use borrow.Author.Tests.{ltb-true}
 use borrow.Author.Needs.{needs}
-use Rattle.mask.specs.Mask.{above}
 use Rattle.rules.proofs.ordered.Statement.{statement}
 use Rattle.rules.proofs.ordered.Tie as tie
 
@@ -30,7 +29,6 @@ enum-told-4 : tie.Need-enum-told-4
 enum-told-4 c = search needs
 
 returns : tie.Need-returns
-unfolding above
 returns c = rw (c .before .before .x .given .1) (c .above .ensures)
 
 returns-2 : tie.Need-returns-2

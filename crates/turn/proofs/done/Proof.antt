@@ -25,6 +25,9 @@ enum-known-p c = search needs
 store-requires : tie.Need-store-requires
 store-requires c κs = search needs
 
+behind-requires-1 : tie.Need-behind-requires
+behind-requires-1 c κs = search needs
+
 enum-known-p-2 : tie.Need-enum-known-p-2
 enum-known-p-2 c = search needs
 
@@ -33,6 +36,9 @@ lock-index-requires c κs = rw (c .before .before .p2 .given .1) at (c .before .
 
 store-requires-2 : tie.Need-store-requires-2
 store-requires-2 c κs = search needs
+
+behind-requires-2 : tie.Need-behind-requires-2
+behind-requires-2 c κs = search needs
 
 enum-known-p-3 : tie.Need-enum-known-p-3
 enum-known-p-3 c = search needs
@@ -43,45 +49,58 @@ lock-index-requires-2 c κs = rw (c .before .before .p3 .given .1) at (c .before
 store-requires-3 : tie.Need-store-requires-3
 store-requires-3 c κs = search needs
 
+behind-requires-3 : tie.Need-behind-requires-3
+behind-requires-3 c κs = search needs
+
 enum-known-p-4 : tie.Need-enum-known-p-4
 enum-known-p-4 c = search needs
 
+behind-requires-4 : tie.Need-behind-requires-4
+behind-requires-4 c κs = search needs
+
 enum-known-p-5 : tie.Need-enum-known-p-5
 enum-known-p-5 c = search needs
+
+behind-requires-5 : tie.Need-behind-requires-5
+behind-requires-5 c κs = search needs
 
 same-length : tie.Need-same-length
 same-length c = search needs
 
 returns : tie.Need-returns
 returns c =
-    let s = c .before .before .store in
-    rw (c .before .before .before .before .before .before .p .given .1, ← s .ensures .0, ← s .ensures .1) (refl, λ n x d h. rw (held-self x d _ _))
+    let s = c .before .before .before .store in
+    rw (c .behind .ensures, c .before .before .before .before .before .before .before .p .given .1, ← s .ensures .0, ← s .ensures .1)
+    (refl, λ n x d h. rw (held-self x d _ _))
 
 same-length-2 : tie.Need-same-length-2
 same-length-2 c = search needs
 
 returns-2 : tie.Need-returns-2
 returns-2 c =
-    let s = c .before .before .store2 in
-    let l = c .before .before .before .before .lock-index in
-    rw (c .before .before .before .before .before .before .before .p2 .given .1) (refl, λ n x d h. rw (← l .ensures n, ← s .ensures .0, ← s .ensures .1))
+    let s = c .before .before .before .store2 in
+    let l = c .before .before .before .before .before .lock-index in
+    rw (c .behind2 .ensures, c .before .before .before .before .before .before .before .before .p2 .given .1)
+    (refl, λ n x d h. rw (← l .ensures n, ← s .ensures .0, ← s .ensures .1))
 
 same-length-3 : tie.Need-same-length-3
 same-length-3 c = search needs
 
 returns-3 : tie.Need-returns-3
 returns-3 c =
-    let s = c .before .before .store3 in
-    let l = c .before .before .before .before .lock-index2 in
-    rw (c .before .before .before .before .before .before .before .p3 .given .1) (refl, λ n x d h. rw (← l .ensures n, ← s .ensures .0, ← s .ensures .1))
+    let s = c .before .before .before .store3 in
+    let l = c .before .before .before .before .before .lock-index2 in
+    rw (c .behind3 .ensures, c .before .before .before .before .before .before .before .before .p3 .given .1)
+    (refl, λ n x d h. rw (← l .ensures n, ← s .ensures .0, ← s .ensures .1))
 
 returns-4 : tie.Need-returns-4
-returns-4 c = rw (c .before .p4 .given .1) (refl, λ n x d h. rw (held-self x d _ _))
+returns-4 c = rw (c .behind4 .ensures, c .before .before .p4 .given .1) (refl, λ n x d h. rw (held-self x d _ _))
 
 returns-5 : tie.Need-returns-5
 returns-5 c =
-    let A = c .before .before .before .before .args in
-    rw (c .before .p5 .given .1) (refl, λ n x d h. rw (held-self x d (A .s) (A .t), placed-self x d (A .s) (A .t) h))
+    let A = c .before .before .before .before .before .args in
+    rw (c .behind5 .ensures, c .before .before .p5 .given .1)
+    (refl, λ n x d h. rw (held-self x d (A .s) (A .t), placed-self x d (A .s) (A .t) h))
 
 pub done-spec : {M : Type 1} → statement M
 done-spec =
@@ -89,14 +108,19 @@ done-spec =
     (tie.spec
     enum-known-p
     store-requires
+    behind-requires-1
     enum-known-p-2
     lock-index-requires
     store-requires-2
+    behind-requires-2
     enum-known-p-3
     lock-index-requires-2
     store-requires-3
+    behind-requires-3
     enum-known-p-4
+    behind-requires-4
     enum-known-p-5
+    behind-requires-5
     same-length
     returns
     same-length-2

@@ -40,13 +40,6 @@ planLeaves n w d (Pass why s t) = world (w .image) (setAt (w .cursors) d s t) (w
 planLeaves n w d (Wait b) = w
 
 -- the lock that it names is an image's
-abbrev pub planLock : Plan → Type 0
-planLock (Store i v s t) = Unit {0}
-planLock (Take b v s t) = b < 64
-planLock (Free b s t) = b < 64
-planLock (Pass why s t) = Unit {0}
-planLock (Wait b) = Unit {0}
-
 abbrev pub didLock : Did → Type 0
 didLock (DidStore i) = Unit {0}
 didLock (Took b) = b < 64

@@ -2,6 +2,8 @@
 
 #![allow(dead_code)]
 
+pub mod held;
+
 use std::path::PathBuf;
 use std::{env, fs, process};
 use zilpanud::code::{acquire, finish, release, set};
