@@ -1,4 +1,4 @@
-# What is outside rt: the library's header, its example, the checks, and the install. GNU make.
+# What is outside rt: the library's header, its examples, the checks, and the install. GNU make.
 #
 #   make            the static library and the program board, proved by rt: target/staticlib, target/bin
 #   make check      every check outside rt, on that library; needs gcc, g++ and cargo
@@ -96,7 +96,7 @@ header: $(OUT)/header_c99 $(OUT)/header_cxx17
 	@sh checks/symbols.sh include/zilpanud.h '$(ARCHIVE)'
 	@echo 'header: C99 and C++17 ok, and the archive has its functions, no other, and no data'
 
-# the example
+# the examples
 
 $(OUT)/example: examples/board.c include/zilpanud.h $(ARCHIVE) | $(OUT)
 	@$(C99) examples/board.c $(ARCHIVE) -o $@
@@ -104,8 +104,11 @@ $(OUT)/example: examples/board.c include/zilpanud.h $(ARCHIVE) | $(OUT)
 $(OUT)/example_cut: checks/example_cut.c examples/board.c include/zilpanud.h $(ARCHIVE) | $(OUT)
 	@$(C99) checks/example_cut.c $(ARCHIVE) -o $@
 
-example: $(OUT)/example $(OUT)/example_cut
-	@sh checks/example.sh $(OUT)/example $(OUT)/example_cut
+$(OUT)/held_sets: examples/held_sets.c include/zilpanud.h $(ARCHIVE) | $(OUT)
+	@$(C99) examples/held_sets.c $(ARCHIVE) -o $@
+
+example: $(OUT)/example $(OUT)/example_cut $(OUT)/held_sets
+	@sh checks/example.sh $(OUT)/example $(OUT)/example_cut $(OUT)/held_sets
 
 # what board says on standard error
 

@@ -1,10 +1,12 @@
 #!/bin/sh
-# usage: example.sh EXAMPLE EXAMPLE_CUT
+# usage: example.sh EXAMPLE EXAMPLE_CUT HELD_SETS
 # Plays examples/board.c on boards in a temporary folder: moves one after the other, a number given twice, too many
-# boxes, damaged files, several programs at once, and a move cut after each of its stores.
+# boxes, damaged files, several programs at once, and a move cut after each of its stores. Then examples/held_sets.c, on
+# tickets whose bays are worked out by hand.
 set -u
 example=$1
 cut=$2
+held_sets=$3
 room=$(mktemp -d) || exit 1
 trap 'rm -rf "$room"' EXIT
 trap 'exit 1' HUP INT TERM
@@ -82,4 +84,80 @@ done
 one=$(grep -c -x 'bays held since a cut: 1' "$room/held")
 two=$(grep -c -x 'bays held since a cut: 2' "$room/held")
 [ "$one" -eq 12 ] && [ "$two" -eq 25 ] || fail "one bay is held after $one cuts and not 12, two after $two and not 25"
-echo "example: ok, and once exactly after each of $stores cuts"
+
+# shows WANTED WORD...: held_sets must print this, and nothing on standard error
+shows() {
+    wanted=$1
+    shift
+    said=$("$held_sets" "$@" 2>"$room/error") || fail "held_sets $* ended with $?: $(cat "$room/error")"
+    [ "$said" = "$wanted" ] && [ ! -s "$room/error" ] || fail "held_sets $* says: $said$(cat "$room/error")"
+}
+
+# shows_none STATUS WANTED WORD...: it must print nothing, say this on standard error and end with this status
+shows_none() {
+    wanted="$1 held_sets: $2"
+    shift 2
+    "$held_sets" "$@" >"$room/out" 2>"$room/error"
+    said="$? $(cat "$room/error")"
+    [ "$said" = "$wanted" ] && [ ! -s "$room/out" ] || fail "held_sets $* ends with $said$(cat "$room/out")"
+}
+
+# every kind; bays 0 and 63 are taken by steps 0 and 1 and dropped by 6 and 9
+shows 'step 0  take 0                                      held: none
+step 1  take 63                                     held: 0
+step 2  word 514 := 1 if word 0 < word 512, else 0  held: 0 63
+step 3  skip to step 6 if word 514 is 0             held: 0 63
+step 4  word 0 := word 0 - word 519                 held: 0 63
+step 5  word 504 := word 504 + word 519             held: 0 63
+step 6  drop 0                                      held: 0 63
+step 7  word 505 := 4294967295                      held: 63
+step 8  word 506 := 65536                           held: 63
+step 9  drop 63                                     held: 63
+step 10 end                                         held: none
+the check: passes' 0001000000000000 0001003f00000000 0006020200000200 0007020200060000 0005000000000207 \
+    000401f801f80207 0002000000000000 000301f9ffffffff 000301fa00010000 0002003f00000000 0008000000000000
+
+# a skip into the middle of another bay's steps, on standard input; and one to the end
+printf '0001000300000000 0007001800030000\n\n\t0001000500000000\n0002000500000000  0002000300000000 0008000000000000' |
+    shows 'step 0  take 3                          held: none
+step 1  skip to step 3 if word 24 is 0  held: 3
+step 2  take 5                          held: 3
+step 3  drop 5                          held: 3 5
+step 4  drop 3                          held: 3
+step 5  end                             held: none
+the check: 9 at step 1: a skip goes to step 3, where 3 5 are held, and not 3' || exit 1
+shows 'step 0  take 3                          held: none
+step 1  take 5                          held: 3
+step 2  skip to step 5 if word 24 is 0  held: 3 5
+step 3  drop 5                          held: 3 5
+step 4  drop 3                          held: 3
+step 5  end                             held: none
+the check: 9 at step 2: a skip goes to step 5, where none is held, and not 3 5' \
+    0001000300000000 0001000500000000 0007001800050000 0002000500000000 0002000300000000 0008000000000000
+
+# refused with 6 and with 8: the bays are shown; with 4 and 5: there are none
+shows 'step 0  take 3            held: none
+step 1  word 24 := 5      held: 3
+step 2  end               held: 3
+the check: 6 at step 2: the step stands where no lock is held, or finishes with a lock held' \
+    0001000300000000 0003001800000005 0008000000000000
+shows 'step 0  take 3            held: none
+step 1  word 32 := 5      held: 3
+step 2  drop 3            held: 3
+step 3  end               held: none
+the check: 8 at step 1: the step names a cell whose lock is not held' \
+    0001000300000000 0003002000000005 0002000300000000 0008000000000000
+length='refused with 4: a section has 3 to 64 steps'
+malformed='the step is of unknown kind, or has a field outside its range or position'
+take=0001000300000000
+shows_none 1 "$length" "$take" 0008000000000000
+shows_none 1 "$length" </dev/null
+yes "$take" | head -n 65 | shows_none 1 "$length" || exit 1
+yes "$take" | head -n 64 | shows_none 1 "refused with 5 at step 63: $malformed" || exit 1
+shows_none 1 "refused with 5 at step 1: $malformed" "$take" 0002004000000000 0000000000000000
+yes "$take" | head -n 257 | shows_none 2 'there are more than 256 words' || exit 1
+for word in '' take 000100030000000 00010003000000000 000100030000000A 0x01000300000000; do
+    shows_none 2 "'$word' is not 16 hexadecimal digits (0 to 9, a to f)" "$take" "$word" "$take"
+done
+echo "$take ${take}0" | shows_none 2 "'${take}0' is not 16 hexadecimal digits (0 to 9, a to f)" || exit 1
+echo "example: ok, and once exactly after each of $stores cuts; held sets as worked out by hand"

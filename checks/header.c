@@ -51,6 +51,11 @@ static uint64_t held;
 static uint64_t tally[ZILPANUD_TALLY_WORDS];
 static uint64_t detail;
 
+/* the words that the held sets go to, with some on either side that no call may change */
+enum { AROUND = 4 };
+static uint64_t around[AROUND + ZILPANUD_STEPS_MAX + AROUND];
+static uint64_t *const sets = around + AROUND;
+
 static void ensure(int holds, const char *what)
 {
     if (!holds) {
@@ -149,12 +154,89 @@ static void locks_counted(void)
     ensure(zilpanud_locks_held(UINT64_C(0x8000000100000070)) == 5, "locks 4, 5, 6, 32 and 63");
 }
 
+/* ---- held sets, worked out by hand: bits 3, 5 and 63 are 8, 0x20 and the highest */
+
+static int all_are(uint64_t word, const uint64_t *words, size_t count)
+{
+    for (size_t i = 0; i < count; i++) {
+        if (words[i] != word) {
+            return 0;
+        }
+    }
+    return 1;
+}
+
+static int no_sets(void)
+{
+    return all_are(0, sets, ZILPANUD_STEPS_MAX);
+}
+
+static uint64_t held_sets(const uint64_t *words, size_t steps_given)
+{
+    for (size_t i = 0; i < sizeof around / sizeof around[0]; i++) {
+        around[i] = UINT64_MAX;
+    }
+    detail = UINT64_MAX;
+    const uint64_t answer = zilpanud_held_sets(words, steps_given, sets, &detail);
+    ensure(all_are(UINT64_MAX, around, AROUND), "no word before the sets is touched");
+    ensure(all_are(UINT64_MAX, sets + ZILPANUD_STEPS_MAX, AROUND), "no word behind the sets is touched");
+    return answer;
+}
+
+static void sets_are(const uint64_t *words, size_t steps_given, const uint64_t *expected)
+{
+    ensure(held_sets(words, steps_given) == ZILPANUD_DONE && detail == 0, "sets are given, with a detail of 0");
+    ensure(memcmp(sets, expected, steps_given * sizeof *sets) == 0, "the sets before each step");
+    ensure(all_are(0, sets + steps_given, ZILPANUD_STEPS_MAX - steps_given), "0 from the number of steps up");
+}
+
+static void sets_given(void)
+{
+    static const uint64_t jump_too_far[] = {
+        ZILPANUD_INSTRUCTION(ZILPANUD_ACQUIRE, 3, 0, 0), ZILPANUD_INSTRUCTION(ZILPANUD_JUMP, 24, 3, 0),
+        ZILPANUD_INSTRUCTION(ZILPANUD_ACQUIRE, 5, 0, 0), ZILPANUD_INSTRUCTION(ZILPANUD_RELEASE, 5, 0, 0),
+        ZILPANUD_INSTRUCTION(ZILPANUD_RELEASE, 3, 0, 0), ZILPANUD_INSTRUCTION(ZILPANUD_FINISH, 0, 0, 0),
+    };
+    static const uint64_t still_held[] = {
+        ZILPANUD_INSTRUCTION(ZILPANUD_ACQUIRE, 63, 0, 0),
+        ZILPANUD_INSTRUCTION(ZILPANUD_RELEASE, 3, 0, 0),
+        ZILPANUD_INSTRUCTION(ZILPANUD_FINISH, 0, 0, 0),
+    };
+    static const uint64_t of_section[] = {0, 8, 8, 8, 8, 8, 8, 0};
+    static const uint64_t of_jump[] = {0, 8, 8, 0x28, 8, 0};
+    static const uint64_t of_held[] = {0, UINT64_C(1) << 63, UINT64_C(1) << 63};
+    sets_are(section, STEPS, of_section);
+    ensure(zilpanud_check(jump_too_far, 6, &detail) == ZILPANUD_UNLEVEL && detail == 1, "9 at the jump");
+    sets_are(jump_too_far, 6, of_jump);
+    ensure(zilpanud_check(still_held, 3, &detail) == ZILPANUD_UNORDERED && detail == 1, "7 at the release");
+    sets_are(still_held, 3, of_held);
+}
+
+static void sets_refused(void)
+{
+    uint64_t words[ZILPANUD_STEPS_MAX + 1];
+    for (size_t i = 0; i <= ZILPANUD_STEPS_MAX; i++) {
+        words[i] = ZILPANUD_INSTRUCTION(ZILPANUD_ACQUIRE, 3, 0, 0);
+    }
+    ensure(held_sets(words, 2) == ZILPANUD_LENGTH && detail == 0, "4 for 2 steps");
+    ensure(no_sets(), "4 leaves no set");
+    ensure(held_sets(words, ZILPANUD_STEPS_MAX + 1) == ZILPANUD_LENGTH && detail == 0, "4 for 65 steps");
+    ensure(no_sets(), "4 leaves no set");
+    ensure(held_sets(words, ZILPANUD_STEPS_MAX) == ZILPANUD_MALFORMED, "5, since the last step is no finish");
+    ensure(detail == ZILPANUD_STEPS_MAX - 1 && no_sets(), "5 says the step, and leaves no set");
+    words[40] = 0;
+    words[7] = 0;
+    ensure(held_sets(words, ZILPANUD_STEPS_MAX) == ZILPANUD_MALFORMED && detail == 7, "5 at the lowest step");
+    ensure(no_sets(), "5 leaves no set");
+}
+
 /* A length of 0, with a pointer that may not be read. */
 static void nothing_given(void)
 {
     uint64_t told;
     uint64_t *const end = image + WORDS;
     ensure(zilpanud_check(end, 0, &detail) == ZILPANUD_LENGTH, "4 for no steps");
+    ensure(held_sets(end, 0) == ZILPANUD_LENGTH && no_sets(), "4 for no steps");
     ensure(zilpanud_format(end, 0, 1, step, turn, &held, ZILPANUD_ALL) == ZILPANUD_IMAGE, "10 for no words");
     held = UINT64_MAX;
     ensure(zilpanud_recover(end, 0, step, turn, &held, ZILPANUD_ALL, &detail) == ZILPANUD_IMAGE, "10 for no words");
@@ -257,6 +339,8 @@ int main(void)
     texts_differ();
     versions_agree();
     locks_counted();
+    sets_given();
+    sets_refused();
     formatted();
     nothing_given();
     formatted();

@@ -9,9 +9,9 @@
  * board word; to submit is to hand in, to acquire and to release are to take and to drop, a cursor is a working place.
  *
  * What the caller owes, since C cannot say it: a pointer and its length name that many words; step and turn name
- * 8 bytes, held a word, args 8 words, tally 5 words; no two of a call's pointers name the same memory (only args and
- * words, which are read alone, may), and none is null; a pointer to words is aligned to 8. With a length of 0 the
- * pointer is not read, and any pointer that is not null and is aligned to 8 will do.
+ * 8 bytes, held a word, args 8 words, tally 5 words, sets 64 words; no two of a call's pointers name the same memory
+ * (only args and words, which are read alone, may), and none is null; a pointer to words is aligned to 8. With a length
+ * of 0 the pointer is not read, and any pointer that is not null and is aligned to 8 will do.
  *
  * Threads: the library keeps nothing between calls; all it knows is the image, the cursors (step, turn and held) and
  * the numbers that a call is lent. So calls on different images, each with its cursors, may be made from different
@@ -34,8 +34,8 @@
  * different installs. A program compares them when it starts; examples/board.c does.
  */
 
-#define ZILPANUD_VERSION 3000
-#define ZILPANUD_VERSION_TEXT "0.3.0"
+#define ZILPANUD_VERSION 4000
+#define ZILPANUD_VERSION_TEXT "0.4.0"
 
 /* ---- sizes */
 
@@ -90,7 +90,8 @@
 
 /* ---- what a call returns: done, the cause of a refusal, or another answer; zilpanud_text() has a line for each */
 
-#define ZILPANUD_DONE 0            /* formatted, passed the check, taken, recovered, all idle; a question answered */
+#define ZILPANUD_DONE 0            /* formatted, passed the check, sets given, taken, recovered, all idle; a question
+                                      answered */
 
 #define ZILPANUD_NO_WORKER 1       /* the worker is not below the image's number of workers */
 #define ZILPANUD_BUSY 2            /* submit: the worker is not idle, or its record's count or pc is not 0 */
@@ -212,6 +213,14 @@ uint64_t zilpanud_format(uint64_t *image, size_t image_words, uint64_t workers, 
 
 /* The check of a section alone: 0, or 4 to 9. */
 uint64_t zilpanud_check(const uint64_t *words, size_t words_len, uint64_t *detail);
+
+/* Which locks are held before each step of a section: 0, or 4, 5. Causes 6 to 9 are not asked, so that one sees the
+ * sets of a section that the check refuses with them. It is one pass, and the very one in which the check looks up the
+ * step that a jump names, and a recovery the one that a pc does.
+ * sets: only written, and always. Word i is the held set before step i: a mask, in which bit b is set if lock b is held
+ * there. It goes by the order of the steps, as if no jump were made: before step 0 none is held, an acquire sets its
+ * lock's bit, and a release clears it. Words from the number of steps up are 0; where the call is refused, all are. */
+uint64_t zilpanud_held_sets(const uint64_t *words, size_t words_len, uint64_t *sets, uint64_t *detail);
 
 /* Submits a section for a worker: 0, or 10, 1, 2, 3, 4 to 9, tested in this order. */
 uint64_t zilpanud_submit(uint64_t *image, size_t image_words, uint8_t *step, uint8_t *turn, uint64_t *held,

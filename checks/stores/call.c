@@ -24,6 +24,7 @@ void perform(const struct call *call, struct world *w)
     const uint64_t *image = w->memory.image;
     switch (call->name) {
     case CHECK: w->answer = zilpanud_check(call->section, call->steps, &w->detail); break;
+    case HELD_SETS: w->answer = zilpanud_held_sets(call->section, call->steps, w->sets, &w->detail); break;
     case LOCKS_HELD:
         w->told = zilpanud_locks_held(w->held);
         w->answer = ZILPANUD_DONE;
@@ -42,12 +43,14 @@ void perform(const struct call *call, struct world *w)
 void describe(FILE *to, const struct call *call)
 {
     static const char *const names[NAMES] = {
-        "format", "check", "submit", "turn", "run", "recover", "locks_held", "is_idle", "finished", "standing",
+        "format", "check", "held_sets", "submit", "turn", "run",
+        "recover", "locks_held", "is_idle", "finished", "standing",
     };
     fprintf(to, "%s of %zu words", names[call->name], call->words);
     switch (call->name) {
     case FORMAT: fprintf(to, ", workers %" PRIu64, call->workers); break;
-    case CHECK: fprintf(to, ", steps %zu", call->steps); break;
+    case CHECK:
+    case HELD_SETS: fprintf(to, ", steps %zu", call->steps); break;
     case SUBMIT:
         fprintf(to, ", worker %zu, number %" PRIu64 ", steps %zu", call->worker, call->number, call->steps);
         break;

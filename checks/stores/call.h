@@ -13,7 +13,7 @@
 #define LARGEST 1240    /* the words of an image of 8 workers */
 #define AROUND 8        /* words watched before and behind it, which no call may change */
 
-enum name { FORMAT, CHECK, SUBMIT, TURN, RUN, RECOVER, LOCKS_HELD, IS_IDLE, FINISHED, STANDING, NAMES };
+enum name { FORMAT, CHECK, HELD_SETS, SUBMIT, TURN, RUN, RECOVER, LOCKS_HELD, IS_IDLE, FINISHED, STANDING, NAMES };
 
 /* what a call is given by value or only reads */
 struct call {
@@ -44,6 +44,7 @@ struct world {
     uint64_t left;
     uint64_t detail;
     uint64_t tally[ZILPANUD_TALLY_WORDS];
+    uint64_t sets[ZILPANUD_STEPS_MAX];
     uint64_t told;    /* what a question writes, or the locks held */
     uint64_t answer;
 };

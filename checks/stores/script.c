@@ -79,8 +79,10 @@ static void refused_sections(void)
         {GIVE(unlevel), ZILPANUD_UNLEVEL},
     };
     for (size_t i = 0; i < sizeof rows / sizeof rows[0]; i++) {
-        check(rows[i].section, rows[i].steps, rows[i].cause);
-        submit(0, 1, rows[i].section, rows[i].steps, rows[i].cause);
+        const uint64_t cause = rows[i].cause;
+        check(rows[i].section, rows[i].steps, cause);
+        held_sets(rows[i].section, rows[i].steps, cause > ZILPANUD_MALFORMED ? ZILPANUD_DONE : cause);
+        submit(0, 1, rows[i].section, rows[i].steps, cause);
     }
 }
 
@@ -89,6 +91,7 @@ static void submits(void)
     fresh(2);
     refused_sections();
     check(GIVE(every), ZILPANUD_DONE);
+    held_sets(GIVE(every), ZILPANUD_DONE);
     submit(2, 1, GIVE(every), ZILPANUD_NO_WORKER);
     submit(0, 0, GIVE(every), ZILPANUD_NUMBER);
     submit(0, 1, GIVE(every), ZILPANUD_DONE);

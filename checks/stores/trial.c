@@ -40,6 +40,7 @@ void all_met(void)
     const uint64_t answers[NAMES] = {
         [FORMAT] = BIT(0) | BIT(10),
         [CHECK] = BIT(0) | BITS(4, 9),
+        [HELD_SETS] = BIT(0) | BITS(4, 5),
         [SUBMIT] = BITS(0, 10),
         [TURN] = BIT(1) | BITS(10, 11) | BITS(16, 19),
         [RUN] = BIT(0) | BITS(10, 11) | BIT(20),
@@ -104,6 +105,7 @@ void fill_with_junk(void)
     put_junk(now.memory.image, LARGEST);
     put_junk(now.memory.behind, AROUND);
     put_junk(&now.held, 1);
+    put_junk(now.sets, ZILPANUD_STEPS_MAX);
 }
 
 /* ---- calls */
@@ -181,6 +183,13 @@ void format(size_t count, uint64_t answer)
 void check(const uint64_t *section, size_t steps, uint64_t answer)
 {
     struct call call = call_of(CHECK, 0);
+    put_section(&call, section, steps);
+    expect(&call, answer);
+}
+
+void held_sets(const uint64_t *section, size_t steps, uint64_t answer)
+{
+    struct call call = call_of(HELD_SETS, 0);
     put_section(&call, section, steps);
     expect(&call, answer);
 }

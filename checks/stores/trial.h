@@ -8,6 +8,7 @@
 
 void format(size_t workers, uint64_t answer);
 void check(const uint64_t *section, size_t steps, uint64_t answer);
+void held_sets(const uint64_t *section, size_t steps, uint64_t answer);
 
 /* The section gets the worker's last finished number plus `above`, and arguments of junk. */
 void submit(size_t worker, uint64_t above, const uint64_t *section, size_t steps, uint64_t answer);
@@ -25,8 +26,8 @@ void questions(size_t worker, uint64_t answer);
 
 /* ---- calls that are not watched, and damage */
 
-/* Words, and a mask of locks held, whose eight bytes are different and none of them 0, so that a half of a word, or a
- * word that is stored before its time, shows. */
+/* Words, a mask of locks held and held sets, whose eight bytes are different and none of them 0, so that a half of a
+ * word, or a word that is stored before its time, shows. */
 void fill_with_junk(void);
 
 /* A formatted image of so many workers with junk in all words that an image at rest may have it in. */

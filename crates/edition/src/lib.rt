@@ -12,8 +12,10 @@ use section::Verdict;
 use turn::Turned;
 use working::Cursors;
 ghost use mathlib.Core.Path.{_≡_};
-ghost use lib.ListN.{length};
+ghost use Prim.Native.Nat.{ℕ};
+ghost use lib.ListN.{length, getD};
 ghost use Rattle.section.specs.Check.{codeOf, check};
+ghost use Rattle.section.specs.Sets.{setsAnswer, setsLeave};
 ghost use Rattle.working.specs.Cursor.{allIdle};
 ghost use Rattle.working.specs.World.{world};
 ghost use Rattle.formatting.specs.Format.{imageWords, formatAnswer, formatLeaves, formatLeft};
@@ -45,6 +47,16 @@ pub fn check(words: &[u64]) -> Verdict
     ensures { λ r. ⌜ r ≡ check ownWords (length (now (words .entry))) (codeOf (now (words .entry))) ⌝ }
 {
     section::check(words, OWN as u16)
+}
+
+// The pass by itself: refused with cause 4, or with 5 at the lowest step; else the held set before each step, and 0 from the count up. Where it
+// is refused, all words are 0.
+pub fn held_sets(words: &[u64], held: &mut [u64; 64]) -> Verdict
+    ensures verdict { λ r. ⌜ r ≡ setsAnswer ownWords (length (now (words .entry))) (codeOf (now (words .entry))) ⌝ }
+    ensures sets { λ r. ⌜ ((j : ℕ) → getD (now (held .exit)) j 0
+        ≡ setsLeave ownWords (length (now (words .entry))) (codeOf (now (words .entry))) j) ⌝ }
+{
+    section::held_sets(words, OWN as u16, held)
 }
 
 // Formats an image for so many workers. All of them are idle, also where it is refused.

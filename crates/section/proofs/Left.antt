@@ -1,4 +1,4 @@
--- What the check leaves in the array of the held sets: one step after the other, and by its answer.
+-- What is left in an array of held sets: one step after the other, and by the answer of a check.
 use Prim.Native.Nat.{ℕ, zero, suc, _+_, _<_, _≤_}
 use mathlib.Core.Path.{_≡_, refl, sym, ap, _∙_}
 use mathlib.Core.Bool.{Bool, true, false, cond}
@@ -12,8 +12,8 @@ use Rattle.section.specs.declared.Verdict.{Verdict}
 use Rattle.section.specs.declared.Verdict.the-variants.{Pass, Length, Malformed, Unbracketed, Unordered, Unguarded, Unlevel}
 use Rattle.code.specs.Op.{opOf}
 use Rattle.rules.specs.Rules.{bracketed, ordered, guarded}
-use Rattle.section.specs.Check.{Code, codeOf, heldBefore, level, orElse, firstOf, useOf, check, passes}
-use Rattle.section.specs.inner.Pass.{reached, heldTo, heldLeft, Passed}
+use Rattle.section.specs.Check.{Code, heldBefore, level, orElse, firstOf, useOf, check, passes}
+use Rattle.section.specs.inner.Pass.{reached, heldTo, heldLeft}
 use Rattle.section.proofs.Passing.{passed-is}
 
 -- ---- step by step
@@ -71,20 +71,10 @@ uses-reach n code i zero = refl
 uses-reach n code i (suc k) = private-or n (useOf code i) (firstOf (useOf code) (i + 1) k) (private-use n code i) (uses-reach n code (i + 1) k)
 
 module _ (own n : ℕ) (code before : Code) (j : ℕ) where
-  pub left-by : (v : Verdict) → v ≡ check own n code → heldTo (reached n v) code before j ≡ heldLeft own n code before j
+  pub left-by : {k : ℕ} → k ≡ reached n (check own n code) → heldTo k code before j ≡ heldLeft own n code before j
   unfolding heldLeft
-  left-by v e = ap (λ (u : Verdict). heldTo (reached n u) code before j) e
-
-  -- a number of steps that is refused leaves every word
-  pub left-length : Length ≡ check own n code → before j ≡ heldLeft own n code before j
-  left-length e = sym (held-past-to code before j 0 (omega arith)) ∙ left-by Length e
+  left-by e = ap (λ (k : ℕ). heldTo k code before j) e
 
   -- a section that passes has the held set before each of its steps
   pub left-passed : passes (check own n code) ≡ true → j < n → heldLeft own n code before j ≡ heldBefore code j
-  left-passed p h = sym (left-by Pass (sym (passed-is (check own n code) p))) ∙ held-to code before j n h
-
--- and so has the pass where no step fails cause 5
-pub passed-sets : (own : ℕ) (ws before : List ℕ) (v : Verdict) (held : List ℕ) → Passed own ws before v held → v ≡ Pass → (j : ℕ) → j < length ws
-    → getD held j 0 ≡ heldBefore (codeOf ws) j
-passed-sets own ws before v held p e j h =
-    p .sets j ∙ (ap (λ (u : Verdict). heldTo (reached (length ws) u) (codeOf ws) (codeOf before) j) e ∙ held-to (codeOf ws) (codeOf before) j (length ws) h)
+  left-passed p h = sym (left-by (ap (reached n) (sym (passed-is (check own n code) p)))) ∙ held-to code before j n h

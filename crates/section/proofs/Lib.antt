@@ -5,3 +5,5 @@ pub mod Facts
 pub mod Passing
 pub mod Left
 pub mod Whole
+pub mod Filled
+pub mod Answers

@@ -1,3 +1,4 @@
 pub mod Check
+pub mod Sets
 pub mod Valid
 pub mod inner

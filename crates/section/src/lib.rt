@@ -1,14 +1,18 @@
-// Sections of instructions: the check of causes 4 to 9. One step against causes 6 to 9 stands in judge.rt.
+// Sections of instructions: the check of causes 4 to 9, and the pass over the held sets by itself. The pass stands in sets.rt, one step against
+// causes 6 to 9 in judge.rt.
 mod judge;
+mod sets;
 
 ghost use mathlib.Core.Path.{_≡_};
 ghost use Prim.Native.Nat.{ℕ, _<_, _≤_};
 ghost use lib.ListN.{length, getD};
 ghost use Rattle.section.specs.Check.{codeOf, firstOf, useOf, check, passes, causeOf, stepOf};
-ghost use Rattle.section.specs.inner.Pass.{Judgeable, heldLeft, Passed};
-use code::held_past;
-use code::well_formed;
+ghost use Rattle.section.specs.Sets.{setsAnswer, setsLeave};
+ghost use Rattle.section.specs.inner.Pass.{answerBy, Judgeable, heldLeft, Checked};
 use judge::use_at;
+use sets::clear;
+use sets::fill;
+use sets::length_ok;
 
 // The answer of the check: the section passes, or the first cause that it fails, with the step.
 pub enum Verdict {
@@ -58,22 +62,23 @@ fn uses(words: &[u64], held: &[u64]) -> Verdict
     Verdict::Pass
 }
 
-// One pass over the steps: the first that fails cause 5. The held set before each step until then is left in `held`.
-fn held_sets(words: &[u64], own: u16, held: &mut [u64]) -> Verdict
-    requires { ⌜ length (now words) ≤ length (now held) ⌝ }
-    ensures { λ r. ⌜ Passed own (now (words .entry)) (now (held .entry)) r (now (held .exit)) ⌝ }
+// The pass, and where the whole check is asked what stands behind it: cause 4, then 5 over all steps, then 6 to 9 step by step. The held set
+// before each step that the pass comes past is left in `held`. (One function, so that the machine code has the pass once and without a call.)
+fn checked(words: &[u64], own: u16, held: &mut [u64], whole: bool) -> Verdict
+    requires { ⌜ 64 ≤ length (now held) ⌝ }
+    ensures { λ r. ⌜ Checked (answerBy whole own (length (now (words .entry))) (codeOf (now (words .entry)))) (now (words .entry)) (now (held .entry)) r
+        (now (held .exit)) ⌝ }
 {
     let n = words.len();
-    let mut h: u64 = 0;
-    let mut i: usize = 0;
-    while i < n {
-        let w = words[i];
-        if !well_formed(w, i, n, own) {
-            return Verdict::Malformed(i);
-        }
-        held[i] = h;
-        h = held_past(h, w);
-        i += 1;
+    if !length_ok(n) {
+        return Verdict::Length;
+    }
+    let k = fill(words, own, held);
+    if k < n {
+        return Verdict::Malformed(k);
+    }
+    if whole {
+        return uses(words, held);
     }
     Verdict::Pass
 }
@@ -86,18 +91,7 @@ pub fn check_held(words: &[u64], own: u16, held: &mut [u64]) -> Verdict
     ensures sets { λ r. ⌜ ((j : ℕ) → getD (now (held .exit)) j 0
         ≡ heldLeft own (length (now (words .entry))) (codeOf (now (words .entry))) (codeOf (now (held .entry))) j) ⌝ }
 {
-    let n = words.len();
-    if n < 3 {
-        return Verdict::Length;
-    }
-    if 64 < n {
-        return Verdict::Length;
-    }
-    let v = held_sets(words, own, held);
-    if !passes(v) {
-        return v;
-    }
-    uses(words, held)
+    checked(words, own, held, true)
 }
 
 // The same, for a caller that does not ask for the held sets.
@@ -106,6 +100,22 @@ pub fn check(words: &[u64], own: u16) -> Verdict
 {
     let mut held = [0u64; 64];
     check_held(words, own, &mut held)
+}
+
+// The pass by itself: refused with cause 4, or with 5 at the lowest step; else `held` gets the held set before each step, also where
+// causes 6 to 9 would refuse, and 0 from the count up. Where it is refused, all its words are 0.
+pub fn held_sets(words: &[u64], own: u16, held: &mut [u64; 64]) -> Verdict
+    ensures verdict { λ r. ⌜ r ≡ setsAnswer own (length (now (words .entry))) (codeOf (now (words .entry))) ⌝ }
+    ensures sets { λ r. ⌜ ((j : ℕ) → getD (now (held .exit)) j 0
+        ≡ setsLeave own (length (now (words .entry))) (codeOf (now (words .entry))) j) ⌝ }
+{
+    let v = checked(words, own, held, false);
+    if passes(v) {
+        clear(held, words.len());
+    } else {
+        clear(held, 0);
+    }
+    v
 }
 
 // Document 01's number of an answer; 0 for a pass.

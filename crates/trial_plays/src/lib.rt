@@ -1,2 +1,3 @@
-// The verbs of a script that make calls, played on what the script stands on.
+// The verbs of a script that make calls, played on what the script stands on, and those that ask about its section alone.
 pub mod playing;
+pub mod sections;

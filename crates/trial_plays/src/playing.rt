@@ -140,18 +140,6 @@ pub fn list(
     r
 }
 
-// The answer of the check of the section.
-pub fn check(shelf: &[u64], s: Stage) {
-    let steps = text::least(s.steps, shelf.len());
-    let v = edition::check(&shelf[0..steps]);
-    if section::passes(v) {
-        say::text(b"passes\n");
-        return;
-    }
-    say::refused(section::cause(v), section::step(v) as u64);
-    say::end();
-}
-
 fn stands(a: Standing) {
     match a {
         Standing::NotBegun => say::text(b"not begun"),

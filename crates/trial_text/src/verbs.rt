@@ -20,6 +20,7 @@ pub enum Verb {
     Section,
     Deal,
     Check,
+    Sets,
     Standing,
     Show,
     Words,
@@ -29,12 +30,23 @@ pub enum Verb {
     Unknown,
 }
 
-// The numbers of the verbs.
+// The numbers of the verbs: those that make calls, then those that set the scene, ask or show.
 fn number(w: &[u8]) -> u64 {
-    text::position(
-        b"format submit turn run recover given cuts plays list turns image overwrite put mark args section deal check standing show words cursors changes say",
+    let call = text::position(
+        b"format submit turn run recover given cuts plays list turns",
         w,
-    )
+    );
+    if 0 < call {
+        return call;
+    }
+    let other = text::position(
+        b"image overwrite put mark args section deal check sets standing show words cursors changes say",
+        w,
+    );
+    if other == 0 {
+        return 0;
+    }
+    std::num::wrapping_add_u64(other, 10)
 }
 
 // The verb of a word.
@@ -59,12 +71,13 @@ pub fn of(w: &[u8]) -> Verb {
         16 => Verb::Section,
         17 => Verb::Deal,
         18 => Verb::Check,
-        19 => Verb::Standing,
-        20 => Verb::Show,
-        21 => Verb::Words,
-        22 => Verb::Cursors,
-        23 => Verb::Changes,
-        24 => Verb::Say,
+        19 => Verb::Sets,
+        20 => Verb::Standing,
+        21 => Verb::Show,
+        22 => Verb::Words,
+        23 => Verb::Cursors,
+        24 => Verb::Changes,
+        25 => Verb::Say,
         _ => Verb::Unknown,
     }
 }

@@ -24,6 +24,8 @@
 //   changes               a line for each word that is not the marked one
 //   turns D N             N turns of worker D, each told with its number
 //   check LIST            the section, and the answer of its check
+//   sets LIST             the section, and the answer of the pass over its held sets by itself, lent 64 words of ones; then a line for each
+//                         of these words that is not 0, step and held set
 //   standing D NUMBER     how worker D stands to the section of this number
 //   say TEXT
 // Cuts:

@@ -2,6 +2,7 @@
 use trial_calls::calls::Call;
 use trial_plays::playing;
 use trial_plays::playing::Asked;
+use trial_plays::sections;
 use trial_stage::say;
 use trial_stage::scene;
 use trial_stage::showing;
@@ -50,16 +51,18 @@ fn perform(image: &mut [u64], shelf: &mut [u64], s: Stage, k: Command) -> Stage 
     }
 }
 
-// Section, and check: the instructions from a place on.
-fn written(line: &[u8], at: usize, shelf: &mut [u64], s: Stage, checked: bool) -> Stage {
+// Section, check and sets: the instructions from a place on, and what the verb asks of them.
+fn written(line: &[u8], at: usize, shelf: &mut [u64], s: Stage, verb: Verb) -> Stage {
     let n = numbers::section(line, at, shelf);
     if numbers::ROOM < n {
         return stage::bad(s);
     }
     let mut r = s;
     r.steps = n;
-    if checked {
-        playing::check(shelf, r);
+    match verb {
+        Verb::Check => sections::check(shelf, r),
+        Verb::Sets => sections::sets(shelf, r),
+        _ => (),
     }
     r
 }
@@ -85,8 +88,7 @@ fn verb(line: &[u8], at: usize, image: &mut [u64], shelf: &mut [u64], s: Stage) 
     let rest = text::skip(line, end);
     let verb = verbs::of(text::part(line, at, end));
     match verb {
-        Verb::Section => written(line, rest, shelf, s, false),
-        Verb::Check => written(line, rest, shelf, s, true),
+        Verb::Section | Verb::Check | Verb::Sets => written(line, rest, shelf, s, verb),
         Verb::Say => said(line, rest, s),
         Verb::Show => shown(line, rest, image, shelf, s),
         _ => perform(image, shelf, s, commands::read(line, at)),

@@ -6,6 +6,7 @@ use lib.ListN.{length}
 use Rattle.image.specs.Image.{Image}
 use Rattle.section.specs.declared.Verdict.{Verdict}
 use Rattle.section.specs.Check.{codeOf, check}
+use Rattle.section.specs.Sets.{setsAnswer, setsLeave}
 use Rattle.tally.specs.declared.Tally.{Tally}
 use Rattle.working.specs.declared.Cursors.{Cursors}
 use Rattle.turn.specs.declared.Answer.{Answer}
@@ -41,6 +42,14 @@ formatsTo m D left = world (formatLeaves mark ownWords left m D (formatting m D)
 
 abbrev pub checking : List ℕ → Verdict
 checking words = check ownWords (length words) (codeOf words)
+
+-- ---- the pass over the held sets: its answer, and word j of those lent for them
+
+abbrev pub giving : List ℕ → Verdict
+giving words = setsAnswer ownWords (length words) (codeOf words)
+
+abbrev pub givesTo : List ℕ → ℕ → ℕ
+givesTo words j = setsLeave ownWords (length words) (codeOf words) j
 
 -- ---- submitting
 

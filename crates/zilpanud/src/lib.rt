@@ -5,14 +5,16 @@ mod answers;
 mod cursors;
 
 ghost use mathlib.Core.Path.{_≡_};
+ghost use Prim.Native.Nat.{ℕ};
 ghost use lib.Count.{ones};
+ghost use lib.ListN.{getD};
 ghost use Rattle.section.specs.Check.{causeOf, stepOf};
 ghost use Rattle.formatting.specs.Codes.{formatCode};
 ghost use Rattle.intake.specs.Codes.{submitCode, submitDetail};
 ghost use Rattle.turn.specs.Codes.{turnCode, turnDetail};
 ghost use Rattle.run.specs.Codes.{endCode, endDetail};
 ghost use Rattle.soundness.specs.Codes.{recoverCode, recoverDetail};
-ghost use Rattle.zilpanud.specs.Lent.{cursors, lent, formatting, formatsTo, checking, submitting, submitsTo};
+ghost use Rattle.zilpanud.specs.Lent.{cursors, lent, formatting, formatsTo, checking, giving, givesTo, submitting, submitsTo};
 ghost use Rattle.zilpanud.specs.Lent.{turning, turnsTo, running, counts, recovering, recoversTo};
 ghost use Rattle.zilpanud.specs.Ask.{askCode, told, idleBit, finishedNo, stands};
 ghost use Rattle.zilpanud.specs.Version.{version};
@@ -45,6 +47,19 @@ pub extern "C" fn zilpanud_check(words: &[u64], detail: &mut u64) -> u64
     ensures detail { λ r. ⌜ now (detail .exit) ≡ stepOf (checking (now (words .entry))) ⌝ }
 {
     let v = edition::check(words);
+    *detail = section::step(v) as u64;
+    section::cause(v)
+}
+
+// The held set before each step of a section: 0, or 4, or 5 with the lowest step. Causes 6 to 9 are not asked. The words lent are 0 from the
+// count up, and where it is refused all of them.
+#[no_mangle]
+pub extern "C" fn zilpanud_held_sets(words: &[u64], sets: &mut [u64; 64], detail: &mut u64) -> u64
+    ensures code { λ r. ⌜ r ≡ causeOf (giving (now (words .entry))) ⌝ }
+    ensures detail { λ r. ⌜ now (detail .exit) ≡ stepOf (giving (now (words .entry))) ⌝ }
+    ensures sets { λ r. ⌜ ((j : ℕ) → getD (now (sets .exit)) j 0 ≡ givesTo (now (words .entry)) j) ⌝ }
+{
+    let v = edition::held_sets(words, sets);
     *detail = section::step(v) as u64;
     section::cause(v)
 }
@@ -231,5 +246,5 @@ pub extern "C" fn zilpanud_standing(
 pub extern "C" fn zilpanud_version() -> u64
     ensures { λ r. ⌜ r ≡ version ⌝ }
 {
-    3_000
+    4_000
 }

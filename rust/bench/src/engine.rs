@@ -6,6 +6,7 @@ pub trait Engine {
 
     fn format(image: &mut [u64], workers: u64) -> Self::Places;
     fn check(section: &[u64]);
+    fn held_sets(section: &[u64]) -> [u64; 64];
     fn submit(image: &mut [u64], places: &mut Self::Places, worker: usize, number: u64, section: &[u64]);
     /// Whether the worker was not idle.
     fn turn(image: &mut [u64], places: &mut Self::Places, worker: usize) -> bool;
@@ -28,6 +29,10 @@ impl Engine for Ours {
 
     fn check(section: &[u64]) {
         zilpanud::check(section).unwrap();
+    }
+
+    fn held_sets(section: &[u64]) -> [u64; 64] {
+        zilpanud::held_sets(section).unwrap()
     }
 
     fn submit(image: &mut [u64], places: &mut Self::Places, worker: usize, number: u64, section: &[u64]) {
@@ -60,6 +65,10 @@ impl Engine for Twin {
 
     fn check(section: &[u64]) {
         twin::check(section).unwrap();
+    }
+
+    fn held_sets(section: &[u64]) -> [u64; 64] {
+        twin::held_sets(section).unwrap()
     }
 
     fn submit(image: &mut [u64], places: &mut Self::Places, worker: usize, number: u64, section: &[u64]) {

@@ -57,7 +57,8 @@ fn tables(rounds: usize) {
     );
     println!("A ratio of 1.00 is equal speed; above 1 ours is faster. Images were compared after each row.");
     table("Ours against the twin", rows::against_twin(), rounds);
-    table("The cost of a turn by workers and by length", rows::by_size(), rounds);
+    let title = "The cost of a turn, and of a checked step, by workers and by length";
+    table(title, rows::by_size(), rounds);
     stores::table(rounds);
 }
 

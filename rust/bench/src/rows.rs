@@ -5,7 +5,7 @@ use crate::work::Work;
 
 pub struct Row {
     pub name: String,
-    /// What is timed: a turn, a call, a move.
+    /// What is timed: a turn, a step, a call, a move.
     pub unit: &'static str,
     pub work: Work,
 }
@@ -29,7 +29,7 @@ fn turns() -> Vec<Row> {
     vec![
         calls("turn calls, 1 worker, sums", sums(3, 64)),
         calls("turn calls, 1 worker, acquires and releases", locks()),
-        calls("turn calls, 1 worker, jumps", jumps()),
+        calls("turn calls, 1 worker, jumps", jumps(64)),
         row("turn calls, 8 workers contending, hand over hand", "turn", Work::Turns { workers: 8, sections }),
     ]
 }
@@ -48,13 +48,16 @@ fn runs() -> Vec<Row> {
 
 fn checks() -> Vec<Row> {
     let submit = |name, section| row(name, "submit", Work::Submit { section });
-    let check = |name, section| row(name, "check", Work::Check { section });
+    let check = |name, section| row(name, "check", Work::Check { section, units: 1 });
+    let sets = |name, section| row(name, "pass", Work::HeldSets { section });
     vec![
-        submit("submit, 64 steps full of jumps", jumps()),
+        submit("submit, 64 steps full of jumps", jumps(64)),
         submit("submit, 64 steps, sums", sums(3, 64)),
-        check("check, 64 steps full of jumps", jumps()),
+        check("check, 64 steps full of jumps", jumps(64)),
         check("check, 64 steps, sums", sums(3, 64)),
         check("check, 64 steps, acquires and releases", locks()),
+        sets("held sets, 64 steps full of jumps", jumps(64)),
+        sets("held sets, 64 steps, acquires and releases", locks()),
     ]
 }
 
@@ -81,7 +84,7 @@ pub fn against_twin() -> Vec<Row> {
     [turns(), runs(), checks(), whole_images(), moves()].into_iter().flatten().collect()
 }
 
-/// The same turns on images of more workers and in longer sections.
+/// The same turns on images of more workers and in longer sections, and the same check a step of longer sections.
 pub fn by_size() -> Vec<Row> {
     let mut rows = vec![];
     for n in [1, 2, 4, 8] {
@@ -100,6 +103,10 @@ pub fn by_size() -> Vec<Row> {
     for steps in [8, 16, 32, 64] {
         let name = format!("run, section of {steps} steps");
         rows.push(row(name, "turn", run(1, vec![sums(3, steps)])));
+    }
+    for steps in [8, 16, 32, 64] {
+        let name = format!("check, section of {steps} steps full of jumps");
+        rows.push(row(name, "step", Work::Check { section: jumps(steps), units: steps as u64 }));
     }
     rows
 }

@@ -53,11 +53,11 @@ pub fn hand_over_hand() -> Vec<u64> {
     section
 }
 
-/// 61 jumps on cells that are 0, each some steps ahead.
-pub fn jumps() -> Vec<u64> {
+/// Acquire, jumps on cells that are 0, each some steps ahead, release, finish: n steps.
+pub fn jumps(n: u16) -> Vec<u64> {
     let mut section = vec![acquire(3)];
-    for i in 1..62u16 {
-        section.push(instruction(7, 24 + i % 8, (i + 1 + i % 7).min(62), 0));
+    for i in 1..n - 2 {
+        section.push(instruction(7, 24 + i % 8, (i + 1 + i % 7).min(n - 2), 0));
     }
     section.extend([release(3), FINISH]);
     section

@@ -25,7 +25,12 @@ pub enum Work {
         worker: usize,
         section: Vec<u64>,
     },
+    /// A check, which counts as so many units: one, or the section's steps.
     Check {
+        section: Vec<u64>,
+        units: u64,
+    },
+    HeldSets {
         section: Vec<u64>,
     },
     Submit {
@@ -189,8 +194,12 @@ impl Work {
             Work::Run { workers, sections } => run::<E>(workers, sections),
             Work::Turns { workers, sections } => turns::<E>(workers, sections),
             Work::OneWorker { workers, worker, section } => one_worker::<E>(workers, worker, section),
-            Work::Check { section } => side(vec![], move |_| {
+            Work::Check { section, units } => side(vec![], move |_| {
                 E::check(black_box(&section));
+                units
+            }),
+            Work::HeldSets { section } => side(vec![], move |_| {
+                black_box(&E::held_sets(black_box(&section)));
                 1
             }),
             Work::Submit { section } => submit::<E>(section),

@@ -1,10 +1,11 @@
 //! Random lists of calls on the library and on the twin, compared after every call: the image word for word, the
-//! answer, the cursors, the locks held, the stores left and the tally. See usage().
+//! answer, the cursors, the locks held, the stores left and the tally; and of every section its held sets. See usage().
 
 mod call;
 mod damage;
 mod draw;
 mod met;
+mod passes;
 mod rng;
 mod sections;
 
@@ -36,6 +37,24 @@ struct Difference {
     word: Option<(usize, u64, u64)>,
     /// The owner words' mask, where both left another one and must not.
     owned: Option<u64>,
+}
+
+/// What differs: what a call gives, or what a section's held sets are.
+enum Found {
+    Call(Box<Difference>),
+    Pass(Box<passes::Difference>),
+}
+
+impl From<Box<Difference>> for Found {
+    fn from(call: Box<Difference>) -> Found {
+        Found::Call(call)
+    }
+}
+
+impl From<Box<passes::Difference>> for Found {
+    fn from(pass: Box<passes::Difference>) -> Found {
+        Found::Pass(pass)
+    }
 }
 
 /// The same call on both, each with its own image of the same words.
@@ -181,13 +200,16 @@ impl Play<'_> {
         index.and_then(|i| self.mine.get(i)).map_or(9, |word| word >> 48)
     }
 
-    fn next(&mut self, manner: Manner) -> Result<(), Box<Difference>> {
+    fn next(&mut self, manner: Manner) -> Result<(), Found> {
         self.disturb(manner);
         let again = self.was_cut && self.r.chance(90);
         let call = match again {
             true => Call::Recover,
             false => draw::call(&mut self.r, &self.mine, self.workers, &self.lent),
         };
+        if let Call::Check { section } | Call::Submit { section, .. } = &call {
+            self.met.pass(&passes::compared(section)?);
+        }
         if self.r.chance(1) {
             self.another_length(&call)?;
         }
@@ -218,7 +240,7 @@ fn manner(r: &mut Rng) -> Manner {
 }
 
 /// Plays one list; gives the number of the call that differed.
-fn list(seed: u64, number: u64, met: &mut Met) -> Result<(), (u64, Box<Difference>)> {
+fn list(seed: u64, number: u64, met: &mut Met) -> Result<(), (u64, Found)> {
     let mut r = Rng::of_list(seed, number);
     let workers = if r.chance(50) { 1 + r.below(3) } else { 1 + r.below(8) };
     let manner = manner(&mut r);
@@ -228,7 +250,7 @@ fn list(seed: u64, number: u64, met: &mut Met) -> Result<(), (u64, Box<Differenc
     let (mine, other) = (image.clone(), image);
     let mut play = Play { r, met, mine, other, lent, workers, was_cut: false };
     let first = both(&Call::Format { workers }, &mut play.mine, &mut play.other, lent);
-    play.lent = first.map_err(|d| (0, d))?.lent;
+    play.lent = first.map_err(|d| (0, d.into()))?.lent;
     for n in 1..=calls {
         play.next(manner).map_err(|d| (n, d))?;
     }
@@ -236,9 +258,16 @@ fn list(seed: u64, number: u64, met: &mut Met) -> Result<(), (u64, Box<Differenc
     Ok(())
 }
 
-fn tell(seed: u64, list: u64, call: u64, d: &Difference) {
+fn tell(seed: u64, list: u64, call: u64, found: &Found) {
     println!("DIFFERENCE in list {list}, call {call}, seed {seed}");
     println!("to repeat: crosscheck 1 {seed} {list}");
+    match found {
+        Found::Call(difference) => tell_call(difference),
+        Found::Pass(difference) => passes::tell(difference),
+    }
+}
+
+fn tell_call(d: &Difference) {
     println!("call:  {:x?}", d.call);
     println!("lent:  {:?}", d.lent);
     println!("ours:  {:?}", d.ours);
@@ -265,9 +294,9 @@ fn main() {
     };
     let mut met = Met::default();
     for number in first..first + lists {
-        if let Err((call, difference)) = list(seed, number, &mut met) {
+        if let Err((call, found)) = list(seed, number, &mut met) {
             met.report();
-            tell(seed, number, call, &difference);
+            tell(seed, number, call, &found);
             exit(1);
         }
     }

@@ -2,6 +2,7 @@
 
 use crate::call::{Call, Given, SORTS};
 use crate::damage::DAMAGES;
+use crate::passes::Pass;
 
 /// The answers' numbers, by column of the table.
 const ANSWERS: [u64; 19] = [0, 1, 2, 3, 4, 5, 6, 7, 8, 9, 10, 11, 12, 13, 16, 17, 18, 19, 20];
@@ -21,6 +22,10 @@ const POSSIBLE: [&[u64]; 9] = [
 
 /// Why a turn passed, by the answer's detail. A run counts all but the first.
 const PASSINGS: [&str; 3] = ["jump", "already free", "others"];
+
+/// The causes that held sets are refused with, and the check's answers where they are given, by document 02.
+const SETS_REFUSED: [usize; 2] = [4, 5];
+const SETS_GIVEN: [usize; 5] = [0, 6, 7, 8, 9];
 
 #[derive(Default)]
 pub struct Met {
@@ -47,6 +52,9 @@ pub struct Met {
     masks: u64,
     holding: u64,
     most_held: u32,
+    /// Held sets of sections: refused, by the answer, and given, by the check's answer.
+    sets_refused: [u64; 6],
+    sets_given: [u64; 10],
 }
 
 impl Met {
@@ -74,6 +82,14 @@ impl Met {
         self.most_held = self.most_held.max(held.count_ones());
     }
 
+    /// A pass over a section that was compared.
+    pub fn pass(&mut self, pass: &Pass) {
+        match pass.told {
+            (0, _) => self.sets_given[pass.checked.0 as usize] += 1,
+            (cause, _) => self.sets_refused[cause as usize] += 1,
+        }
+    }
+
     /// The answers that a sort of call can have and that were not met, as lines; empty if all were.
     pub fn missing(&self) -> Vec<String> {
         let mut lines = vec![];
@@ -94,6 +110,11 @@ impl Met {
         lines.extend(counted.filter(|(_, n)| *n == 0).map(|(why, _)| format!("no run counted: {why}")));
         let masks = [(self.holding, "no mask with locks held was compared"), (self.odd_masks, "no odd mask")];
         lines.extend(masks.iter().filter(|(n, _)| *n == 0).map(|(_, line)| line.to_string()));
+        let (refused, given) = (SETS_REFUSED.iter(), SETS_GIVEN.iter());
+        let refused = refused.filter(|&&n| self.sets_refused[n] == 0);
+        let given = given.filter(|&&n| self.sets_given[n] == 0);
+        lines.extend(refused.map(|n| format!("no held sets were refused with {n}")));
+        lines.extend(given.map(|n| format!("no held sets were given where the check answers {n}")));
         lines
     }
 
@@ -142,5 +163,15 @@ impl Met {
         println!("\nstandings: not begun {not_begun}; begun {begun}; finished {finished}");
         let (masks, holding, most) = (self.masks, self.holding, self.most_held);
         println!("masks compared with the owner words: {masks}; with locks held: {holding}, {most} at most");
+        self.sets();
+    }
+
+    fn sets(&self) {
+        let passes: u64 = self.sets_refused.iter().chain(&self.sets_given).sum();
+        print!("held sets compared: {passes}; refused with");
+        SETS_REFUSED.iter().for_each(|&n| print!(" {n}: {};", self.sets_refused[n]));
+        print!(" given where the check answers");
+        SETS_GIVEN.iter().for_each(|&n| print!(" {n}: {};", self.sets_given[n]));
+        println!();
     }
 }

@@ -2,7 +2,7 @@
 //! again.
 
 use crate::cut::{self, done, ENOUGH};
-use crate::{raw, Cause, Cursors, Refusal, RefusedRun, Run, Standing, Turn};
+use crate::{raw, Cause, Cursors, Refusal, RefusedRun, Run, Standing, Turn, STEPS};
 
 /// Formats an image for so many workers, and gives the cursors, all idle with no lock held. Refuses with cause 10 and
 /// stores nothing.
@@ -20,6 +20,41 @@ pub fn check(section: &[u64]) -> Result<(), Refusal> {
     // SAFETY: here and below, every pointer comes from a live reference of its own, and every length is its slice's.
     let answer = unsafe { raw::zilpanud_check(section.as_ptr(), section.len(), &mut detail) };
     done(answer, detail)
+}
+
+/// The held set before each step of a section: a mask, in which bit b is set if lock b is held there. It goes by the
+/// order of the steps, as if no jump were made: before step 0 no lock is held, an acquire sets its lock's bit, and a
+/// release clears it. From the number of steps up the sets are 0. It is one pass, and the very one in which the check
+/// looks up the step that a jump names, and a recovery the one that a pc does.
+///
+/// Refuses with causes 4 and 5 alone. A section that the check refuses with 6 to 9 has its sets given, and they show
+/// why:
+///
+/// ```
+/// use zilpanud::code::{acquire, finish, jump_if_zero, release};
+/// use zilpanud::{Cause, Refusal, LOCKS};
+///
+/// // Meant to go on behind the release of lock 5, the jump goes to the step that releases it.
+/// let (jump, target) = (1, 3);
+/// let section = [acquire(3), jump_if_zero(24, target), acquire(5), release(5), release(3), finish()];
+/// assert_eq!(zilpanud::check(&section), Err(Refusal(Cause::Unlevel { step: jump })));
+///
+/// let sets = zilpanud::held_sets(&section)?;
+/// assert_eq!(sets[..6], [0, 1 << 3, 1 << 3, 1 << 3 | 1 << 5, 1 << 3, 0]);
+///
+/// let held = |step: usize| (0..LOCKS).filter(|lock| sets[step] >> lock & 1 == 1).collect::<Vec<_>>();
+/// let (here, there) = (held(jump), held(target as usize));
+/// println!("step {jump} jumps with locks {here:?} held, to step {target} with {there:?}");
+/// assert_eq!((here, there), (vec![3], vec![3, 5]));
+/// # Ok::<(), Refusal>(())
+/// ```
+pub fn held_sets(section: &[u64]) -> Result<[u64; STEPS], Refusal> {
+    let mut sets = [0; STEPS];
+    let mut detail = 0;
+    // SAFETY: as in `check`.
+    let answer = unsafe { raw::zilpanud_held_sets(section.as_ptr(), section.len(), &mut sets, &mut detail) };
+    done(answer, detail)?;
+    Ok(sets)
 }
 
 /// Submits a section to a worker, with its number and its arguments, which become the worker's own words. Refuses with

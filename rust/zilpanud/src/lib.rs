@@ -56,6 +56,8 @@
 //! # Ok::<(), zilpanud::Refusal>(())
 //! ```
 //!
+//! [`check`] tests a section by itself, and [`held_sets`] says which locks are held before each of its steps.
+//!
 //! [`cut`] has the calls that store once more, with the number of stores that they may still make: so tests cut them.
 //!
 //! Document 01 is the paper that the engine follows; all that a user needs of it is in the repository's `docs/MANUAL.md`.
@@ -77,7 +79,7 @@ mod refusal;
 pub use answers::{Cursors, End, Passing, Run, Standing, Tally, Turn};
 #[cfg(all(unix, target_pointer_width = "64"))]
 pub use board::{Board, BoardError};
-pub use calls::{check, finished, format, is_idle, recover, run, standing, submit, turn};
+pub use calls::{check, finished, format, held_sets, is_idle, recover, run, standing, submit, turn};
 pub use code::instruction;
 pub use refusal::{Cause, Refusal, RefusedRun};
 
@@ -90,8 +92,11 @@ pub const CELLS: usize = 512;
 /// The locks of an image. Lock l guards cells 8l to 8l + 7.
 pub const LOCKS: usize = 64;
 
+/// The most steps of a section; it has 3 at least.
+pub const STEPS: usize = 64;
+
 /// The version of the library that this crate was written for, as [`version`] says it.
-pub const VERSION: u64 = 3_000;
+pub const VERSION: u64 = 4_000;
 
 /// The version of the library that is linked: 1,000,000 × major + 1,000 × minor + patch.
 pub fn version() -> u64 {

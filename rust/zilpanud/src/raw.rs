@@ -18,6 +18,8 @@ unsafe extern "C" {
         left: *mut u64,
     ) -> u64;
     pub fn zilpanud_check(words: *const u64, count: usize, detail: *mut u64) -> u64;
+    pub fn zilpanud_held_sets(words: *const u64, count: usize, sets: *mut [u64; 64], detail: *mut u64)
+        -> u64;
     pub fn zilpanud_submit(
         image: *mut u64,
         len: usize,

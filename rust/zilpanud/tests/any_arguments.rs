@@ -71,6 +71,7 @@ fn sections() {
         for len in 0..=66 {
             let section = vec![word; len];
             assert!(zilpanud::check(&section).is_err());
+            assert!(zilpanud::held_sets(&section).is_err());
             assert!(World::formatted(1).submit(0, 1, &section).is_err());
         }
     }
@@ -103,5 +104,6 @@ fn fields_out_of_range_are_refused() {
     for word in wrong {
         let section = [acquire(3), word, release(3), finish()];
         assert_eq!(zilpanud::check(&section), Err(Refusal(Cause::Malformed { step: 1 })));
+        assert_eq!(zilpanud::held_sets(&section), Err(Refusal(Cause::Malformed { step: 1 })));
     }
 }

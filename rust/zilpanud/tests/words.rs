@@ -23,6 +23,7 @@ fn sizes_are_those_of_document_01() {
     assert_eq!((owner_index(0), owner_index(3), owner_index(63)), (520, LOCK_3, 583));
     assert_eq!((lock_of(0), lock_of(24), lock_of(511)), (0, 3, 63));
     assert_eq!((own(0), own(7)), (512, 519));
+    assert_eq!((zilpanud::LOCKS, zilpanud::STEPS), (64, 64));
 }
 
 #[test]

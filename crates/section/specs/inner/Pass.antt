@@ -2,7 +2,7 @@
 -- pass, and looked up there.
 use Prim.Native.Nat.{ℕ, _<_, _≤_}
 use mathlib.Core.Path.{_≡_}
-use mathlib.Core.Bool.{true, cond}
+use mathlib.Core.Bool.{Bool, true, cond}
 use mathlib.Core.List.{List}
 use lib.ListN.{length, getD}
 use lib.Dec.{ltb}
@@ -10,6 +10,7 @@ use Rattle.section.specs.declared.Verdict.{Verdict}
 use Rattle.section.specs.declared.Verdict.the-variants.{Pass, Length, Malformed, Unbracketed, Unordered, Unguarded, Unlevel}
 use Rattle.code.specs.Op.{opOf}
 use Rattle.section.specs.Check.{Code, codeOf, heldBefore, firstOf, formOf, check}
+use Rattle.section.specs.Sets.{setsAnswer}
 use Rattle.code.specs.Form.{lockOk}
 use Rattle.rules.specs.inner.Looked.{lands}
 
@@ -36,11 +37,25 @@ reached n (Unlevel i) = n
 abbrev pub heldTo : ℕ → Code → Code → ℕ → ℕ
 heldTo k code before j = cond (ltb j k) (heldBefore code j) (before j)
 
+-- word j of an array that is cleared from place k up
+abbrev pub below : ℕ → Code → ℕ → ℕ
+below k before j = cond (ltb j k) (before j) 0
+
 -- word j of the array after the check
 unfoldable pub heldLeft : ℕ → ℕ → Code → Code → ℕ → ℕ
 heldLeft own n code before j = heldTo (reached n (check own n code)) code before j
 
--- the pass: the first step that fails cause 5, and the held set before each step until then
-pub record Passed (own : ℕ) (ws before : List ℕ) (verdict : Verdict) (held : List ℕ) : Type 0 where
-  pub first : verdict ≡ firstOf (formOf own (length ws) (codeOf ws)) 0 (length ws)
+-- the pass has come past k steps of ws: step k, if there is one, is the first that fails cause 5, and those before it have their held sets
+pub record Past (own : ℕ) (ws before : List ℕ) (k : ℕ) (held : List ℕ) : Type 0 where
+  pub most : k ≤ length ws
+  pub first : cond (ltb k (length ws)) (Malformed k) Pass ≡ firstOf (formOf own (length ws) (codeOf ws)) 0 (length ws)
+  pub sets : (j : ℕ) → getD held j 0 ≡ heldTo k (codeOf ws) (codeOf before) j
+
+-- the answer of the whole check, or of its pass alone
+abbrev pub answerBy : Bool → ℕ → ℕ → Code → Verdict
+answerBy whole own n code = cond whole (check own n code) (setsAnswer own n code)
+
+-- a check with this answer, and the held sets as far as the pass has come by it
+pub record Checked (answer : Verdict) (ws before : List ℕ) (verdict : Verdict) (held : List ℕ) : Type 0 where
+  pub first : verdict ≡ answer
   pub sets : (j : ℕ) → getD held j 0 ≡ heldTo (reached (length ws) verdict) (codeOf ws) (codeOf before) j

@@ -79,6 +79,18 @@ impl Script {
         self.out.push('\n');
         (1..=8).contains(&names.len()).then_some(())
     }
+    /// The section's held sets by the pass alone: those of the 64 words that aren't 0, or its refusal, with which all are 0.
+    pub fn sets(&mut self, rest: &str) -> Option<()> {
+        self.steps = section(rest)?;
+        match held_sets(&self.steps) {
+            Ok(sets) => {
+                self.tell("given");
+                (0..64).filter(|&i| sets[i] != 0).for_each(|i| self.tell(&word(&sets, i)));
+            }
+            Err(r) => self.tell(&Told::Refused(r).text(&[])),
+        }
+        Some(())
+    }
     /// The list of calls that a seed draws, each with its cuts.
     pub fn list(&mut self, mut seed: u64, calls: u64, aloud: bool) {
         let desks = self.w.get(1).copied().unwrap_or(0) % 9;
@@ -151,6 +163,7 @@ impl Script {
                     check(&self.steps).map_or_else(|r| Told::Refused(r).text(&[]), |_| "passes".into());
                 self.tell(&told);
             }
+            "sets" => self.sets(rest)?,
             "given" => {
                 let (given, rest) = first(rest);
                 let (verb, rest) = first(rest);
