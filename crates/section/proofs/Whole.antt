@@ -23,8 +23,8 @@ use Rattle.section.proofs.Passing.{refused-not, formed-lock, formed-lan
 pub length-short : (n : ℕ) → n < 3 → false ≡ lengthOk n
 length-short n h = rw (lt-leb 3 n h)
 
-pub length-by : (n : ℕ) → 3 ≤ n → leb n 64 ≡ lengthOk n
-length-by n h = rw (le-leb 3 n h)
+pub length-from-3 : (n : ℕ) → 3 ≤ n → leb n 64 ≡ lengthOk n
+length-from-3 n h = rw (le-leb 3 n h)
 
 pub length-most : (n : ℕ) → lengthOk n ≡ true → n ≤ 64
 length-most n h = leb-true n 64 (and-right (leb 3 n) (leb n 64) h)
