@@ -81,7 +81,7 @@ $(OUT):
 
 # the header, as C99 and as C++17
 
-HEADER = checks/header.c checks/header_again.c
+HEADER = checks/header.c checks/header_turns.c checks/header_again.c
 HEADER_NEEDS = $(HEADER) checks/header_again.h include/zilpanud.h $(ARCHIVE) | $(OUT)
 
 $(OUT)/header_c99: $(HEADER_NEEDS)
@@ -104,11 +104,11 @@ $(OUT)/example: examples/board.c include/zilpanud.h $(ARCHIVE) | $(OUT)
 $(OUT)/example_cut: checks/example_cut.c examples/board.c include/zilpanud.h $(ARCHIVE) | $(OUT)
 	@$(C99) checks/example_cut.c $(ARCHIVE) -o $@
 
-$(OUT)/held_sets: examples/held_sets.c include/zilpanud.h $(ARCHIVE) | $(OUT)
-	@$(C99) examples/held_sets.c $(ARCHIVE) -o $@
+$(OUT)/held_sets $(OUT)/turns: $(OUT)/%: examples/%.c include/zilpanud.h $(ARCHIVE) | $(OUT)
+	@$(C99) $< $(ARCHIVE) -o $@
 
-example: $(OUT)/example $(OUT)/example_cut $(OUT)/held_sets
-	@sh checks/example.sh $(OUT)/example $(OUT)/example_cut $(OUT)/held_sets
+example: $(OUT)/example $(OUT)/example_cut $(OUT)/held_sets $(OUT)/turns
+	@sh checks/example.sh $(OUT)/example $(OUT)/example_cut $(OUT)/held_sets $(OUT)/turns
 
 # what board says on standard error
 

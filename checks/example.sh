@@ -1,12 +1,13 @@
 #!/bin/sh
-# usage: example.sh EXAMPLE EXAMPLE_CUT HELD_SETS
+# usage: example.sh EXAMPLE EXAMPLE_CUT HELD_SETS TURNS
 # Plays examples/board.c on boards in a temporary folder: moves one after the other, a number given twice, too many
 # boxes, damaged files, several programs at once, and a move cut after each of its stores. Then examples/held_sets.c, on
-# tickets whose bays are worked out by hand.
+# tickets whose bays are worked out by hand, and examples/turns.c, whose turns are.
 set -u
 example=$1
 cut=$2
 held_sets=$3
+turns=$4
 room=$(mktemp -d) || exit 1
 trap 'rm -rf "$room"' EXIT
 trap 'exit 1' HUP INT TERM
@@ -148,7 +149,7 @@ step 3  end               held: none
 the check: 8 at step 1: the step names a cell whose lock is not held' \
     0001000300000000 0003002000000005 0002000300000000 0008000000000000
 length='refused with 4: a section has 3 to 64 steps'
-malformed='the step is of unknown kind, or has a field outside its range or position'
+malformed='the step is not there, is of unknown kind, or has a field outside its range or position'
 take=0001000300000000
 shows_none 1 "$length" "$take" 0008000000000000
 shows_none 1 "$length" </dev/null
@@ -160,4 +161,34 @@ for word in '' take 000100030000000 00010003000000000 000100030000000A 0x0100030
     shows_none 2 "'$word' is not 16 hexadecimal digits (0 to 9, a to f)" "$take" "$word" "$take"
 done
 echo "$take ${take}0" | shows_none 2 "'${take}0' is not 16 hexadecimal digits (0 to 9, a to f)" || exit 1
-echo "example: ok, and once exactly after each of $stores cuts; held sets as worked out by hand"
+
+# A take and a drop have 6 turns, kinds 3 to 6 have 4, a skip 1, the end 3; from the bottom up. In the second ticket step
+# 4 goes on at 5, 1 + 23, or at 7, 1 + 15; and step 3 at 4, 1 + 24 or 1 + 16, or at 5, 1 + 23. Cut after 16 turns, its
+# place names step 2, and it goes on by steps 3, 4 and 7: 1 + 1 + 1 + 15. Turns 17 and 18 are the skips, and from turn 21
+# on place names step 7, a drop: 3 + 9.
+said=$("$turns" 2>"$room/error") || fail "turns ended with $?: $(cat "$room/error")"
+wanted='the ticket of the papers, turns to the end:
+  step 0  take 3                              19
+  step 1  word 24 := 5                        13
+  step 2  drop 3                              9
+  step 3  end                                 3
+  power goes after 4 turns: 0 left, and it takes 0
+  power goes after 5 turns: 14 left, and it takes 14
+  power goes after 15 turns: 6 left, and it takes 6
+a move of 7 boxes, if there are so many, turns to the end:
+  step 0  take 3                              33 to 41
+  step 1  take 5                              27 to 35
+  step 2  word 514 := 1 if there are too few  21 to 29
+  step 3  enough: skip to step 5              17 to 25
+  step 4  too few: skip to step 7             16 to 24
+  step 5  word 24 := word 24 - word 512       23
+  step 6  word 40 := word 40 + word 512       19
+  step 7  drop 5                              15
+  step 8  drop 3                              9
+  step 9  end                                 3
+  with enough boxes: 40
+  with too few: 33
+  power goes after 16 turns: 18 to 26 left, and it takes 18
+  power goes after 24 turns: 12 left, and it takes 12'
+[ "$said" = "$wanted" ] && [ ! -s "$room/error" ] || fail "turns says: $said$(cat "$room/error")"
+echo "example: ok, and once exactly after each of $stores cuts; held sets and turns as worked out by hand"

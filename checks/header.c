@@ -1,6 +1,6 @@
 /*
- * The header, as C99 and as C++17: every macro and every call of it is used, and what it says of the archive is tried.
- * Exits with 1 at the first thing that is not so.
+ * The header, as C99 and as C++17: every macro and every call of it is used, and what it says of the archive is tried
+ * (the turns that a section takes in header_turns.c). Exits with 1 at the first thing that is not so.
  */
 #include "header_again.h"
 
@@ -56,7 +56,7 @@ enum { AROUND = 4 };
 static uint64_t around[AROUND + ZILPANUD_STEPS_MAX + AROUND];
 static uint64_t *const sets = around + AROUND;
 
-static void ensure(int holds, const char *what)
+void ensure(int holds, const char *what)
 {
     if (!holds) {
         fprintf(stderr, "header: not so: %s\n", what);
@@ -341,6 +341,7 @@ int main(void)
     locks_counted();
     sets_given();
     sets_refused();
+    turns_counted();
     formatted();
     nothing_given();
     formatted();

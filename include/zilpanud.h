@@ -10,8 +10,8 @@
  *
  * What the caller owes, since C cannot say it: a pointer and its length name that many words; step and turn name
  * 8 bytes, held a word, args 8 words, tally 5 words, sets 64 words; no two of a call's pointers name the same memory
- * (only args and words, which are read alone, may), and none is null; a pointer to words is aligned to 8. With a length
- * of 0 the pointer is not read, and any pointer that is not null and is aligned to 8 will do.
+ * (only args, words and path, which are read alone, may), and none is null; a pointer to words is aligned to 8. With a
+ * length of 0 the pointer is not read, and any pointer that is not null and is aligned to 8 will do.
  *
  * Threads: the library keeps nothing between calls; all it knows is the image, the cursors (step, turn and held) and
  * the numbers that a call is lent. So calls on different images, each with its cursors, may be made from different
@@ -34,8 +34,8 @@
  * different installs. A program compares them when it starts; examples/board.c does.
  */
 
-#define ZILPANUD_VERSION 4000
-#define ZILPANUD_VERSION_TEXT "0.4.0"
+#define ZILPANUD_VERSION 5000
+#define ZILPANUD_VERSION_TEXT "0.5.0"
 
 /* ---- sizes */
 
@@ -90,15 +90,15 @@
 
 /* ---- what a call returns: done, the cause of a refusal, or another answer; zilpanud_text() has a line for each */
 
-#define ZILPANUD_DONE 0            /* formatted, passed the check, sets given, taken, recovered, all idle; a question
-                                      answered */
+#define ZILPANUD_DONE 0            /* formatted, passed the check, sets or turns given, taken, recovered, all idle; a
+                                      question answered */
 
 #define ZILPANUD_NO_WORKER 1       /* the worker is not below the image's number of workers */
 #define ZILPANUD_BUSY 2            /* submit: the worker is not idle, or its record's count or pc is not 0 */
 #define ZILPANUD_NUMBER 3          /* submit: the section's number is not above the last finished one */
 #define ZILPANUD_LENGTH 4          /* the number of steps is not 3 to 64 */
-#define ZILPANUD_MALFORMED 5       /* a step of unknown kind, or a field outside its range or position.
-                                      detail, of 5 to 9: the step */
+#define ZILPANUD_MALFORMED 5       /* a step of unknown kind, or a field outside its range or position; turns_of_path,
+                                      turns_from: also a number that is no step's. detail, of 5 to 9: the step */
 #define ZILPANUD_UNBRACKETED 6     /* the first step does not acquire, a later one but a finish has nothing held, or a
                                       finish has something held */
 #define ZILPANUD_UNORDERED 7       /* an acquire not above all held, or a release of a lock not held */
@@ -108,7 +108,8 @@
 #define ZILPANUD_CURSOR 11         /* turn, run: a worker that is not idle has a count not 3 to 64, or a cursor past
                                       the count, on a step that fails 5 or on a turn that its kind lacks.
                                       detail: the worker */
-#define ZILPANUD_RECORD 12         /* recover: a record is not sound. detail: the worker */
+#define ZILPANUD_RECORD 12         /* recover: a record is not sound. detail: the worker. turns_left: the record of the
+                                      worker asked after is not */
 #define ZILPANUD_LOCK 13           /* recover: two workers are owed the lock, or its owner word names no worker that
                                       intends it. detail: the lock */
 #define ZILPANUD_LINE 14           /* the program board prints it for a malformed frame line; no call returns it */
@@ -147,7 +148,8 @@ static inline const char *zilpanud_text(uint64_t answer)
     case ZILPANUD_BUSY: return "the worker is not idle, or its record still has a section";
     case ZILPANUD_NUMBER: return "the section's number is not above the last one that the worker finished";
     case ZILPANUD_LENGTH: return "a section has 3 to 64 steps";
-    case ZILPANUD_MALFORMED: return "the step is of unknown kind, or has a field outside its range or position";
+    case ZILPANUD_MALFORMED:
+        return "the step is not there, is of unknown kind, or has a field outside its range or position";
     case ZILPANUD_UNBRACKETED: return "the step stands where no lock is held, or finishes with a lock held";
     case ZILPANUD_UNORDERED: return "the step acquires a lock not above all held, or releases one that is not held";
     case ZILPANUD_UNGUARDED: return "the step names a cell whose lock is not held";
@@ -222,6 +224,27 @@ uint64_t zilpanud_check(const uint64_t *words, size_t words_len, uint64_t *detai
  * lock's bit, and a release clears it. Words from the number of steps up are 0; where the call is refused, all are. */
 uint64_t zilpanud_held_sets(const uint64_t *words, size_t words_len, uint64_t *sets, uint64_t *detail);
 
+/* How many turns the steps of a path take: 0, or 5. path is the numbers of steps, in any order, and *turns the sum of
+ * their turns: 6 for an acquire or a release, 4 for kinds 3 to 6, 1 for a jump, 3 for a finish. A number that stands
+ * there twice counts twice, and no number at all takes 0. The first one that is not below words_len, or whose step is
+ * malformed there, is refused, and detail is that number. No other step is looked at, and cause 4 is not asked: any
+ * number of words will do (but a jump's b is at most 63). *turns is always written: where the call is refused, with 0.
+ *
+ * A section with no cut and no recovery between its submit and the last turn of its finish takes exactly so many turns,
+ * those that wait not counted, where path is the steps that the reference machine (the manual's plain machine) goes
+ * through for it. Those that a jump goes past are not among them. */
+uint64_t zilpanud_turns_of_path(const uint64_t *words, size_t words_len, const uint64_t *path, size_t path_len,
+                                uint64_t *turns, uint64_t *detail);
+
+/* How many turns a section needs from a step on, that one included, up to the last of its finish: 0, or 4 to 9 by the
+ * check, and then 5 with detail step, where the section has no such step. Which way a jump goes is not known before it
+ * is made, so *fewest and *most are the least and the largest number over both ways of each; where no jump lies ahead,
+ * they are the same. Both are always written: where the call is refused, with 0. Turns that wait come on top.
+ *
+ * From step 0 on it is what an uncut section needs; zilpanud_turns_left says it of one that a recovery resumes. */
+uint64_t zilpanud_turns_from(const uint64_t *words, size_t words_len, uint64_t step, uint64_t *fewest, uint64_t *most,
+                             uint64_t *detail);
+
 /* Submits a section for a worker: 0, or 10, 1, 2, 3, 4 to 9, tested in this order. */
 uint64_t zilpanud_submit(uint64_t *image, size_t image_words, uint8_t *step, uint8_t *turn, uint64_t *held,
                          size_t worker, uint64_t number, const uint64_t *args, const uint64_t *words, size_t words_len,
@@ -249,7 +272,7 @@ uint64_t zilpanud_recover(uint64_t *image, size_t image_words, uint8_t *step, ui
  * uncut call exactly if lock b's owner word is not 0. */
 uint64_t zilpanud_locks_held(uint64_t held);
 
-/* ---- questions: 0, or 10, 1, and then 0 is written */
+/* ---- questions: 0, or 10, 1 (zilpanud_turns_left: then 12), and where they are refused, 0 is written */
 
 /* 1: the worker is idle; 0: it is not */
 uint64_t zilpanud_is_idle(const uint64_t *image, size_t image_words, const uint8_t *step, const uint8_t *turn,
@@ -268,6 +291,18 @@ uint64_t zilpanud_finished(const uint64_t *image, size_t image_words, size_t wor
  */
 uint64_t zilpanud_standing(const uint64_t *image, size_t image_words, size_t worker, uint64_t number,
                            uint64_t *answer);
+
+/* how many turns the worker's begun section needs after a recovery; 0 and 0: it has none begun, since its pc is 0
+ *
+ * 3 if the pc names a release, else 1, and then what zilpanud_turns_from says of the step behind the named one. It is
+ * refused with 12 where this worker's record is not sound, by the recovery's test of it; other records and the locks
+ * are not asked. The answer is the same right before and right after a recovery. With no later cut or recovery the
+ * section takes after it exactly those 3 or 1 turns and the turns of the steps that it goes through behind the named
+ * one; turns that wait come on top. Asked at another moment, it says what the next recovery would leave to be done, and
+ * not what is left without one.
+ */
+uint64_t zilpanud_turns_left(const uint64_t *image, size_t image_words, size_t worker, uint64_t *fewest,
+                             uint64_t *most);
 
 #ifdef __cplusplus
 }

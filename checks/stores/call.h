@@ -13,7 +13,10 @@
 #define LARGEST 1240    /* the words of an image of 8 workers */
 #define AROUND 8        /* words watched before and behind it, which no call may change */
 
-enum name { FORMAT, CHECK, HELD_SETS, SUBMIT, TURN, RUN, RECOVER, LOCKS_HELD, IS_IDLE, FINISHED, STANDING, NAMES };
+enum name {
+    FORMAT, CHECK, HELD_SETS, TURNS_OF_PATH, TURNS_FROM, SUBMIT, TURN, RUN, RECOVER, LOCKS_HELD, IS_IDLE, FINISHED,
+    STANDING, TURNS_LEFT, NAMES
+};
 
 /* what a call is given by value or only reads */
 struct call {
@@ -26,6 +29,7 @@ struct call {
     uint64_t args[ZILPANUD_ARGS];
     size_t steps;
     uint64_t section[ZILPANUD_STEPS_MAX + 1];
+    uint64_t path[ZILPANUD_STEPS_MAX + 1];    /* each step of the section, and one number more */
 };
 
 /* the words that are watched */
@@ -45,7 +49,8 @@ struct world {
     uint64_t detail;
     uint64_t tally[ZILPANUD_TALLY_WORDS];
     uint64_t sets[ZILPANUD_STEPS_MAX];
-    uint64_t told;    /* what a question writes, or the locks held */
+    uint64_t told;    /* what a question writes, or the locks held; the turns of a path, or the fewest */
+    uint64_t most;    /* turns */
     uint64_t answer;
 };
 

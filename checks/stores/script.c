@@ -82,6 +82,7 @@ static void refused_sections(void)
         const uint64_t cause = rows[i].cause;
         check(rows[i].section, rows[i].steps, cause);
         held_sets(rows[i].section, rows[i].steps, cause > ZILPANUD_MALFORMED ? ZILPANUD_DONE : cause);
+        turns_from(rows[i].section, rows[i].steps, 0, cause);
         submit(0, 1, rows[i].section, rows[i].steps, cause);
     }
 }
@@ -92,6 +93,10 @@ static void submits(void)
     refused_sections();
     check(GIVE(every), ZILPANUD_DONE);
     held_sets(GIVE(every), ZILPANUD_DONE);
+    turns_of_path(GIVE(every), 6, ZILPANUD_DONE);
+    turns_of_path(GIVE(every), 16, ZILPANUD_MALFORMED);
+    turns_from(GIVE(every), 0, ZILPANUD_DONE);
+    turns_from(GIVE(every), 16, ZILPANUD_MALFORMED);
     submit(2, 1, GIVE(every), ZILPANUD_NO_WORKER);
     submit(0, 0, GIVE(every), ZILPANUD_NUMBER);
     submit(0, 1, GIVE(every), ZILPANUD_DONE);
@@ -257,6 +262,8 @@ static void refused_recoveries(void)
     cut_run(40);
     const struct world torn = keep();
     set_word(ZILPANUD_IMAGE_WORDS(1) + 8, 0);    /* worker 1's section number */
+    turns_left(1, ZILPANUD_RECORD);
+    turns_left(0, ZILPANUD_DONE);
     recover(ZILPANUD_RECORD);
     go_back(&torn);
     set_word(ZILPANUD_OWNER_INDEX(63), 1);

@@ -41,6 +41,8 @@ void all_met(void)
         [FORMAT] = BIT(0) | BIT(10),
         [CHECK] = BIT(0) | BITS(4, 9),
         [HELD_SETS] = BIT(0) | BITS(4, 5),
+        [TURNS_OF_PATH] = BIT(0) | BIT(5),
+        [TURNS_FROM] = BIT(0) | BITS(4, 9),
         [SUBMIT] = BITS(0, 10),
         [TURN] = BIT(1) | BITS(10, 11) | BITS(16, 19),
         [RUN] = BIT(0) | BITS(10, 11) | BIT(20),
@@ -49,6 +51,7 @@ void all_met(void)
         [IS_IDLE] = asked,
         [FINISHED] = asked,
         [STANDING] = asked,
+        [TURNS_LEFT] = asked | BIT(12),
     };
     static const unsigned turns[9] = {0, 6, 6, 4, 4, 4, 4, 1, 3};
     for (size_t name = 0; name < NAMES; name++) {
@@ -194,6 +197,31 @@ void held_sets(const uint64_t *section, size_t steps, uint64_t answer)
     expect(&call, answer);
 }
 
+/* A call about a section and a step of it. */
+static struct call about(enum name name, const uint64_t *section, size_t steps, uint64_t step)
+{
+    struct call call = call_of(name, 0);
+    put_section(&call, section, steps);
+    for (size_t i = 0; i < steps; i++) {
+        call.path[i] = i;
+    }
+    call.path[steps] = step;
+    call.number = step;
+    return call;
+}
+
+void turns_of_path(const uint64_t *section, size_t steps, uint64_t step, uint64_t answer)
+{
+    const struct call call = about(TURNS_OF_PATH, section, steps, step);
+    expect(&call, answer);
+}
+
+void turns_from(const uint64_t *section, size_t steps, uint64_t step, uint64_t answer)
+{
+    const struct call call = about(TURNS_FROM, section, steps, step);
+    expect(&call, answer);
+}
+
 void submit(size_t worker, uint64_t above, const uint64_t *section, size_t steps, uint64_t answer)
 {
     const struct call call = submitting(worker, above, section, steps);
@@ -279,6 +307,13 @@ void questions(size_t worker, uint64_t answer)
         call.number = worker < workers ? record(worker)[NUMBER] : 1;
         expect(&call, answer);
     }
+    turns_left(worker, answer);
+}
+
+void turns_left(size_t worker, uint64_t answer)
+{
+    const struct call call = call_of(TURNS_LEFT, worker);
+    expect(&call, answer);
 }
 
 /* ---- calls that are not watched, and damage */

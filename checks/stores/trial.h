@@ -10,6 +10,10 @@ void format(size_t workers, uint64_t answer);
 void check(const uint64_t *section, size_t steps, uint64_t answer);
 void held_sets(const uint64_t *section, size_t steps, uint64_t answer);
 
+/* The turns of all steps of a section, with one of them, or another number, once more; and from that one on. */
+void turns_of_path(const uint64_t *section, size_t steps, uint64_t step, uint64_t answer);
+void turns_from(const uint64_t *section, size_t steps, uint64_t step, uint64_t answer);
+
 /* The section gets the worker's last finished number plus `above`, and arguments of junk. */
 void submit(size_t worker, uint64_t above, const uint64_t *section, size_t steps, uint64_t answer);
 void turn(size_t worker, uint64_t answer);
@@ -22,7 +26,10 @@ void recover(uint64_t answer);
 
 /* So many locks are held. */
 void locks_held(uint64_t count);
+
+/* All that are asked about a worker; its turns left also by themselves. */
 void questions(size_t worker, uint64_t answer);
+void turns_left(size_t worker, uint64_t answer);
 
 /* ---- calls that are not watched, and damage */
 

@@ -4,6 +4,9 @@
 use asking::Standing;
 use formatting::Cleared;
 use intake::Entered;
+use needs::Along;
+use needs::Left;
+use needs::Needed;
 use recovery::Restored;
 use repair::Repair;
 use repair::Slot;
@@ -23,6 +26,9 @@ ghost use Rattle.intake.specs.Submit.{submitAnswer, submitLeaves};
 ghost use Rattle.asking.specs.Asking.{standingOf, askCode, finishedOf};
 ghost use Rattle.turn.specs.Call.{answerOf, leaves, outcome};
 ghost use Rattle.run.specs.Run.{counting, ran, runOf};
+ghost use Rattle.needs.specs.Path.{alongOf};
+ghost use Rattle.needs.specs.From.{needsOf};
+ghost use Rattle.needs.specs.Left.{leftOf};
 ghost use Rattle.repair.specs.Repair.{slotAt, slotOf};
 ghost use Rattle.recovery.specs.Recovery.{recovery};
 ghost use Rattle.recovery.specs.Recover.{answerOf as recoveryAnswer, cursorsOf, repairBy, recoveryLeaves, recoveryLeft};
@@ -57,6 +63,28 @@ pub fn held_sets(words: &[u64], held: &mut [u64; 64]) -> Verdict
         ≡ setsLeave ownWords (length (now (words .entry))) (codeOf (now (words .entry))) j) ⌝ }
 {
     section::held_sets(words, OWN as u16, held)
+}
+
+// The turns along the steps of a path through a section, which need not be one that the section allows; or the first of them that there is not, or
+// that fails cause 5.
+pub fn turns_of_path(words: &[u64], path: &[u64]) -> Along
+    ensures { λ r. ⌜ r ≡ alongOf ownWords (length (now (words .entry))) (codeOf (now (words .entry))) (now (path .entry)) ⌝ }
+{
+    needs::path::along(words, path, OWN as u16)
+}
+
+// The fewest turns and the most that a section needs from a step on; or the first of causes 4 to 9, and 5 where there is no such step.
+pub fn turns_from(words: &[u64], step: usize) -> Needed
+    ensures { λ r. ⌜ r ≡ needsOf ownWords (length (now (words .entry))) (codeOf (now (words .entry))) step ⌝ }
+{
+    needs::ahead::from(words, step, OWN as u16)
+}
+
+// The fewest turns and the most that worker d's section still needs after a recovery; 0 where none is begun.
+pub fn turns_left(image: &[u64], d: usize) -> Left
+    ensures { λ r. ⌜ r ≡ leftOf mark ownWords (now (image .entry)) d ⌝ }
+{
+    needs::record::left(image, d, MARK, OWN)
 }
 
 // Formats an image for so many workers. All of them are idle, also where it is refused.

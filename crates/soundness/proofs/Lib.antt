@@ -1,3 +1,4 @@
 pub mod Legible
 pub mod Sets
 pub mod Owing
+pub mod Single

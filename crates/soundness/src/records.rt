@@ -9,7 +9,7 @@ use image::Field;
 ghost use mathlib.Core.Path.{_≡_};
 ghost use mathlib.Core.Bool.{true, false, _||_};
 ghost use lib.ListN.{length};
-ghost use Prim.Native.Nat.{_≤_};
+ghost use Prim.Native.Nat.{_-_, _≤_};
 ghost use Rattle.image.specs.Place.{field};
 ghost use Rattle.image.specs.Image.{at, workers, lengthOf};
 ghost use Rattle.image.specs.inner.Inside.{Inside};
@@ -126,17 +126,18 @@ fn sound(image: &[u64], d: usize, own: usize, held: &mut [u64]) -> Found
     }
 }
 
-// Whether all records are sound, with the owed sets, or the first worker whose record is not.
-pub fn records(image: &[u64], own: usize) -> Judged
-    requires { ⌜ (own ≤ 64) × (workers (now image) ≤ 8) × (length (now image) ≡ lengthOf own (workers (now image))) ⌝ }
-    ensures answer { λ r. ⌜ r .answer ≡ byRecord (unsound own (at own (now (image .entry))) (workers (now (image .entry))) 0 (workers (now (image .entry)))) ⌝ }
-    ensures owed { λ r. ⌜ (isDone (r .answer) ≡ true → r .owed ≡ eight (owedAt own (at own (now (image .entry))) (workers (now (image .entry))))) ⌝ }
+// Whether the records of the workers from one up to another are sound, or the first of them that is not; with the owed sets. (One loop for all
+// records and for one, so that the machine code has the test of a record once, in the loop.)
+fn judged(image: &[u64], first: usize, end: usize, own: usize) -> Judged
+    requires { ⌜ (own ≤ 64) × (workers (now image) ≤ 8) × (length (now image) ≡ lengthOf own (workers (now image))) × (first ≤ end)
+        × (end ≤ workers (now image)) ⌝ }
+    ensures answer { λ r. ⌜ r .answer ≡ byRecord (unsound own (at own (now (image .entry))) end first (end - first)) ⌝ }
+    ensures owed { λ r. ⌜ (isDone (r .answer) ≡ true → first ≡ 0 → r .owed ≡ eight (owedAt own (at own (now (image .entry))) end)) ⌝ }
 {
-    let n = image::workers(image) as usize;
     let mut sets = [0u64; 8];
     let mut held = [0u64; 64];
-    let mut d: usize = 0;
-    while d < n {
+    let mut d = first;
+    while d < end {
         let f = sound(image, d, own, &mut held);
         if !f.ok {
             return Judged {
@@ -151,4 +152,37 @@ pub fn records(image: &[u64], own: usize) -> Judged
         answer: Answer::Done,
         owed: sets,
     }
+}
+
+// Whether all records are sound, with the owed sets, or the first worker whose record is not.
+pub fn records(image: &[u64], own: usize) -> Judged
+    requires { ⌜ (own ≤ 64) × (workers (now image) ≤ 8) × (length (now image) ≡ lengthOf own (workers (now image))) ⌝ }
+    ensures answer { λ r. ⌜ r .answer ≡ byRecord (unsound own (at own (now (image .entry))) (workers (now (image .entry))) 0 (workers (now (image .entry)))) ⌝ }
+    ensures owed { λ r. ⌜ (isDone (r .answer) ≡ true → r .owed ≡ eight (owedAt own (at own (now (image .entry))) (workers (now (image .entry))))) ⌝ }
+{
+    judged(image, 0, image::workers(image) as usize, own)
+}
+
+// Whether a worker's record with no section in it is sound: nothing is named, and nothing owned.
+fn empty_sound(image: &[u64], d: usize, own: usize) -> bool
+    requires { ⌜ (Inside own (now image) d) × (at own (now image) (field Field.Count d) ≡ 0) ⌝ }
+    ensures { λ r. ⌜ r ≡ sound own (at own (now (image .entry))) d ⌝ }
+{
+    if image::read_field(image, Field::Pc, d, own) != 0 {
+        return false;
+    }
+    image::read_field(image, Field::Owned, d, own) == 0
+}
+
+// Whether one worker's record is sound.
+pub fn record_sound(image: &[u64], d: usize, own: usize) -> bool
+    requires { ⌜ Inside own (now image) d ⌝ }
+    ensures { λ r. ⌜ r ≡ sound own (at own (now (image .entry))) d ⌝ }
+{
+    if image::read_field(image, Field::Count, d, own) == 0 {
+        return empty_sound(image, d, own);
+    }
+    let r = judged(image, d, d + 1, own);
+    let a = r.answer;
+    crate::done(a)
 }

@@ -146,7 +146,7 @@ module _ (n : ℕ) (rd rd′ : Memory) (d : ℕ) (i : rd′ (field Intent d) ≡
       }
 
 -- a turn's store changes no instruction, and of another worker no intent
-touch-code : (n : ℕ) (rd : Memory) (d locks : ℕ) (p : Place) (v l : ℕ) → Touches n rd d locks p v l → (e : ℕ) → codeIn n (upd rd p v) e ≡ codeIn n rd e
+pub touch-code : (n : ℕ) (rd : Memory) (d locks : ℕ) (p : Place) (v l : ℕ) → Touches n rd d locks p v l → (e : ℕ) → codeIn n (upd rd p v) e ≡ codeIn n rd e
 touch-code n rd d locks _ _ _ (inRecord f v) e = refl
 touch-code n rd d locks _ _ _ (ownWord i v b) e = refl
 touch-code n rd d locks _ _ _ (ownCell x v b h) e = refl

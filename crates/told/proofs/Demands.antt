@@ -8,6 +8,8 @@ use Rattle.told.specs.Reports.{ReportsExplained, ReleasesFree}
 use Rattle.told.specs.Tallies.{RunsTallied}
 use Rattle.told.specs.Held.{LocksCounted}
 use Rattle.told.specs.Enough.{EnoughIsWhole}
+use Rattle.told.specs.Turns.{TurnsExact, UncutSpanned}
+use Rattle.told.specs.Between.{PathsBetween, TurnsBetween, LeftTold}
 use Rattle.claims.proofs.Durable.{durable-always, formatted-rests}
 use Rattle.claims.proofs.Linear.{linearizable}
 use Rattle.told.proofs.RunTurns as run-turns
@@ -17,6 +19,10 @@ use Rattle.told.proofs.Reports.{reports-explained, releases-free}
 use Rattle.told.proofs.Tallies.{runs-tallied}
 use Rattle.told.proofs.Held as held
 use Rattle.told.proofs.Enough.{enough-is-whole}
+use Rattle.told.proofs.Turns as turns
+use Rattle.told.proofs.Complete as complete
+use Rattle.told.proofs.Between as between
+use Rattle.told.proofs.Left as left
 use Rattle.told.proofs.Once.{admitted-always, once-always, told-always, asked-always}
 use Rattle.told.proofs.Finishes.{begun-finishes}
 use Rattle.told.proofs.Through.{through-always}
@@ -69,6 +75,28 @@ locks-counted = held.locks-counted mark ownWords (omega arith) (omega arith)
 -- an uncut call may be lent any number of stores that suffices
 pub enough-stores : EnoughIsWhole mark ownWords
 enough-stores = enough-is-whole mark ownWords (omega arith) (omega arith)
+
+-- ---- turns to the end
+
+-- a section that is over took just the turns of its path on the reference machine; resumed, those from its target store on
+pub turns-exact : TurnsExact mark ownWords
+turns-exact = turns.turns-exact mark ownWords (omega arith) (omega arith)
+
+-- with no cut and no recovery, and the worker idle, these are all sections taken from it
+pub uncut-spanned : UncutSpanned mark ownWords
+uncut-spanned = complete.uncut-spanned mark ownWords (omega arith) (omega arith)
+
+-- whatever path the reference machine takes lies between the fewest turns and the most
+pub paths-between : PathsBetween mark ownWords
+paths-between = between.paths-between mark ownWords
+
+-- and so do the turns of a section that is over
+pub turns-between : TurnsBetween mark ownWords
+turns-between = between.turns-between mark ownWords (omega arith) (omega arith)
+
+-- a begun section's record tells the two numbers for its resumption
+pub left-told : LeftTold mark ownWords
+left-told = left.left-told mark ownWords (omega arith) (omega arith)
 
 -- ---- what a planner may be told
 

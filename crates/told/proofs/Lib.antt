@@ -17,6 +17,22 @@ pub mod Accounting
 pub mod Reports
 -- How many locks are held, by the mask alone.
 pub mod Held
+-- Turns to the end, exactly.
+pub mod Walking
+pub mod Strides
+pub mod WalkTurn
+pub mod Pacing
+pub mod Strode
+pub mod Passages
+pub mod OnTrack
+pub mod TurnTrack
+pub mod Spanning
+pub mod Turns
+pub mod Complete
+pub mod Trodden
+pub mod PathWays
+pub mod Between
+pub mod Left
 -- What a planner may be told: which sections are begun, by the events and by the records, after any calls and cuts; that they are
 -- finished in the end; and what a client has that numbers its sections one after the other, or hands one in again and again.
 pub mod Numbers

@@ -27,7 +27,7 @@ use Rattle.asking.specs.Asking.{standingIn}
 use Rattle.claims.specs.Reference.{Job, State, follow, initial}
 use Rattle.told.specs.Readings.{takenIn, readFrom}
 use Rattle.claims.specs.Calls.{Traced, Move, from, legal, machine}
-use Rattle.claims.specs.Claims.{Rested, after, mended, working}
+use Rattle.claims.specs.Claims.{Rested, admissible, after, mended, working}
 use Rattle.told.specs.Once.{rising, lastOr, among, OnceAlways, ToldAlways, AskedAlways, begunBy, startedAt, pcOf, numberOf, finishedOf}
 use Rattle.claims.proofs.Invariant.{opAt}
 use Rattle.claims.proofs.Ready.{step-behind}
@@ -260,7 +260,14 @@ module _ (mark n : ℕ) (wide : 8 ≤ n) (narrow : n ≤ 64) where
       some-begun [] bs k e z = let q : _≡_ {A = ℕ} 0 1 = cc in omega arith
       some-begun (x ∷ before) bs k e z = let q : _≡_ {A = ℕ} 0 1 = cc in omega arith
 
-  -- every section begun is admissible
+  -- every section begun is admissible, after any list and when all is settled
+  pub admitted-list :
+      (m : Image) (rest : Rested mark n m) (xs : List Move) → machine xs ≡ true → legal false xs ≡ true
+      → admissible mark n (workers m) (after mark n m xs .trace .begun) ≡ true
+  admitted-list m rest xs h l =
+      let r = reads-list m rest xs h l in
+      rw (r .begins) (begun-admitted mark n (workers m) (after mark n m xs .trace .events) (rw (r .submits) at (r .admits)))
+
   pub admitted-always : Admitted mark n
   admitted-always m rest xs ys h l y =
       let r = reads-settled m rest xs h l ys y in

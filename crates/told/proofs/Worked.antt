@@ -4,7 +4,7 @@ use Prim.Native.Nat.{ℕ, _^_, _-_}
 use mathlib.Core.Path.{_≡_, refl, ap, ap₂, _∙_}
 use mathlib.Core.Bool.{true}
 use mathlib.Core.List.{List, map, [], _∷_, _++_}
-use lib.ListN.{length, replicate}
+use lib.ListN.{length, getD, replicate}
 use Rattle.mask.specs.Mask.{has, with, without}
 use Rattle.image.specs.Place.{Memory, Store}
 use Rattle.image.specs.Image.{recordAt, lengthOf, indexOf, workers, at, headerOk, put, putAll}
@@ -29,7 +29,8 @@ use Rattle.recovery.specs.Recovery.{recovery}
 use Rattle.claims.specs.Calls.{Traced, traced, forgetful, submits, turns, recovers, whole, cut, call, move}
 use Rattle.intake.specs.declared.Submitted.{Submitted}
 use Rattle.intake.specs.declared.Submitted.the-variants.{Taken}
-use Rattle.told.specs.Examples.{rows as table, expected, seenIn, causeIn, watched, ticket, board, many, row, seen, after}
+use Rattle.told.specs.Examples.{rows as table, expected, seenIn, causeIn, watched, ticket, board, many, row, seen, after, spansIn, spans, expectedSpans}
+use Rattle.told.specs.Turns.{heedAll, passageOf}
 
 -- What the rows compute through, in groups: to unfold one of these is to unfold all that its line names.
 inImage : ℕ
@@ -111,3 +112,21 @@ worked-rows =
     (ap₂ _∷_ cut-5
     (ap₂ _∷_ cut-15
     refl)))
+
+-- ---- turns to the end
+
+spans-5 : spansIn (after 5) ≡ getD expectedSpans 2 []
+unfolding inImage inSection inTurn inRecovery rows heedAll
+spans-5 = ap (λ (w : Traced). passageOf 0 (many 20 w .trace .events) .spans) after-5 ∙ refl
+
+spans-15 : spansIn (after 15) ≡ getD expectedSpans 3 []
+unfolding inImage inSection inTurn inRecovery rows heedAll
+spans-15 = ap (λ (w : Traced). passageOf 0 (many 20 w .trace .events) .spans) after-15 ∙ refl
+
+spans-4 : spansIn (after 4) ≡ []
+unfolding inImage inSection inTurn inRecovery rows heedAll
+spans-4 = ap (λ (w : Traced). passageOf 0 (many 20 w .trace .events) .spans) after-4 ∙ refl
+
+pub worked-spans : spans ≡ expectedSpans
+unfolding inImage inSection inTurn inRecovery heedAll
+worked-spans = ap₂ _∷_ refl (ap₂ _∷_ spans-4 (ap₂ _∷_ spans-5 (ap₂ _∷_ spans-15 refl)))

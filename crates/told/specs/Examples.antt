@@ -14,7 +14,9 @@ use Rattle.plan.specs.Turn.{Outcome, stored, passed, waiting, resting, refused}
 use Rattle.turn.specs.Call.{outcome}
 use Rattle.formatting.specs.Format.{formatted}
 use Rattle.intake.specs.Submit.{submitAnswer}
+use Rattle.claims.specs.Reference.{given}
 use Rattle.claims.specs.Calls.{Traced, submits, turns, recovers, whole, cut, move, from}
+use Rattle.told.specs.Turns.{Start, first, resumed, Span, span, passageOf}
 
 -- kind, a, b, c
 abbrev word : ℕ → ℕ → ℕ → ℕ → ℕ
@@ -141,3 +143,18 @@ abbrev pub seenIn : Row → Seen
 seenIn r =
     watched (causeIn (submitAnswer mark ownWords (board .world) 0 1 (r .steps)))
     (powered (r .power) (move mark ownWords (whole (submits 0 1 (replicate 8 0) (r .steps))) board))
+
+-- ---- the turns of document 01's ticket to its end (document 02, 4/14), as the events tell them, with the step at which it was resumed
+
+abbrev pub spansIn : Cut → List Span
+spansIn p = passageOf 0 (many 20 (powered p (move mark ownWords (whole (submits 0 1 (replicate 8 0) ticket)) board)) .trace .events) .spans
+
+-- uncut; withdrawn; resumed at its acquire, and at its release
+abbrev pub spans : List (List Span)
+spans = spansIn never ∷ spansIn (after 4) ∷ spansIn (after 5) ∷ spansIn (after 15) ∷ []
+
+abbrev ofTicket : Start → ℕ → List Span
+ofTicket b t = span 0 (given 0 1 (replicate 8 0) ticket) b t ∷ []
+
+abbrev pub expectedSpans : List (List Span)
+expectedSpans = ofTicket first 19 ∷ [] ∷ ofTicket (resumed 0) 14 ∷ ofTicket (resumed 2) 6 ∷ []

@@ -5,4 +5,7 @@ pub mod Reports
 pub mod Tallies
 pub mod Held
 pub mod Enough
+pub mod Paths
+pub mod Turns
+pub mod Between
 pub mod Examples

@@ -22,6 +22,9 @@ pub enum Verb {
     Check,
     Sets,
     Standing,
+    Path,
+    Needs,
+    Remaining,
     Show,
     Words,
     Cursors,
@@ -40,7 +43,7 @@ fn number(w: &[u8]) -> u64 {
         return call;
     }
     let other = text::position(
-        b"image overwrite put mark args section deal check sets standing show words cursors changes say",
+        b"image overwrite put mark args section deal check sets standing path needs remaining show words cursors changes say",
         w,
     );
     if other == 0 {
@@ -73,11 +76,14 @@ pub fn of(w: &[u8]) -> Verb {
         18 => Verb::Check,
         19 => Verb::Sets,
         20 => Verb::Standing,
-        21 => Verb::Show,
-        22 => Verb::Words,
-        23 => Verb::Cursors,
-        24 => Verb::Changes,
-        25 => Verb::Say,
+        21 => Verb::Path,
+        22 => Verb::Needs,
+        23 => Verb::Remaining,
+        24 => Verb::Show,
+        25 => Verb::Words,
+        26 => Verb::Cursors,
+        27 => Verb::Changes,
+        28 => Verb::Say,
         _ => Verb::Unknown,
     }
 }
@@ -87,10 +93,11 @@ pub fn takes(v: Verb, n: usize) -> bool {
     match v {
         Verb::Recover | Verb::Mark | Verb::Changes => n == 0,
         Verb::Format | Verb::Turn | Verb::Run | Verb::Deal => n == 1,
+        Verb::Needs | Verb::Remaining => n == 1,
         Verb::Submit | Verb::List | Verb::Turns | Verb::Image | Verb::Overwrite | Verb::Standing =>
             n == 2,
         Verb::Put => n == 3,
-        Verb::Args => true,
+        Verb::Args | Verb::Path => true,
         Verb::Words | Verb::Cursors => 0 < n,
         _ => false,
     }

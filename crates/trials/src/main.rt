@@ -27,6 +27,9 @@
 //   sets LIST             the section, and the answer of the pass over its held sets by itself, lent 64 words of ones; then a line for each
 //                         of these words that is not 0, step and held set
 //   standing D NUMBER     how worker D stands to the section of this number
+//   path STEP ..          the turns along these steps of the section, up to eight
+//   needs STEP            the fewest turns and the most that the section needs from this step on
+//   remaining D           the same of worker D's section after a recovery
 //   say TEXT
 // Cuts:
 //   cuts CALL             from the state as it is, which stays: the call given 0, 1, 2 .. stores, up to all that it makes, each then with a

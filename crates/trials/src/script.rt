@@ -3,6 +3,7 @@ use trial_calls::calls::Call;
 use trial_plays::playing;
 use trial_plays::playing::Asked;
 use trial_plays::sections;
+use trial_plays::turns;
 use trial_stage::say;
 use trial_stage::scene;
 use trial_stage::showing;
@@ -16,7 +17,7 @@ use trial_text::text;
 use trial_text::verbs;
 use trial_text::verbs::Verb;
 
-// What is no single call: turns told one by one, a list, a question; and what sets the scene or shows it.
+// What is no single call: turns told one by one, a list, questions; and what sets the scene or shows it.
 fn other(image: &mut [u64], shelf: &mut [u64], s: Stage, k: Command) -> Stage {
     let verb = k.verb;
     let v = k.v;
@@ -24,6 +25,9 @@ fn other(image: &mut [u64], shelf: &mut [u64], s: Stage, k: Command) -> Stage {
         Verb::Turns => playing::turns(image, shelf, s, v[0], v[1]),
         Verb::List => playing::list(image, shelf, s, v[0], v[1], k.way == commands::PLAYS),
         Verb::Standing => playing::standing(image, s, v[0], v[1]),
+        Verb::Path => turns::path(shelf, s, v, k.n),
+        Verb::Needs => turns::needs(shelf, s, v[0]),
+        Verb::Remaining => turns::remaining(image, s, v[0]),
         _ => scene::set(image, shelf, s, k),
     }
 }

@@ -6,9 +6,11 @@ use Rattle.image.specs.Image.{Image}
 use Rattle.working.specs.declared.Cursors.{Cursors}
 use Rattle.asking.specs.declared.Standing.{Standing}
 use Rattle.asking.specs.declared.Standing.the-variants.{NotBegun, Begun, Finished as StandsFinished, Refused}
+use Rattle.needs.specs.declared.Left.{Left}
 use Rattle.edition.specs.Edition.{mark, ownWords}
 use Rattle.working.specs.Cursor.{isIdle, cursorAt}
 use Rattle.asking.specs.Asking.{standingOf, askCode as asked, finishedOf}
+use Rattle.needs.specs.Left.{leftOf}
 
 -- the number that a question about worker d returns: causes 10 and 1, or 0
 abbrev pub askCode : Image → ℕ → ℕ
@@ -36,3 +38,7 @@ standingNo (Refused r) = 0
 -- how worker d stands to section k, as a number
 abbrev pub stands : Image → ℕ → ℕ → ℕ
 stands m d k = standingNo (standingOf mark ownWords m d k)
+
+-- what worker d's section still needs after a recovery; this question is refused with cause 12, too
+abbrev pub stillNeeding : Image → ℕ → Left
+stillNeeding m d = leftOf mark ownWords m d

@@ -12,7 +12,11 @@ use Rattle.working.specs.declared.Cursors.{Cursors}
 use Rattle.turn.specs.declared.Answer.{Answer}
 use Rattle.formatting.specs.declared.Formatted.{Formatted}
 use Rattle.intake.specs.declared.Submitted.{Submitted}
+use Rattle.needs.specs.declared.Along.{Along}
+use Rattle.needs.specs.declared.Needed.{Needed}
 use Rattle.edition.specs.Edition.{mark, ownWords}
+use Rattle.needs.specs.Path.{alongOf}
+use Rattle.needs.specs.From.{needsOf}
 use Rattle.working.specs.World.{World, world}
 use Rattle.turn.specs.Call.{answerOf, leaves, outcome}
 use Rattle.formatting.specs.Format.{formatAnswer, formatLeaves, formatLeft}
@@ -50,6 +54,14 @@ giving words = setsAnswer ownWords (length words) (codeOf words)
 
 abbrev pub givesTo : List ℕ → ℕ → ℕ
 givesTo words j = setsLeave ownWords (length words) (codeOf words) j
+
+-- ---- the turns of a section: along a path, and from a step on
+
+abbrev pub following : List ℕ → List ℕ → Along
+following words path = alongOf ownWords (length words) (codeOf words) path
+
+abbrev pub needing : List ℕ → ℕ → Needed
+needing words step = needsOf ownWords (length words) (codeOf words) step
 
 -- ---- submitting
 

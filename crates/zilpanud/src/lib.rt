@@ -1,6 +1,6 @@
-// What C and Rust link: the engine's entry points, three questions and the count of the locks held, over slices, arrays and numbers. An answer
-// crosses as a number and a detail (`codes` of the crates that answer, `cause` and `step` of section); the working record as two arrays, a step
-// and a turn for each worker, and the mask of the locks held.
+// What C and Rust link: the engine's entry points, four questions about a worker, the turns that a section needs and the count of the locks held, over
+// slices, arrays and numbers. An answer crosses as a number and a detail (`codes` of the crates that answer, `cause` and `step` of section); the
+// working record as two arrays, a step and a turn for each worker, and the mask of the locks held.
 mod answers;
 mod cursors;
 
@@ -14,9 +14,10 @@ ghost use Rattle.intake.specs.Codes.{submitCode, submitDetail};
 ghost use Rattle.turn.specs.Codes.{turnCode, turnDetail};
 ghost use Rattle.run.specs.Codes.{endCode, endDetail};
 ghost use Rattle.soundness.specs.Codes.{recoverCode, recoverDetail};
-ghost use Rattle.zilpanud.specs.Lent.{cursors, lent, formatting, formatsTo, checking, giving, givesTo, submitting, submitsTo};
+ghost use Rattle.needs.specs.Codes.{alongCode, alongStep, alongTurns, neededCode, neededStep, neededFewest, neededMost, leftCode, leftFewest, leftMost};
+ghost use Rattle.zilpanud.specs.Lent.{cursors, lent, formatting, formatsTo, checking, giving, givesTo, following, needing, submitting, submitsTo};
 ghost use Rattle.zilpanud.specs.Lent.{turning, turnsTo, running, counts, recovering, recoversTo};
-ghost use Rattle.zilpanud.specs.Ask.{askCode, told, idleBit, finishedNo, stands};
+ghost use Rattle.zilpanud.specs.Ask.{askCode, told, idleBit, finishedNo, stands, stillNeeding};
 ghost use Rattle.zilpanud.specs.Version.{version};
 
 // Formats an image for so many workers: 0, or 10. All workers are idle and no lock is held, also where it is refused.
@@ -62,6 +63,47 @@ pub extern "C" fn zilpanud_held_sets(words: &[u64], sets: &mut [u64; 64], detail
     let v = edition::held_sets(words, sets);
     *detail = section::step(v) as u64;
     section::cause(v)
+}
+
+// The turns along the steps of a path through a section, which need not be one that it allows: 0, or 5 with the first step that there is not, or
+// that fails it. Where it is refused, the turns are 0.
+#[no_mangle]
+pub extern "C" fn zilpanud_turns_of_path(
+    words: &[u64],
+    path: &[u64],
+    turns: &mut u64,
+    detail: &mut u64,
+) -> u64
+    ensures code { λ r. ⌜ r ≡ alongCode (following (now (words .entry)) (now (path .entry))) ⌝ }
+    ensures turns { λ r. ⌜ now (turns .exit) ≡ alongTurns (following (now (words .entry)) (now (path .entry))) ⌝ }
+    ensures detail { λ r. ⌜ now (detail .exit) ≡ alongStep (following (now (words .entry)) (now (path .entry))) ⌝ }
+{
+    let a = edition::turns_of_path(words, path);
+    *turns = needs::codes::along_turns(a);
+    *detail = needs::codes::along_step(a);
+    needs::codes::along_code(a)
+}
+
+// The fewest turns and the most that a section needs from a step on: 0, or 4 to 9, with the step; 5 where there is no such step. Where it is
+// refused, both are 0.
+#[no_mangle]
+pub extern "C" fn zilpanud_turns_from(
+    words: &[u64],
+    step: u64,
+    fewest: &mut u64,
+    most: &mut u64,
+    detail: &mut u64,
+) -> u64
+    ensures code { λ r. ⌜ r ≡ neededCode (needing (now (words .entry)) step) ⌝ }
+    ensures fewest { λ r. ⌜ now (fewest .exit) ≡ neededFewest (needing (now (words .entry)) step) ⌝ }
+    ensures most { λ r. ⌜ now (most .exit) ≡ neededMost (needing (now (words .entry)) step) ⌝ }
+    ensures detail { λ r. ⌜ now (detail .exit) ≡ neededStep (needing (now (words .entry)) step) ⌝ }
+{
+    let a = edition::turns_from(words, step as usize);
+    *fewest = needs::codes::needed_fewest(a);
+    *most = needs::codes::needed_most(a);
+    *detail = needs::codes::needed_step(a);
+    needs::codes::needed_code(a)
 }
 
 // Submits a section for a worker: 0, or 10, 1, 2, 3 and 4 to 9, the last with the step.
@@ -241,10 +283,29 @@ pub extern "C" fn zilpanud_standing(
     edition::asked(image, worker)
 }
 
+// The fewest turns and the most that a worker's section still needs after a recovery: 0, or 10, 1, and 12 where its record is not sound. Both are 0
+// where none is begun, and where it is refused.
+#[no_mangle]
+pub extern "C" fn zilpanud_turns_left(
+    image: &[u64],
+    worker: usize,
+    fewest: &mut u64,
+    most: &mut u64,
+) -> u64
+    ensures code { λ r. ⌜ r ≡ leftCode (stillNeeding (now (image .entry)) worker) ⌝ }
+    ensures fewest { λ r. ⌜ now (fewest .exit) ≡ leftFewest (stillNeeding (now (image .entry)) worker) ⌝ }
+    ensures most { λ r. ⌜ now (most .exit) ≡ leftMost (stillNeeding (now (image .entry)) worker) ⌝ }
+{
+    let a = edition::turns_left(image, worker);
+    *fewest = needs::codes::left_fewest(a);
+    *most = needs::codes::left_most(a);
+    needs::codes::left_code(a)
+}
+
 // Which library this is: 1,000,000 × its major version, 1,000 × its minor one, and its patch.
 #[no_mangle]
 pub extern "C" fn zilpanud_version() -> u64
     ensures { λ r. ⌜ r ≡ version ⌝ }
 {
-    4_000
+    5_000
 }

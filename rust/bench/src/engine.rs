@@ -7,6 +7,10 @@ pub trait Engine {
     fn format(image: &mut [u64], workers: u64) -> Self::Places;
     fn check(section: &[u64]);
     fn held_sets(section: &[u64]) -> [u64; 64];
+    fn turns_of_path(section: &[u64], path: &[u64]) -> u64;
+    /// The fewest and the most.
+    fn turns_from(section: &[u64], step: u64) -> (u64, u64);
+    fn turns_left(image: &mut [u64], worker: usize) -> (u64, u64);
     fn submit(image: &mut [u64], places: &mut Self::Places, worker: usize, number: u64, section: &[u64]);
     /// Whether the worker was not idle.
     fn turn(image: &mut [u64], places: &mut Self::Places, worker: usize) -> bool;
@@ -33,6 +37,20 @@ impl Engine for Ours {
 
     fn held_sets(section: &[u64]) -> [u64; 64] {
         zilpanud::held_sets(section).unwrap()
+    }
+
+    fn turns_of_path(section: &[u64], path: &[u64]) -> u64 {
+        zilpanud::turns_of_path(section, path).unwrap()
+    }
+
+    fn turns_from(section: &[u64], step: u64) -> (u64, u64) {
+        let zilpanud::Needs { fewest, most } = zilpanud::turns_from(section, step).unwrap();
+        (fewest, most)
+    }
+
+    fn turns_left(image: &mut [u64], worker: usize) -> (u64, u64) {
+        let zilpanud::Needs { fewest, most } = zilpanud::turns_left(image, worker).unwrap();
+        (fewest, most)
     }
 
     fn submit(image: &mut [u64], places: &mut Self::Places, worker: usize, number: u64, section: &[u64]) {
@@ -69,6 +87,18 @@ impl Engine for Twin {
 
     fn held_sets(section: &[u64]) -> [u64; 64] {
         twin::held_sets(section).unwrap()
+    }
+
+    fn turns_of_path(section: &[u64], path: &[u64]) -> u64 {
+        twin::turns::turns_of_path(section, path).unwrap()
+    }
+
+    fn turns_from(section: &[u64], step: u64) -> (u64, u64) {
+        twin::turns::turns_from(section, step).unwrap()
+    }
+
+    fn turns_left(image: &mut [u64], worker: usize) -> (u64, u64) {
+        twin::turns::turns_left(image, worker as u64).unwrap()
     }
 
     fn submit(image: &mut [u64], places: &mut Self::Places, worker: usize, number: u64, section: &[u64]) {

@@ -81,7 +81,23 @@ fn moves() -> Vec<Row> {
 }
 
 pub fn against_twin() -> Vec<Row> {
-    [turns(), runs(), checks(), whole_images(), moves()].into_iter().flatten().collect()
+    [turns(), runs(), checks(), counts(), whole_images(), moves()].into_iter().flatten().collect()
+}
+
+fn counts() -> Vec<Row> {
+    let path = |name, section| row(name, "path", Work::TurnsOfPath { section });
+    let from = |name, section| row(name, "question", Work::TurnsFrom { section });
+    let left = |name, sections, rounds| row(name, "question", Work::TurnsLeft { sections, rounds });
+    vec![
+        path("turns of a path, all 64 steps, sums", sums(3, 64)),
+        path("turns of a path, all 64 steps, acquires and releases", locks()),
+        from("turns from step 0, 64 steps full of jumps", jumps(64)),
+        from("turns from step 0, 64 steps, sums", sums(3, 64)),
+        // a turn a round: seven acquires and the first sum
+        left("turns left, 64 steps, 48 jumps ahead", (0..8).map(seven_locks_jumps).collect(), 46),
+        left("turns left, 64 steps, 48 sums ahead", (0..8).map(seven_locks).collect(), 46),
+        left("turns left, idle worker", vec![], 0),
+    ]
 }
 
 /// The same turns on images of more workers and in longer sections, and the same check a step of longer sections.

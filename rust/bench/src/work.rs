@@ -33,6 +33,19 @@ pub enum Work {
     HeldSets {
         section: Vec<u64>,
     },
+    /// The turns of the path of all steps.
+    TurnsOfPath {
+        section: Vec<u64>,
+    },
+    /// The turns from step 0 on.
+    TurnsFrom {
+        section: Vec<u64>,
+    },
+    /// The turns left of worker 0, in an image in which each section has made so many turns.
+    TurnsLeft {
+        sections: Vec<Vec<u64>>,
+        rounds: u16,
+    },
     Submit {
         section: Vec<u64>,
     },
@@ -159,14 +172,24 @@ where
     })
 }
 
-fn recover<E: Engine>(sections: Vec<Vec<u64>>, rounds: u16) -> Side
-where
-    E::Places: 'static,
-{
-    let (mut image, mut places) = submitted::<E>(8, &sections);
+/// An image of eight workers in which each section has made so many turns.
+fn under_way<E: Engine>(sections: &[Vec<u64>], rounds: u16) -> Vec<u64> {
+    let (mut image, mut places) = submitted::<E>(8, sections);
     E::run(&mut image, &mut places, rounds);
-    side(image, |image| {
+    image
+}
+
+fn recover<E: Engine>(sections: Vec<Vec<u64>>, rounds: u16) -> Side {
+    side(under_way::<E>(&sections, rounds), |image| {
         black_box(E::recover(image));
+        1
+    })
+}
+
+fn turns_of_path<E: Engine>(section: Vec<u64>) -> Side {
+    let path: Vec<u64> = (0..section.len() as u64).collect();
+    side(vec![], move |_| {
+        black_box(E::turns_of_path(black_box(&section), black_box(&path)));
         1
     })
 }
@@ -200,6 +223,15 @@ impl Work {
             }),
             Work::HeldSets { section } => side(vec![], move |_| {
                 black_box(&E::held_sets(black_box(&section)));
+                1
+            }),
+            Work::TurnsOfPath { section } => turns_of_path::<E>(section),
+            Work::TurnsFrom { section } => side(vec![], move |_| {
+                black_box(E::turns_from(black_box(&section), 0));
+                1
+            }),
+            Work::TurnsLeft { sections, rounds } => side(under_way::<E>(&sections, rounds), |image| {
+                black_box(E::turns_left(image, 0));
                 1
             }),
             Work::Submit { section } => submit::<E>(section),

@@ -65,7 +65,7 @@ fn of_ours<T>(result: Result<T, zilpanud::Refusal>, told: impl Fn(T) -> (u64, u6
     }
 }
 
-fn told_turn(answer: Turn) -> (u64, u64) {
+pub fn told_turn(answer: Turn) -> (u64, u64) {
     match answer {
         Turn::Stored(index) => (16, index as u64),
         Turn::Passed(Passing::Jump) => (17, 0),

@@ -1,18 +1,25 @@
 //! Random lists of calls on the library and on the twin, compared after every call: the image word for word, the
-//! answer, the cursors, the locks held, the stores left and the tally; and of every section its held sets. See usage().
+//! answer, the cursors, the locks held, the stores left and the tally; of every section its held sets and its turns, of
+//! images the turns left; and sections are followed to their end, and their turns counted. See usage().
 
+mod asking;
 mod call;
+mod counts;
 mod damage;
 mod draw;
+mod follow;
 mod met;
 mod passes;
 mod rng;
 mod sections;
+mod turns;
 
+use asking::Asking;
 use call::{Call, Given, Lent};
 use met::Met;
 use rng::Rng;
 use std::env;
+use std::mem::take;
 use std::process::exit;
 
 const LISTS: u64 = 100_000;
@@ -39,10 +46,11 @@ struct Difference {
     owned: Option<u64>,
 }
 
-/// What differs: what a call gives, or what a section's held sets are.
+/// What differs: what a call gives, what a section's held sets are or how many turns it needs, or what it took.
 enum Found {
     Call(Box<Difference>),
     Pass(Box<passes::Difference>),
+    Turns(asking::Difference),
 }
 
 impl From<Box<Difference>> for Found {
@@ -54,6 +62,12 @@ impl From<Box<Difference>> for Found {
 impl From<Box<passes::Difference>> for Found {
     fn from(pass: Box<passes::Difference>) -> Found {
         Found::Pass(pass)
+    }
+}
+
+impl From<asking::Difference> for Found {
+    fn from(turns: asking::Difference) -> Found {
+        Found::Turns(turns)
     }
 }
 
@@ -104,6 +118,7 @@ struct Play<'a> {
     workers: u64,
     /// Whether the call before was cut and the next one is to be a recovery.
     was_cut: bool,
+    asking: Asking,
 }
 
 impl Play<'_> {
@@ -114,7 +129,7 @@ impl Play<'_> {
     }
 
     /// The call with every number of stores from 0 to all, each on copies of the image.
-    fn sweep(&mut self, call: &Call) -> Result<(), Box<Difference>> {
+    fn sweep(&mut self, call: &Call) -> Result<(), Found> {
         let stores = self.stores(call);
         if stores == 0 || stores > 150 && self.r.chance(97) {
             return Ok(());
@@ -124,6 +139,8 @@ impl Play<'_> {
             mine.copy_from_slice(&self.mine);
             other.copy_from_slice(&self.other);
             both(call, &mut mine, &mut other, Lent { left, ..self.lent })?;
+            self.asking.one(&mine, &mut other)?;
+            self.asking.flipped(&mut mine, &mut other)?;
         }
         self.met.swept += 1;
         self.met.sweeps += stores + 1;
@@ -131,7 +148,7 @@ impl Play<'_> {
     }
 
     /// The call on an image that is some words shorter or longer, which then goes away.
-    fn another_length(&mut self, call: &Call) -> Result<(), Box<Difference>> {
+    fn another_length(&mut self, call: &Call) -> Result<(), Found> {
         let len = self.mine.len();
         let lens = [len - 1, len + 1, len - 82, len + 82, 0, 1, 7, 8, 583, 584];
         let len = self.r.pick(&lens);
@@ -139,28 +156,34 @@ impl Play<'_> {
         mine.resize(len, 0);
         other.resize(len, 0);
         let given = both(call, &mut mine, &mut other, self.lent)?;
+        self.asking.one(&mine, &mut other)?;
         self.met.odd_lengths += 1;
         self.met.call(call, &given, false, 9);
         Ok(())
     }
 
     /// Damage, odd cursors and odd masks before a call.
-    fn disturb(&mut self, manner: Manner) {
+    fn disturb(&mut self, manner: Manner) -> Result<(), Found> {
         while self.r.chance(manner.damages) {
             if let Some((sort, (index, word))) = damage::drawn(&mut self.r, &self.mine, manner.only_owners) {
                 self.mine[index] = word;
                 self.other[index] = word;
                 self.met.damages[sort] += 1;
+                self.asking.unfollow();
+                self.asking.all(&self.mine, &mut self.other)?;
             }
         }
         if self.r.chance(manner.odd_cursors) {
             draw::odd_cursors(&mut self.r, &mut self.lent);
             self.met.odd_cursors += 1;
+            self.asking.unfollow();
         }
         if self.r.chance(manner.odd_cursors) {
             draw::odd_mask(&mut self.r, &mut self.lent);
             self.met.odd_masks += 1;
+            self.asking.unfollow();
         }
+        Ok(())
     }
 
     /// Compares the mask that a call left with the owner words, where it must be theirs. With no store left, the call
@@ -201,7 +224,7 @@ impl Play<'_> {
     }
 
     fn next(&mut self, manner: Manner) -> Result<(), Found> {
-        self.disturb(manner);
+        self.disturb(manner)?;
         let again = self.was_cut && self.r.chance(90);
         let call = match again {
             true => Call::Recover,
@@ -209,6 +232,7 @@ impl Play<'_> {
         };
         if let Call::Check { section } | Call::Submit { section, .. } = &call {
             self.met.pass(&passes::compared(section)?);
+            self.asking.section(section)?;
         }
         if self.r.chance(1) {
             self.another_length(&call)?;
@@ -217,16 +241,25 @@ impl Play<'_> {
             self.sweep(&call)?;
         }
         self.lent.left = self.left(&call);
-        let (before, kind) = (self.lent.left, self.kind(&call));
+        self.asking.before(&call, self.was_cut, &self.mine);
+        let given = self.made(&call)?;
+        let images = (&self.mine[..], &mut self.other[..]);
+        self.asking.after(&call, (self.lent, &given), self.was_cut, images)?;
+        self.lent = given.lent;
+        Ok(())
+    }
+
+    /// Makes the call on both.
+    fn made(&mut self, call: &Call) -> Result<Given, Box<Difference>> {
+        let (before, kind) = (self.lent.left, self.kind(call));
         let was_theirs = self.lent.held == owned(&self.mine);
-        let given = both(&call, &mut self.mine, &mut self.other, self.lent)?;
+        let given = both(call, &mut self.mine, &mut self.other, self.lent)?;
         // with none left one cannot tell whether a store was wanted: taken for a cut where the call stores at all
         let stores = matches!(given.answer, 0 | 16 | 20) && call.sort() < 6 && call.sort() != 1;
         self.was_cut = stores && before != u64::MAX && given.lent.left == 0;
-        self.met.call(&call, &given, self.was_cut, kind);
-        self.compare(&call, &given, was_theirs)?;
-        self.lent = given.lent;
-        Ok(())
+        self.met.call(call, &given, self.was_cut, kind);
+        self.compare(call, &given, was_theirs)?;
+        Ok(given)
     }
 }
 
@@ -248,14 +281,18 @@ fn list(seed: u64, number: u64, met: &mut Met) -> Result<(), (u64, Found)> {
     let image = vec![fill; twin::HEAD + twin::REC * workers as usize];
     let lent = Lent { step: [fill as u8; 8], turn: [!fill as u8; 8], held: !fill, left: u64::MAX };
     let (mine, other) = (image.clone(), image);
-    let mut play = Play { r, met, mine, other, lent, workers, was_cut: false };
+    let asking = Asking::new(Rng::of_list(!seed, number), workers as usize, take(&mut met.turns));
+    let mut play = Play { r, met, mine, other, lent, workers, was_cut: false, asking };
     let first = both(&Call::Format { workers }, &mut play.mine, &mut play.other, lent);
     play.lent = first.map_err(|d| (0, d.into()))?.lent;
-    for n in 1..=calls {
-        play.next(manner).map_err(|d| (n, d))?;
+    let mut played = (1..=calls).try_for_each(|n| play.next(manner).map_err(|d| (n, d)));
+    if played.is_ok() {
+        let settled = play.asking.settle(&mut play.mine, play.lent, play.was_cut);
+        played = settled.map_err(|d| (calls + 1, d.into()));
     }
-    met.lists += 1;
-    Ok(())
+    met.turns = play.asking.counted();
+    met.lists += played.is_ok() as u64;
+    played
 }
 
 fn tell(seed: u64, list: u64, call: u64, found: &Found) {
@@ -264,6 +301,7 @@ fn tell(seed: u64, list: u64, call: u64, found: &Found) {
     match found {
         Found::Call(difference) => tell_call(difference),
         Found::Pass(difference) => passes::tell(difference),
+        Found::Turns(difference) => println!("{difference}"),
     }
 }
 

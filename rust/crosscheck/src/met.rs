@@ -1,6 +1,7 @@
 //! What was tried: counts, so that one sees that nothing is missing.
 
 use crate::call::{Call, Given, SORTS};
+use crate::counts::Counts;
 use crate::damage::DAMAGES;
 use crate::passes::Pass;
 
@@ -55,6 +56,8 @@ pub struct Met {
     /// Held sets of sections: refused, by the answer, and given, by the check's answer.
     sets_refused: [u64; 6],
     sets_given: [u64; 10],
+    /// What was compared of turns.
+    pub turns: Counts,
 }
 
 impl Met {
@@ -115,6 +118,7 @@ impl Met {
         let given = given.filter(|&&n| self.sets_given[n] == 0);
         lines.extend(refused.map(|n| format!("no held sets were refused with {n}")));
         lines.extend(given.map(|n| format!("no held sets were given where the check answers {n}")));
+        lines.extend(self.turns.missing());
         lines
     }
 
@@ -164,6 +168,7 @@ impl Met {
         let (masks, holding, most) = (self.masks, self.holding, self.most_held);
         println!("masks compared with the owner words: {masks}; with locks held: {holding}, {most} at most");
         self.sets();
+        self.turns.report();
     }
 
     fn sets(&self) {

@@ -75,6 +75,18 @@ pub enum Standing {
     Finished,
 }
 
+/// How many turns a section needs up to its end, the last turn of its finish included. Turns that wait come on top.
+///
+/// Which way a jump (document 01's skip) goes is not known before it is made, so there are two numbers, over both ways
+/// of each. Where no jump lies ahead, they are the same.
+#[derive(Clone, Copy, PartialEq, Eq, Hash, Debug)]
+pub struct Needs {
+    /// With the jumps that go the shortest way.
+    pub fewest: u64,
+    /// With those that go the longest.
+    pub most: u64,
+}
+
 /// Where all workers stand (document 01's working record): a step and a turn for each, and beside them the locks held.
 /// It is not in the image, and a cut loses it.
 #[derive(Clone, Copy, PartialEq, Eq, Hash, Debug)]

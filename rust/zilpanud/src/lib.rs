@@ -56,7 +56,9 @@
 //! # Ok::<(), zilpanud::Refusal>(())
 //! ```
 //!
-//! [`check`] tests a section by itself, and [`held_sets`] says which locks are held before each of its steps.
+//! [`check`] tests a section by itself, and [`held_sets`] says which locks are held before each of its steps. For a
+//! timetable, [`turns_from`] says how many turns it needs from a step on, [`turns_left`] how many after a recovery, and
+//! [`turns_of_path`] how many it takes where the steps that it goes through are known.
 //!
 //! [`cut`] has the calls that store once more, with the number of stores that they may still make: so tests cut them.
 //!
@@ -75,13 +77,15 @@ pub mod code;
 pub mod cut;
 mod raw;
 mod refusal;
+mod turns;
 
-pub use answers::{Cursors, End, Passing, Run, Standing, Tally, Turn};
+pub use answers::{Cursors, End, Needs, Passing, Run, Standing, Tally, Turn};
 #[cfg(all(unix, target_pointer_width = "64"))]
 pub use board::{Board, BoardError};
 pub use calls::{check, finished, format, held_sets, is_idle, recover, run, standing, submit, turn};
 pub use code::instruction;
 pub use refusal::{Cause, Refusal, RefusedRun};
+pub use turns::{turns_from, turns_left, turns_of_path};
 
 /// An image has 1 to 8 workers.
 pub const WORKERS: usize = 8;
@@ -96,7 +100,7 @@ pub const LOCKS: usize = 64;
 pub const STEPS: usize = 64;
 
 /// The version of the library that this crate was written for, as [`version`] says it.
-pub const VERSION: u64 = 4_000;
+pub const VERSION: u64 = 5_000;
 
 /// The version of the library that is linked: 1,000,000 × major + 1,000 × minor + patch.
 pub fn version() -> u64 {

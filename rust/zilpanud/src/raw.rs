@@ -2,8 +2,8 @@
 //! them the same as `include/zilpanud.h`.
 //!
 //! What a caller owes: a pointer and its length name that many words, and no two pointers of a call name the same
-//! memory (only args and words, which are read alone, may). With a length of 0 the pointer is not read, and any pointer
-//! that is not null and is aligned to 8 will do; that of an empty slice is so.
+//! memory (only args, words and path, which are read alone, may). With a length of 0 the pointer is not read, and any
+//! pointer that is not null and is aligned to 8 will do; that of an empty slice is so.
 
 unsafe extern "C" {
     pub safe fn zilpanud_version() -> u64;
@@ -20,6 +20,22 @@ unsafe extern "C" {
     pub fn zilpanud_check(words: *const u64, count: usize, detail: *mut u64) -> u64;
     pub fn zilpanud_held_sets(words: *const u64, count: usize, sets: *mut [u64; 64], detail: *mut u64)
         -> u64;
+    pub fn zilpanud_turns_of_path(
+        words: *const u64,
+        count: usize,
+        path: *const u64,
+        path_len: usize,
+        turns: *mut u64,
+        detail: *mut u64,
+    ) -> u64;
+    pub fn zilpanud_turns_from(
+        words: *const u64,
+        count: usize,
+        step: u64,
+        fewest: *mut u64,
+        most: *mut u64,
+        detail: *mut u64,
+    ) -> u64;
     pub fn zilpanud_submit(
         image: *mut u64,
         len: usize,
@@ -79,5 +95,12 @@ unsafe extern "C" {
         worker: usize,
         number: u64,
         answer: *mut u64,
+    ) -> u64;
+    pub fn zilpanud_turns_left(
+        image: *const u64,
+        len: usize,
+        worker: usize,
+        fewest: *mut u64,
+        most: *mut u64,
     ) -> u64;
 }

@@ -16,7 +16,8 @@ pub enum Cause {
     Number,
     /// 4: a section has 3 to 64 instructions.
     Length,
-    /// 5: an instruction of unknown kind, or a field outside its range or position.
+    /// 5: an instruction of unknown kind, or a field outside its range or position; of
+    /// [`turns_of_path`](crate::turns_of_path) and [`turns_from`](crate::turns_from) also a number that is no step's.
     Malformed {
         /// Which instruction of the section, from 0.
         step: usize,
@@ -131,7 +132,7 @@ impl Cause {
             Cause::Busy => "make turns or a run until it is idle",
             Cause::Number => "give one above it",
             Cause::Length => "give 3 to 64",
-            Cause::Malformed { .. } => "build it with the functions of `code`",
+            Cause::Malformed { .. } => "name one that is there, built with the functions of `code`",
             Cause::Unbracketed { .. } => "acquire first, hold a lock up to the finish and none at it",
             Cause::Unordered { .. } => "acquire in rising order, and release what is held",
             Cause::Unguarded { .. } => "acquire lock cell / 8 before it",
@@ -154,7 +155,7 @@ impl fmt::Display for Cause {
             Cause::Number => write!(f, "the number is not above the last one that the worker finished"),
             Cause::Length => write!(f, "the number of instructions is wrong"),
             Cause::Malformed { step } => {
-                write!(f, "step {step} is of unknown kind, or has a field outside its range or position")
+                write!(f, "step {step} is not there, is of unknown kind, or has a field outside its range or position")
             }
             Cause::Unbracketed { step } => {
                 write!(f, "step {step} stands where no lock is held, or finishes with one held")

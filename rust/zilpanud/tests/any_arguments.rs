@@ -35,6 +35,7 @@ fn all_calls(image: &mut [u64], worker: usize) {
         let _ = zilpanud::is_idle(image, &at, worker);
         let _ = zilpanud::finished(image, worker);
     }
+    let _ = zilpanud::turns_left(image, worker);
     let _ = zilpanud::recover(image);
     let _ = zilpanud::format(image, worker);
 }
@@ -61,6 +62,7 @@ fn an_empty_image_is_refused() {
     assert_eq!(zilpanud::is_idle(image, at, 0), Err(no));
     assert_eq!(zilpanud::finished(image, 0), Err(no));
     assert_eq!(zilpanud::standing(image, 0, 1), Err(no));
+    assert_eq!(zilpanud::turns_left(image, 0), Err(no));
     assert_eq!(cut::recover(image, at, &mut { ENOUGH }), Err(no));
     assert_eq!(*at, Cursors::IDLE);
 }
@@ -72,6 +74,11 @@ fn sections() {
             let section = vec![word; len];
             assert!(zilpanud::check(&section).is_err());
             assert!(zilpanud::held_sets(&section).is_err());
+            for number in NUMBERS {
+                assert!(zilpanud::turns_from(&section, number).is_err());
+                let _ = zilpanud::turns_of_path(&section, &[number; 3]);
+            }
+            let _ = zilpanud::turns_of_path(&section, &section);
             assert!(World::formatted(1).submit(0, 1, &section).is_err());
         }
     }
@@ -105,5 +112,7 @@ fn fields_out_of_range_are_refused() {
         let section = [acquire(3), word, release(3), finish()];
         assert_eq!(zilpanud::check(&section), Err(Refusal(Cause::Malformed { step: 1 })));
         assert_eq!(zilpanud::held_sets(&section), Err(Refusal(Cause::Malformed { step: 1 })));
+        assert_eq!(zilpanud::turns_from(&section, 0), Err(Refusal(Cause::Malformed { step: 1 })));
+        assert_eq!(zilpanud::turns_of_path(&section, &[0, 1]), Err(Refusal(Cause::Malformed { step: 1 })));
     }
 }

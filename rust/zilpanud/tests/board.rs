@@ -5,7 +5,7 @@ mod common;
 use common::{Folder, FINISHED, TICKET};
 use std::fs;
 use std::path::Path;
-use zilpanud::{Board, Cause, End, Refusal, Run, Standing, Tally, Turn};
+use zilpanud::{Board, Cause, End, Needs, Refusal, Run, Standing, Tally, Turn};
 
 const NO_ARGS: [u64; 8] = [0; 8];
 
@@ -44,6 +44,7 @@ fn a_section_from_submit_to_finish() {
     assert_eq!((board.is_idle(1), board.owner(3), board.locks_held()), (Ok(false), Some(1), 1));
     assert_eq!(board.run(3).unwrap().end, End::Spent);
     assert_eq!(board.standing(1, 4), Ok(Standing::Begun));
+    assert_eq!(board.turns_left(1), Ok(Needs { fewest: 14, most: 14 }));
     let tally = Tally { turns: 14, waits: 0, stores: 14, already_free: 0, others: 0 };
     assert_eq!(board.run_to_idle(), Ok(Run { end: End::AllIdle, tally }));
     assert_eq!((board.is_idle(1), board.owner(3), board.cell(24)), (Ok(true), None, Some(5)));
@@ -114,6 +115,7 @@ fn workers_that_the_board_has_not() {
         assert_eq!(board.is_idle(worker), Err(no));
         assert_eq!(board.finished(worker), Err(no));
         assert_eq!(board.standing(worker, 1), Err(no));
+        assert_eq!(board.turns_left(worker), Err(no));
     }
 }
 

@@ -35,6 +35,7 @@ fn cause_1_worker() {
         assert_eq!(world.turn(worker), refused(Cause::Worker));
         assert_eq!(zilpanud::finished(&world.image, worker), refused(Cause::Worker));
         assert_eq!(zilpanud::standing(&world.image, worker, 1), refused(Cause::Worker));
+        assert_eq!(zilpanud::turns_left(&world.image, worker), refused(Cause::Worker));
         let idle = zilpanud::is_idle(&world.image, &world.at, worker);
         assert_eq!(idle, refused(Cause::Worker));
     }
@@ -165,6 +166,7 @@ fn cause_10_image() {
         assert_eq!(zilpanud::is_idle(image, at, 0), refused(no));
         assert_eq!(zilpanud::finished(image, 0), refused(no));
         assert_eq!(zilpanud::standing(image, 9, 0), refused(no));
+        assert_eq!(zilpanud::turns_left(image, 9), refused(no));
         assert_eq!(*at, ODD);
         assert_eq!(cut::recover(image, at, left), refused(no));
         assert_eq!(*at, Cursors::IDLE);

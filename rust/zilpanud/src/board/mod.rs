@@ -7,7 +7,7 @@ mod mapping;
 pub use error::BoardError;
 
 use crate::{cell_index, image_len, owner_index, CELLS, LOCKS, WORKERS};
-use crate::{Cursors, Refusal, RefusedRun, Run, Standing, Turn};
+use crate::{Cursors, Needs, Refusal, RefusedRun, Run, Standing, Turn};
 use mapping::Mapping;
 use std::fs::File;
 use std::path::Path;
@@ -192,6 +192,13 @@ impl Board {
     /// that follow one another, each one above the last finished, every section is carried out once.
     pub fn standing(&self, worker: usize, number: u64) -> Result<Standing, Refusal> {
         crate::standing(self.image.words(), worker, number)
+    }
+
+    /// How many turns a worker's begun section needs after a recovery: asked right after [`open`](Board::open), which
+    /// recovers, what is left to be done. See [`turns_left`](crate::turns_left), also for what it says at another
+    /// moment. Refuses with cause 1, then 12, which it has only where something else changes the file.
+    pub fn turns_left(&self, worker: usize) -> Result<Needs, Refusal> {
+        crate::turns_left(self.image.words(), worker)
     }
 
     /// The 512 cells.

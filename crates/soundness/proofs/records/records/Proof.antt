@@ -1,145 +1,27 @@
--- `soundness::records::records` meets its contract. The loop's invariant: the first worker from d on whose record is not sound
--- is the first of all, and the array has the owed sets of the first d workers.
-use Prim.Native.Nat.{_-_, _≤_, _<_}
+-- `soundness::records::records` meets its contract: all records are those from worker 0 to the last.
 use borrow.Author.Needs.{needs}
-use borrow.Author.Tests.{not-true, not-false}
-use mathlib.Core.Bool.{false≢true}
-use mathlib.Core.Path.{_≡_, refl, sym, ap, _∙_}
+use mathlib.Core.Path.{refl}
 use native.Mathlib.Omega.{arith}
 use denote.Ref.{now}
-use lib.ListN.{length}
 use Rattle.base.proofs.Counting.{left-all}
-use Rattle.image.specs.Image.{at, workers}
-use Rattle.soundness.specs.inner.Tests.{byRecord}
-use Rattle.soundness.specs.Sound.{eight, unsound}
-use Rattle.soundness.specs.inner.Reading.{owedAt}
-use Rattle.soundness.proofs.Legible.{unsound-on, unsound-here, unsound-none}
-use Rattle.soundness.proofs.Sets.{owed-next}
+use Rattle.image.specs.Image.{workers}
 use Rattle.soundness.proofs.records.records.Statement.{statement}
 use Rattle.soundness.proofs.records.records.Tie as tie
 
-abbrev Inv-loop : tie.InvT-loop
-Inv-loop image own n sets₀ held₀ d₀ sets held d =
-    (d ≤ n) × (byRecord (unsound own (at own image) (workers image) d (workers image - d)) ≡ byRecord
-    (unsound own (at own image) (workers image) 0 (workers image)))
-    × (sets ≡ eight (owedAt own (at own image) d)) × (length held ≡ 64)
-
-abbrev μ-loop : tie.MeasureT-loop
-μ-loop image own n sets₀ held₀ d₀ sets held d = n - d
-
-workers-requires : tie.Need-workers-requires Inv-loop μ-loop
+workers-requires : tie.Need-workers-requires
 workers-requires c κs = search needs
 
-loop-holds : tie.Need-loop-holds Inv-loop μ-loop
-loop-holds c = (omega arith, rw (left-all (workers (now (c .before .before .args .image)))), refl, refl)
+judged-requires : tie.Need-judged-requires
+judged-requires c κs =
+    let S = c .before .before in
+    (S .pre .0, S .pre .1, S .pre .2, omega arith, omega (arith, c .workers .ensures))
 
-slice-aggregate-sound : tie.Need-slice-aggregate-sound Inv-loop μ-loop
-slice-aggregate-sound c = sym (c .before .before .loop .inv .3)
-
-sound-requires : tie.Need-sound-requires Inv-loop μ-loop
-sound-requires c κs =
-    let S = c .before .before .before .before .before in
-    let L = c .before .before .loop in (
-      record {
-        few = S .pre .0;
-        below = omega (arith, c .before .before .before .workers .ensures, c .before .loop-test .taken);
-        most = S .pre .1;
-        whole = S .pre
-            .2;
-      },
-      omega (arith, L .inv .3),
-    )
-
-returns : tie.Need-returns Inv-loop μ-loop
+returns : tie.Need-returns
 returns c =
-    let S = c .before .before .before .before .before .before .before .before .before in
-    let A = S .args in
-    let L = c .before .before .before .before .before .before .loop in
-    let D = workers (now (A .image)) in
-    let rd = at (A .own) (now (A .image)) in
-    let s = c .before .before .before .sound in
-    let no = not-true (s .result .ok) (c .if1 .taken) in
-    let h : L .d < D = omega (
-      arith,
-      c .before .before .before .before .before .before .before .workers .ensures,
-      c .before .before .before .before .before
-          .loop-test .taken,
-    ) in
-    (sym (ap byRecord (unsound-here (A .own) rd D (L .d) h (sym (s .ensures .0) ∙ no))) ∙ L .inv .1, λ e. absurd (false≢true e))
-
-mul-sets : tie.Need-mul-sets Inv-loop μ-loop
-mul-sets c =
-    omega (
-      arith,
-      c .before .before .before .before .before .before .before .workers .ensures,
-      c .before .before .before .before .before .before .before .before
-          .before .pre .1,
-      c .before .before .before .before .before .loop-test .taken,
-    )
-
-array-write-sets : tie.Need-array-write-sets Inv-loop μ-loop
-array-write-sets c =
-    omega (
-      arith,
-      c .before .before .before .before .before .before .before .workers .ensures,
-      c .before .before .before .before .before .before .before .before
-          .before .pre .1,
-      c .before .before .before .before .before .loop-test .taken,
-    )
-
-add-d : tie.Need-add-d Inv-loop μ-loop
-add-d c = omega arith
-
-loop-less : tie.Need-loop-less Inv-loop μ-loop
-loop-less c = omega arith
-
-loop-again : tie.Need-loop-again Inv-loop μ-loop
-loop-again c =
-    let S = c .before .before .before .before .before .before .before .before .before in
-    let A = S .args in
-    let L = c .before .before .before .before .before .before .loop in
-    let D = workers (now (A .image)) in
-    let rd = at (A .own) (now (A .image)) in
-    let s = c .before .before .before .sound in
-    let yes = not-false (s .result .ok) (c .if1 .left) in
-    let h : L .d < D = omega (
-      arith,
-      c .before .before .before .before .before .before .before .workers .ensures,
-      c .before .before .before .before .before
-          .loop-test .taken,
-    ) in
-    let g : L .d < 8 = omega (arith, h, S .pre .1) in (
-      omega (arith, c .before .before .before .before .before .loop-test .taken),
-      sym (ap byRecord (unsound-on (A .own) rd D (L .d) h (sym (s .ensures .0) ∙ yes))) ∙ L .inv .1,
-      owed-next (A .own) rd D (L .sets) (L .d) (s .result .owed) g (L .inv .2) (s .ensures .1 yes),
-      s .kept .1 .1 .1 .0 ∙ L .inv .3,
-    )
-
-returns-2 : tie.Need-returns-2 Inv-loop μ-loop
-returns-2 c =
-    let S = c .before .before .before .before in
-    let A = S .args in
-    let L = c .before .loop in
-    let D = workers (now (A .image)) in
-    let rd = at (A .own) (now (A .image)) in
-    let e : L .d ≡ D = omega (arith, c .before .before .workers .ensures, L .inv .0, c .loop-test .left) in
-    let h : D ≤ L .d = omega (arith, e) in
-    (sym (ap byRecord (unsound-none (A .own) rd D (L .d) h)) ∙ L .inv .1, λ done. rw e at (L .inv .2))
+    let D = workers (now (c .before .before .before .args .image)) in
+    let w = c .before .workers .ensures in
+    let j = c .judged .ensures in
+    ((rw (w, left-all D) at (j .0)), λ e. rw w at (j .1 e refl))
 
 pub records-spec : {M : Type 1} → statement M
-records-spec =
-    tie.close
-    (tie.spec
-    Inv-loop
-    μ-loop
-    workers-requires
-    loop-holds
-    slice-aggregate-sound
-    sound-requires
-    returns
-    mul-sets
-    array-write-sets
-    add-d
-    loop-less
-    loop-again
-    returns-2)
+records-spec = tie.close (tie.spec workers-requires judged-requires returns)

@@ -3,6 +3,7 @@ use crate::calls::{tally, word, Call, Made, Told};
 use crate::digest::Digest;
 use crate::reading::{first, number, numbers, section, words};
 use std::fmt::Write;
+use twin::turns::*;
 use twin::*;
 
 /// The most words of an image, and of a section.
@@ -182,7 +183,7 @@ impl Script {
             self.call(call, u64::MAX);
             return Some(());
         }
-        self.changed(verb, v).or_else(|| self.shown(verb, v))
+        self.changed(verb, v).or_else(|| self.shown(verb, v)).or_else(|| self.needed(verb, v))
     }
     /// A change of the image, the record, the section or the arguments; or a list played.
     pub fn changed(&mut self, verb: &str, v: &[u64]) -> Option<()> {
@@ -241,6 +242,18 @@ impl Script {
             }
             _ => return None,
         }
+        Some(())
+    }
+    /// The turns to the end: of the section along a path or from a step on, or of a worker's begun section.
+    pub fn needed(&mut self, verb: &str, v: &[u64]) -> Option<()> {
+        let needs = |(fewest, most): (u64, u64)| format!("needs {fewest} {most}");
+        let told = match (verb, v) {
+            ("path", path) => turns_of_path(&self.steps, path).map(|turns| format!("turns {turns}")),
+            ("needs", &[step]) => turns_from(&self.steps, step).map(needs),
+            ("remaining", &[worker]) => turns_left(&mut self.w, worker).map(needs).map_err(AtStep::from),
+            _ => return None,
+        };
+        self.tell(&told.unwrap_or_else(|no| format!("refused {} {}", no.number, no.step)));
         Some(())
     }
 }
