@@ -334,6 +334,36 @@ static void stores_left(void)
     ensure(*all == UINT64_MAX - WORDS - 1 && *ZILPANUD_ALL == UINT64_MAX, "each use has enough");
 }
 
+/* ---- totals stop at the ends, worked out by hand; and a board at rest changes over as it is */
+
+static void totals_stop(void)
+{
+    static const uint64_t totals[] = {
+        ZILPANUD_INSTRUCTION(ZILPANUD_ACQUIRE, 3, 0, 0),
+        ZILPANUD_INSTRUCTION(ZILPANUD_ADD, 24, ZILPANUD_OWN(0), ZILPANUD_OWN(1)),         /* 2^64 - 2 and 3 */
+        ZILPANUD_INSTRUCTION(ZILPANUD_SUBTRACT, 25, ZILPANUD_OWN(1), ZILPANUD_OWN(0)),    /* 3 less 2^64 - 2 */
+        ZILPANUD_INSTRUCTION(ZILPANUD_SUBTRACT, 26, 24, ZILPANUD_OWN(1)),
+        ZILPANUD_INSTRUCTION(ZILPANUD_ADD, 27, 25, ZILPANUD_OWN(1)),
+        ZILPANUD_INSTRUCTION(ZILPANUD_RELEASE, 3, 0, 0),
+        ZILPANUD_INSTRUCTION(ZILPANUD_FINISH, 0, 0, 0),
+    };
+    static const uint64_t near_the_top[ZILPANUD_ARGS] = {UINT64_MAX - 1, 3, 0, 0, 0, 0, 0, 0};
+    uint64_t before[WORDS];
+    ensure(zilpanud_submit(image, WORDS, step, turn, &held, 0, 1, near_the_top, totals, sizeof totals / sizeof *totals,
+                           ZILPANUD_ALL, &detail) == ZILPANUD_DONE, "taken");
+    ensure(run(384 * WORKERS) == ZILPANUD_DONE, "all idle");
+    ensure(image[ZILPANUD_CELL_INDEX(24)] == UINT64_MAX, "a sum stops at 2^64 - 1");
+    ensure(image[ZILPANUD_CELL_INDEX(25)] == 0, "a difference stops at 0");
+    ensure(image[ZILPANUD_CELL_INDEX(26)] == UINT64_MAX - 3 && image[ZILPANUD_CELL_INDEX(27)] == 3,
+           "that they have stopped is kept nowhere");
+    memcpy(before, image, sizeof image);
+    held = UINT64_MAX;
+    ensure(recover() == ZILPANUD_DONE && held == 0 && turn[0] == ZILPANUD_IDLE && turn[1] == ZILPANUD_IDLE,
+           "a recovery of a board at rest finds all workers idle");
+    ensure(memcmp(before, image, sizeof image) == 0, "and changes no word");
+    ensure(submit(0, 1, STEPS) == ZILPANUD_NUMBER && submit(0, 2, STEPS) == ZILPANUD_DONE, "its numbers go on");
+}
+
 int main(void)
 {
     texts_differ();
@@ -349,5 +379,6 @@ int main(void)
     cut_and_run();
     turns_passed();
     stores_left();
+    totals_stop();
     return 0;
 }

@@ -32,10 +32,14 @@
  *
  * The macros say which header this is, zilpanud_version() which archive was linked, since the two may come from
  * different installs. A program compares them when it starts; examples/board.c does.
+ *
+ * Before 6000 sums and differences were modulo 2^64; now they stop at the ends. An image that was kept by an earlier
+ * version is taken over with all workers idle, and no earlier: its layout is the same, and a recovery cannot see by
+ * which rule it was kept. The manual has the steps: 'What do I do on the day of the change?'.
  */
 
-#define ZILPANUD_VERSION 5000
-#define ZILPANUD_VERSION_TEXT "0.5.0"
+#define ZILPANUD_VERSION 6000
+#define ZILPANUD_VERSION_TEXT "0.6.0"
 
 /* ---- sizes */
 
@@ -65,7 +69,8 @@
  *
  * An instruction is one word: a kind and fields a, b, c, of 16 bits each. A 'word' below is a word number: 0 to 511 is
  * a cell, whose lock must be held; 512 to 519 is an own word of the worker. A section starts with its arguments as own
- * words. Sums are modulo 2^64, comparisons unsigned. A field that a kind does not name must be 0.
+ * words. Words are unsigned, in comparisons too. A sum stops at 2^64 - 1 and a difference at 0; that one has stopped is
+ * kept nowhere. A field that a kind does not name must be 0.
  *
  * A section starts with an acquire, and a finish is its last step and no other. Locks are acquired in rising order;
  * something is held before each step but the first and the finish, and nothing before those. Steps count from 0.
@@ -74,8 +79,8 @@
 #define ZILPANUD_ACQUIRE 1    /* lock a, above all held; waits while another has it. 6 turns */
 #define ZILPANUD_RELEASE 2    /* lock a, which is held. 6 turns */
 #define ZILPANUD_SET 3        /* word a := 65,536 x b + c, b and c being numbers up to 65,535. 4 turns */
-#define ZILPANUD_ADD 4        /* word a := word b + word c. 4 turns */
-#define ZILPANUD_SUBTRACT 5   /* word a := word b - word c. 4 turns */
+#define ZILPANUD_ADD 4        /* word a := word b + word c, 2^64 - 1 where that is more. 4 turns */
+#define ZILPANUD_SUBTRACT 5   /* word a := word b - word c, 0 where word b is less. 4 turns */
 #define ZILPANUD_LESS 6       /* word a := 1 if word b < word c, else 0. 4 turns */
 #define ZILPANUD_JUMP 7       /* if word a is 0, on at step b: a later one with the same locks held before it. 1 turn */
 #define ZILPANUD_FINISH 8     /* the last step, and no other. 3 turns */

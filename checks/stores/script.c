@@ -2,6 +2,10 @@
 
 #include "trial.h"
 
+#include <inttypes.h>
+#include <stdio.h>
+#include <stdlib.h>
+
 #define ACQUIRE(lock) ZILPANUD_INSTRUCTION(ZILPANUD_ACQUIRE, lock, 0, 0)
 #define RELEASE(lock) ZILPANUD_INSTRUCTION(ZILPANUD_RELEASE, lock, 0, 0)
 #define SET(word, b, c) ZILPANUD_INSTRUCTION(ZILPANUD_SET, word, b, c)
@@ -36,6 +40,19 @@ static const uint64_t every[] = {
 };
 
 static const uint64_t shortest[] = {ACQUIRE(3), RELEASE(3), FINISH};
+
+/* Differences and sums that stop, and such that do not. Of own words 4 and 5 the first is the lower one, and no word of
+ * junk has 0 in its highest byte, so that one doubled eight times is past 2^64 - 1. */
+static const uint64_t ends[] = {
+    ACQUIRE(3),
+    SUBTRACT(24, OWN(4), OWN(5)),    /* it stops at 0 */
+    SUBTRACT(25, OWN(5), OWN(4)),
+    ADD(26, 24, OWN(5)),
+    ADD(26, 26, 26), ADD(26, 26, 26), ADD(26, 26, 26), ADD(26, 26, 26),
+    ADD(26, 26, 26), ADD(26, 26, 26), ADD(26, 26, 26), ADD(26, 26, 26),    /* it has stopped at 2^64 - 1 */
+    RELEASE(3),
+    FINISH,
+};
 
 /* ---- formatting, and words that are no image */
 
@@ -155,6 +172,26 @@ static void turns(void)
     set_cursor(1, 0, 3);
     turn(1, ZILPANUD_CURSOR);
     run(9, ZILPANUD_CURSOR);
+}
+
+static void cell_is(size_t cell, uint64_t word)
+{
+    const struct world kept = keep();
+    const uint64_t is = kept.memory.image[ZILPANUD_CELL_INDEX(cell)];
+    if (is != word) {
+        fprintf(stderr, "stores: cell %zu is %#" PRIx64 ", and by the script %#" PRIx64 "\n", cell, is, word);
+        exit(2);
+    }
+}
+
+/* Totals that stop at an end, turn by turn. */
+static void totals(void)
+{
+    fresh(2);
+    submit(1, 1, GIVE(ends), ZILPANUD_DONE);
+    turns_until_idle(1);
+    cell_is(24, 0);
+    cell_is(26, UINT64_MAX);
 }
 
 /* A release whose lock is free already, or worker 1's by then, in turns and in a run: cut between the store of the lock
@@ -277,6 +314,7 @@ void play(void)
     submits();
     lengths();
     turns();
+    totals();
     passes();
     runs();
     recoveries();

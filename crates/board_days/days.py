@@ -28,6 +28,10 @@ def add(word, b, c):
     return step(4, word, b, c)
 
 
+def sub(word, b, c):
+    return step(5, word, b, c)
+
+
 def skip(word, to):
     return step(7, word, to)
 
@@ -177,6 +181,34 @@ def reports():
     write("report-skip-none", ["02", b, b, turns(1, 7), CUT, turns(1, 50)])
 
 
+def totals():
+    """Document 02, 5/14: sums that stop at 2^64 - 1 and differences that stop at 0, also resumed."""
+    top, half = 2**64 - 1, 2**63
+    rest = [drop(3), END]
+
+    def day(name, steps, args, *lines):
+        ticket = hand_in(0, 1, [take(3)] + steps + rest, args=args + (0,) * (8 - len(args)))
+        write(f"total-{name}", ["01", ticket, *(lines or [turns(0, 99)])])
+
+    # word 24 := the first argument, and then a sum or a difference with the second
+    given = [add(24, 512, 514)]
+    more, less = [add(24, 24, 513)], [sub(24, 24, 513)]
+    day("stops-at-the-top", given + more, (top, 4))
+    day("stops-from-the-middle", given + more, (half, half))
+    day("just-the-top", given + more, (top - 1, 1))
+    day("just-the-top-from-the-middle", given + more, (half, half - 1))
+    day("stops-at-0", given + less, (5, 7))
+    day("just-0", given + less, (half, half))
+    day("past-the-middle", given + more, (half, 5))
+    day("stop-not-remembered", given + more + less, (top, 1))
+    day("skip-at-0", given + less + [skip(24, 5), put(25, 9)], (5, 7))
+    day("no-skip-at-the-top", given + more + [skip(24, 5), put(25, 9)], (top, 1))
+    for name, n in ("value", 12), ("place", 13), ("target", 14):
+        day(f"cut-behind-the-{name}", given + more, (top, 4), turns(0, n), CUT, turns(0, 99))
+    day("cut-not-added-twice", given + more, (top - 5, 3), turns(0, 14), CUT, turns(0, 99))
+    day("cut-difference", given + less, (5, 7), turns(0, 13), CUT, turns(0, 99))
+
+
 def two_desks():
     """Two desks at one bay, a turn each in turn, cut after n turns of each, and then to the end."""
     a = hand_in(0, 3, [take(3), add(24, 24, 512), drop(3), END], args=(5,) + (0,) * 7)
@@ -195,4 +227,5 @@ if __name__ == "__main__":
     first_lines()
     waits()
     reports()
+    totals()
     two_desks()

@@ -136,13 +136,13 @@ module _ (n : ℕ) (rd : Memory) (d : ℕ) where
 
   -- ---- where it stands
 
-  private-idle : rd (field Pc d) ≡ 0 → resumed n rd d ≡ idle
+  pub resumed-idle : rd (field Pc d) ≡ 0 → resumed n rd d ≡ idle
   unfolding resumed
-  private-idle z = rw z
+  resumed-idle z = rw z
 
-  private-on : eqb (rd (field Pc d)) 0 ≡ false → resumed n rd d ≡ on (namedStep n rd d) (targetTurn (opAt n rd d (namedStep n rd d)))
+  pub resumed-on : eqb (rd (field Pc d)) 0 ≡ false → resumed n rd d ≡ on (namedStep n rd d) (targetTurn (opAt n rd d (namedStep n rd d)))
   unfolding resumed namedOp
-  private-on z = rw z
+  resumed-on z = rw z
 
   private-owed : eqb (rd (field Pc d)) 0 ≡ false
       → owed n rd d ≡ owedOf (opAt n rd d (namedStep n rd d)) (heldAt n rd d (suc (namedStep n rd d))) (rd (field Owned d))
@@ -158,9 +158,9 @@ module _ (n : ℕ) (rd : Memory) (d : ℕ) where
       by true e =
           let z : rd (field Pc d) ≡ 0 = eqb-true _ _ e in
           let o = owed-none n rd d z in
-          rw (private-idle z, o) (resting (c z) z (i ∙ o) (ok-owned p z))
+          rw (resumed-idle z, o) (resting (c z) z (i ∙ o) (ok-owned p z))
       by false e =
           let k = ok-named p e in
           let step = namedStep n rd d in
           let r = private-due (opAt n rd d step) (owed n rd d) refl (k .entry) (k .owned) i (private-owed e) in
-          rw (private-on e) (due step (owed n rd d) (ok-sectioned s e) (ok-entry k) r)
+          rw (resumed-on e) (due step (owed n rd d) (ok-sectioned s e) (ok-entry k) r)

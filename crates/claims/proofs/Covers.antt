@@ -1,11 +1,12 @@
 -- What the tests of a recovery say: `covers` is inclusion, at most one claimant is that no two workers are owed one lock, and a
 -- record is sound and a lock is right by their parts; so that what a recovery accepts is known by its parts (`Parts`), both
 -- ways. With every record sound and every lock right there is no refusal, so a recovery accepts an image with a right header
--- whose memory is `Crashed`. By induction on the number of locks or workers, with the head's test by cases.
+-- whose memory is `Crashed` (`crashed-accepted`), and no other (`accepted-crashed`). By induction on the number of locks or
+-- workers, with the head's test by cases.
 use Prim.Native.Nat.{ℕ, suc, zero, _+_, _<_, _≤_}
-use mathlib.Core.Path.{_≡_, refl}
+use mathlib.Core.Path.{_≡_, refl, ap}
 use mathlib.Core.Bool.{Bool, true, false, cond, _&&_, _||_, not, false≢true}
-use mathlib.Core.List.{[]}
+use mathlib.Core.List.{List, [], _∷_}
 use native.Mathlib.Omega.{arith}
 use native.Mathlib.Decide.{ℕ-discrete, decLt}
 use lib.Dec.{leb, ltb}
@@ -13,13 +14,16 @@ use borrow.Author.Tests.{ltb-true, lt-ltb, leb-true, le-leb}
 use Rattle.base.proofs.Bools.{and-left, and-right, and-both}
 use Rattle.mask.specs.Mask.{has}
 use Rattle.image.specs.declared.Field.the-variants.{Intent}
-use Rattle.image.specs.Place.{lock, field, Memory}
+use Rattle.image.specs.Place.{lock, field, Memory, Store}
 use Rattle.image.specs.Image.{Image, at, workers, headerOk}
 use Rattle.owed.specs.Owed.{covers, owed, claimants, ownerOk}
 use Rattle.soundness.specs.Sound.{sectionOk, pcOk, sound, unsound, lockOk, badLock}
+use Rattle.soundness.specs.declared.Refusal.the-variants.{Image as ImageRefused, Record, Lock}
+use Rattle.soundness.proofs.Legible.{each-passes, all-sound as each-sound}
+use Rattle.working.specs.declared.Cursors.{Cursors}
 use Rattle.resuming.specs.Resumed.{resumedAll}
 use Rattle.repair.specs.Plan.{plan}
-use Rattle.recovery.specs.Recovery.{accepted, recovery}
+use Rattle.recovery.specs.Recovery.{Recovered, accepted, rejected, byFirst, recovery}
 use Rattle.claims.proofs.Invariant.{Crashed}
 
 -- ---- inclusion
@@ -208,4 +212,37 @@ module _ (mark n : ℕ) (m : Image) where
         all-right n (at n m) (workers m) 0 64 (λ b l u. c .locks b (omega arith)),
         all-sound n (at n m) (workers m) 0 (workers m)
             (λ d l u. c .sounds d (omega arith)),
+      )
+
+-- ---- and no other
+
+abbrev isAccepted : Recovered → Bool
+isAccepted (accepted ss cs) = true
+isAccepted (rejected r) = false
+
+each-right : (n : ℕ) (rd : Memory) (D k b : ℕ) → badLock n rd D b k ≡ [] → (c : ℕ) → b ≤ c → c < b + k → lockOk n rd D c ≡ true
+unfolding badLock
+each-right n rd D = each-passes (lockOk n rd D) (badLock n rd D) (λ b k. refl)
+
+none-found :
+    (b : Bool) (us ls : List ℕ) (good : Recovered)
+    → isAccepted (cond b (byFirst Record (byFirst Lock good ls) us) (rejected ImageRefused)) ≡ true → (b ≡ true) × (us ≡ []) × (ls ≡ [])
+none-found true [] [] good e = (refl, refl, refl)
+none-found true [] (x ∷ ls) good e = absurd (false≢true e)
+none-found true (x ∷ us) ls good e = absurd (false≢true e)
+none-found false us ls good e = absurd (false≢true e)
+
+module _ (mark n : ℕ) (m : Image) where
+  pub accepted-crashed :
+      (ss : List Store) (cs : Cursors) → recovery mark n m ≡ accepted ss cs → (headerOk mark n m ≡ true) × Crashed n (workers m) (at n m)
+  unfolding recovery
+  accepted-crashed ss cs e =
+      let rd = at n m in
+      let D = workers m in
+      let f = none-found (headerOk mark n m) (unsound n rd D 0 D) (badLock n rd D 0 64) _ (ap isAccepted e) in (
+        f .0,
+        record {
+          sounds = λ d l. each-sound n rd D D 0 (f .1) d (omega arith) (omega arith);
+          locks = λ b l. each-right n rd D 64 0 (f .2) b (omega arith) (omega arith);
+        },
       )

@@ -30,12 +30,16 @@ use Rattle.claims.proofs.Moves.{play-append}
 -- ---- a world that runs
 
 module _ (mark n : ℕ) (m : Image) where
+  pub idle-settled :
+      (w : Traced) → Running mark n (workers m) (cellsOf m) w → Idle mark n (workers m) (w .world .cursors)
+      → admissible mark n (workers m) (w .trace .begun) ≡ true → Settled mark n m w
+  idle-settled w r i a =
+      record { idles = i; rests = idle-rested mark n (workers m) (cellsOf m) w r i; admits = a; gives = idle-gives mark n (workers m) (cellsOf m) w r i }
+
   settled :
       (w : Traced) → Running mark n (workers m) (cellsOf m) w → anyOpen (workers m) 0 (w .world .cursors) ≡ false
       → admissible mark n (workers m) (w .trace .begun) ≡ true → Settled mark n m w
-  settled w r e a =
-      let i : Idle mark n (workers m) (w .world .cursors) = λ d l. idle-all (workers m) 0 (w .world .cursors) e d (omega arith) (omega arith) in
-      record { idles = i; rests = idle-rested mark n (workers m) (cellsOf m) w r i; admits = a; gives = idle-gives mark n (workers m) (cellsOf m) w r i }
+  settled w r e a = idle-settled w r (λ d l. idle-all (workers m) 0 (w .world .cursors) e d (omega arith) (omega arith)) a
 
   turn-goes : (w : Traced) (d : ℕ) → Running mark n (workers m) (cellsOf m) w → d < workers m → refuses mark n (outcome mark n (w .world) d) ≡ false
   unfolding outcomeAt

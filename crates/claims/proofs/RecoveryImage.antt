@@ -36,13 +36,13 @@ use Rattle.claims.proofs.LiveTurn.{live-cursors}
 -- ---- cursors
 
 module _ (n : ℕ) (rd : Memory) (D : ℕ) where
-  private-turn : (d : ℕ) → d < 8 → getD (resumedAll n rd D .turn) d 255 ≡ turnNo (resumedAt n rd D d)
+  pub resumed-turn : (d : ℕ) → d < 8 → getD (resumedAll n rd D .turn) d 255 ≡ turnNo (resumedAt n rd D d)
   unfolding resumedAll
-  private-turn d l = eight-at (λ e. turnNo (resumedAt n rd D e)) 255 d l
+  resumed-turn d l = eight-at (λ e. turnNo (resumedAt n rd D e)) 255 d l
 
-  private-step : (d : ℕ) → d < 8 → getD (resumedAll n rd D .step) d 0 ≡ stepNo (resumedAt n rd D d)
+  pub resumed-step : (d : ℕ) → d < 8 → getD (resumedAll n rd D .step) d 0 ≡ stepNo (resumedAt n rd D d)
   unfolding resumedAll
-  private-step d l = eight-at (λ e. stepNo (resumedAt n rd D e)) 0 d l
+  resumed-step d l = eight-at (λ e. stepNo (resumedAt n rd D e)) 0 d l
 
   pub resumed-full : Full (resumedAll n rd D)
   unfolding resumedAll
@@ -71,7 +71,7 @@ module _ (n : ℕ) (rd : Memory) (D : ℕ) where
   -- the cursors that a recovery answers
   pub resumed-cursor : (d : ℕ) → d < D → D ≤ 8 → cursorAt (resumedAll n rd D) d ≡ resumed n rd d
   unfolding cursorAt
-  resumed-cursor d l u = rw (private-turn d (omega arith), private-step d (omega arith), lt-ltb d D l) (private-said (resumed n rd d) (private-sayable d))
+  resumed-cursor d l u = rw (resumed-turn d (omega arith), resumed-step d (omega arith), lt-ltb d D l) (private-said (resumed n rd d) (private-sayable d))
 
 -- ---- how many stores
 

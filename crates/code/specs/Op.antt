@@ -1,5 +1,5 @@
 -- The instructions, how a word says one, and what an expression gives.
-use Prim.Native.Nat.{ℕ, suc, zero, _+_, _*_, _-_, _%_, _^_}
+use Prim.Native.Nat.{ℕ, suc, zero, _+_, _*_, _-_, _^_, min}
 use mathlib.Core.Bool.{cond}
 use lib.Dec.{ltb}
 use Rattle.code.specs.declared.Expr.{Expr}
@@ -25,11 +25,12 @@ byKind (suc (suc (suc (suc (suc (suc (suc (suc (suc k))))))))) a b c = Unknown
 unfoldable pub opOf : ℕ → Op
 opOf w = byKind (kindOf w) (fieldA w) (fieldB w) (fieldC w)
 
--- what an expression of two words gives of what they hold; a literal has none
-abbrev pub ofTwo : Expr → ℕ → ℕ → ℕ
+-- what an expression of two words gives of what they hold; a literal has none. A sum stops at the largest word, a difference at 0
+-- (document 02, 5/14: a total never goes below nothing and never starts over)
+unfoldable pub ofTwo : Expr → ℕ → ℕ → ℕ
 ofTwo (Literal b c) x y = 0
-ofTwo (Sum b c) x y = (x + y) % 2 ^ 64
-ofTwo (Difference b c) x y = (x + (2 ^ 64 - y)) % 2 ^ 64
+ofTwo (Sum b c) x y = min (x + y) (2 ^ 64 - 1)
+ofTwo (Difference b c) x y = x - y
 ofTwo (Less b c) x y = cond (ltb x y) 1 0
 
 -- what an expression gives, its operands read by f

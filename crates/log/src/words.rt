@@ -1,7 +1,7 @@
 // The words that a section names: cells and the worker's own words by their numbers, and what an expression gives.
 use code::Expr;
 ghost use mathlib.Core.Path.{_≡_};
-ghost use Prim.Native.Nat.{_+_, _<_, _≤_};
+ghost use Prim.Native.Nat.{_+_, _-_, _^_, _<_, _≤_, min};
 ghost use Rattle.image.specs.Image.{at, indexOf};
 ghost use Rattle.image.specs.inner.Inside.{Inside};
 ghost use Rattle.code.specs.inner.Fits.{ranged};
@@ -29,14 +29,36 @@ pub fn word(image: &[u64], d: usize, x: u64, own: usize) -> u64
     image::load_inside(image, operand_index(d, x, own))
 }
 
+// The sum of two words; it stops at the largest.
+fn sum(x: u64, y: u64) -> u64
+    ensures { λ r. ⌜ r ≡ min (x + y) (2 ^ 64 - 1) ⌝ }
+{
+    let s = std::num::wrapping_add_u64(x, y);
+    if s < x {
+        return u64::MAX;
+    }
+    s
+}
+
+// Their difference; it stops at 0.
+fn difference(x: u64, y: u64) -> u64
+    ensures { λ r. ⌜ r ≡ x - y ⌝ }
+{
+    let s = std::num::wrapping_sub_u64(x, y);
+    if x <= y {
+        return 0;
+    }
+    s
+}
+
 // What an expression of two words gives of what they hold.
 fn combined(e: Expr, x: u64, y: u64) -> u64
     ensures { λ r. ⌜ r ≡ ofTwo e x y ⌝ }
 {
     match e {
         Expr::Literal(_, _) => 0,
-        Expr::Sum(_, _) => std::num::wrapping_add_u64(x, y),
-        Expr::Difference(_, _) => std::num::wrapping_sub_u64(x, y),
+        Expr::Sum(_, _) => sum(x, y),
+        Expr::Difference(_, _) => difference(x, y),
         Expr::Less(_, _) => {
             if x < y {
                 return 1;

@@ -1,5 +1,6 @@
 -- What the tests of a record say: a section that is begun can be read (`Legible`) where the section and the pc are
--- right, and so every record of an image can be read where all records are sound.
+-- right, and so every record of an image can be read where all records are sound: a search for the first that fails a
+-- test, and finds none, says that each passes it (`each-passes`).
 use Prim.Native.Nat.{ℕ, suc, zero, _+_, _-_, _%_, _^_, _<_, _≤_}
 use borrow.Author.Tests.{leb-true, ltb-true, le-leb, lt-leb, lt-ltb, ne-eqb}
 use mathlib.Core.Path.{_≡_, refl, sym, ap, _∙_}
@@ -127,6 +128,25 @@ check-long n k code h = rw (lt-leb k 64 h) (by (leb 3 k) _)
 
 -- ---- all records
 
+-- of k numbers from d on the first that fails a test: where none is found, each passes
+module _ (test : ℕ → Bool) (found : ℕ → ℕ → List ℕ) (goes : (d k : ℕ) → found d (suc k) ≡ cond (test d) (found (d + 1) k) (d ∷ [])) where
+  private-found : (t : Bool) (d : ℕ) (l : List ℕ) → cond t l (d ∷ []) ≡ [] → (t ≡ true) × (l ≡ [])
+  private-found true d l e = (refl, e)
+  private-found false d l e = ((cc), (cc))
+
+  private-rest : (d j : ℕ) → test d ≡ true → d ≤ j → (d + 1 ≤ j → test j ≡ true) → test j ≡ true
+  private-rest d j s a rest = by (ℕ-discrete j d)
+    where
+      by : Dec (j ≡ d) → test j ≡ true
+      by (yes p) = rw p s
+      by (no p) = rest (omega arith)
+
+  pub each-passes : (k d : ℕ) → found d k ≡ [] → (j : ℕ) → d ≤ j → j < d + k → test j ≡ true
+  each-passes zero d e j a b = absurd (omega arith)
+  each-passes (suc k) d e j a b =
+      let f = private-found (test d) d (found (d + 1) k) (sym (goes d k) ∙ e) in
+      private-rest d j (f .0) a (λ l. each-passes k (d + 1) (f .1) j l (omega arith))
+
 module _ (n : ℕ) (rd : Memory) (D : ℕ) where
   pub unsound-on : (d : ℕ) → d < D → sound n rd d ≡ true → unsound n rd D d (D - d) ≡ unsound n rd D (d + 1) (D - (d + 1))
   unfolding unsound
@@ -140,24 +160,10 @@ module _ (n : ℕ) (rd : Memory) (D : ℕ) where
   unfolding unsound
   unsound-none d h = rw (left-none D d h)
 
-  private-rest : (d j : ℕ) → sound n rd d ≡ true → d ≤ j → (d + 1 ≤ j → sound n rd j ≡ true) → sound n rd j ≡ true
-  private-rest d j s a rest = by (ℕ-discrete j d)
-    where
-      by : Dec (j ≡ d) → sound n rd j ≡ true
-      by (yes p) = rw p s
-      by (no p) = rest (omega arith)
-
-  private-found : (t : Bool) (d : ℕ) (l : List ℕ) → cond t l (d ∷ []) ≡ [] → (t ≡ true) × (l ≡ [])
-  private-found true d l e = (refl, e)
-  private-found false d l e = ((cc), (cc))
-
   -- where none is found, each is sound
   pub all-sound : (k d : ℕ) → unsound n rd D d k ≡ [] → (j : ℕ) → d ≤ j → j < d + k → sound n rd j ≡ true
   unfolding unsound
-  all-sound zero d e j a b = absurd (omega arith)
-  all-sound (suc k) d e j a b =
-      let f = private-found (sound n rd d) d (unsound n rd D (d + 1) k) e in
-      private-rest d j (f .0) a (λ l. all-sound k (d + 1) (f .1) j l (omega arith))
+  all-sound = each-passes (sound n rd) (unsound n rd D) (λ d k. refl)
 
 pub restorable : (n : ℕ) (m : Image) → n ≤ 64 → workers m ≤ 8 → length m ≡ lengthOf n (workers m)
     → unsound n (at n m) (workers m) 0 (workers m) ≡ [] → Restorable n m

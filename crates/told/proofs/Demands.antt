@@ -1,7 +1,11 @@
 -- The user's demands 2 and 3, at the edition that the entry points serve, and what a planner may be told by them.
 use native.Mathlib.Omega.{arith}
+use mathlib.Core.Path.{_≡_}
+use mathlib.Core.Bool.{true, false}
+use mathlib.Core.List.{List}
 use Rattle.edition.specs.Edition.{mark, ownWords}
-use Rattle.claims.specs.Claims.{FormattedRests, DurableAlways, Linearizable, RunsAreTurns, EveryOrderHad}
+use Rattle.claims.specs.Calls.{Move, legal, machine}
+use Rattle.claims.specs.Claims.{FormattedRests, Durable, DurableAlways, Linearizable, RunsAreTurns, EveryOrderHad}
 use Rattle.told.specs.Once.{OnceAlways, ToldAlways, AskedAlways, BegunFinishes, ThroughAlways, RetriedAlways, ExactlyOnce}
 use Rattle.told.specs.Moments.{UntouchedAlways}
 use Rattle.told.specs.Reports.{ReportsExplained, ReleasesFree}
@@ -10,6 +14,7 @@ use Rattle.told.specs.Held.{LocksCounted}
 use Rattle.told.specs.Enough.{EnoughIsWhole}
 use Rattle.told.specs.Turns.{TurnsExact, UncutSpanned}
 use Rattle.told.specs.Between.{PathsBetween, TurnsBetween, LeftTold}
+use Rattle.told.specs.Changing.{ChangesOver, CountsAnew, Anew, RestRecovered, LoggedStored}
 use Rattle.claims.proofs.Durable.{durable-always, formatted-rests}
 use Rattle.claims.proofs.Linear.{linearizable}
 use Rattle.told.proofs.RunTurns as run-turns
@@ -23,6 +28,9 @@ use Rattle.told.proofs.Turns as turns
 use Rattle.told.proofs.Complete as complete
 use Rattle.told.proofs.Between as between
 use Rattle.told.proofs.Left as left
+use Rattle.told.proofs.Changing as changing
+use Rattle.told.proofs.AtRest as at-rest
+use Rattle.told.proofs.Logged as logged
 use Rattle.told.proofs.Once.{admitted-always, once-always, told-always, asked-always}
 use Rattle.told.proofs.Finishes.{begun-finishes}
 use Rattle.told.proofs.Through.{through-always}
@@ -97,6 +105,29 @@ turns-between = between.turns-between mark ownWords (omega arith) (omega arith)
 -- a begun section's record tells the two numbers for its resumption
 pub left-told : LeftTold mark ownWords
 left-told = left.left-told mark ownWords (omega arith) (omega arith)
+
+-- ---- changing over
+
+-- where all workers are idle, unless a cut came last, the image is at rest, with its cells and finished numbers
+pub changes-over : ChangesOver mark ownWords
+changes-over = changing.changes-over mark ownWords (omega arith) (omega arith)
+
+-- and what holds of every image at rest, as all of the above and below does, counts from there as from formatting
+pub counts-anew : CountsAnew mark ownWords
+counts-anew = changing.counts-anew mark ownWords (omega arith) (omega arith)
+
+-- so demand 3 from there on
+pub sections-anew : Anew mark ownWords (Durable mark ownWords)
+unfolding CountsAnew DurableAlways
+sections-anew = counts-anew (λ m. (ys : List Move) → machine ys ≡ true → legal false ys ≡ true → Durable mark ownWords m ys) sections-kept .1
+
+-- a recovery there is accepted and changes nothing
+pub rest-recovered : RestRecovered mark ownWords
+rest-recovered = at-rest.rest-recovered mark ownWords
+
+-- what was logged before a cut is stored as logged
+pub logged-stored : LoggedStored mark ownWords
+logged-stored = logged.logged-stored mark ownWords
 
 -- ---- what a planner may be told
 

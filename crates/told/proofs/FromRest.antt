@@ -1,7 +1,8 @@
--- What lists of calls keep, from an image at rest: behind any legal list, cut or not (`kept-list`), behind a recovery where a cut ends it
--- (`mended-from`), and behind uncut runs and turns after that (`settled-from`, `kept-settled`), which leave every pc 0 (`settled-pcs`).
+-- What lists of calls keep, from an image at rest: behind any legal list, cut or not (`kept-list`), behind one whose last call is not cut
+-- (`kept-uncut`), behind a recovery where a cut ends it (`mended-from`), and behind uncut runs and turns after that (`settled-from`,
+-- `kept-settled`), which leave every pc 0 (`settled-pcs`).
 use Prim.Native.Nat.{ℕ, _*_, _<_, _≤_}
-use mathlib.Core.Path.{_≡_, refl}
+use mathlib.Core.Path.{_≡_, refl, subst}
 use mathlib.Core.Bool.{Bool, true, false, cond, not, false≢true}
 use mathlib.Core.List.{List, [], _∷_, _++_}
 use native.Mathlib.Omega.{arith}
@@ -88,6 +89,10 @@ module _ (mark n : ℕ) (wide : 8 ≤ n) (narrow : n ≤ 64) (m : Image) (rest :
   module _ (K : Keeps mark n D cells R C Any) (start : R (from m)) (xs : List Move) (h : machine xs ≡ true) (l : legal false xs ≡ true) where
     pub kept-list : Worth mark n D cells (after mark n m xs) × C (after mark n m xs)
     kept-list = kept-sorted Any K start xs h l (any-sorted mark n xs (from m))
+
+    pub kept-uncut : endsCut false xs ≡ false → Running mark n D cells (after mark n m xs) × R (after mark n m xs)
+    kept-uncut e =
+        subst (λ (b : Bool). Kept mark n D cells R C Any K b (after mark n m xs)) e (kept Any K start xs h l (any-sorted mark n xs (from m)))
 
     pub kept-settled :
         (ys : List Move) → working ys ≡ true

@@ -1,8 +1,9 @@
 -- The mask in the working record has just the locks whose owner words are not 0, and no more than a word has room for (`Agrees`): lists keep it.
 -- A store in an owner word changes the bit with it, no other store of a turn touches either, a submission leaves both, and a recovery builds the
--- mask from what the workers are owed, which is what its stores make of the owner words. So the ones are the number of those (`locks-counted`).
+-- mask from what the workers are owed, which is what its stores make of the owner words. So both agree after any list
+-- whose last call is not cut (`held-agrees`), and the ones are the number of those (`locks-counted`).
 use Prim.Native.Nat.{ℕ, _+_, _^_, _<_, _≤_}
-use mathlib.Core.Path.{_≡_, refl, sym, subst, _∙_}
+use mathlib.Core.Path.{_≡_, refl, sym, _∙_}
 use mathlib.Core.Logic.{_⊎_, inl, inr}
 use mathlib.Core.Bool.{Bool, true, false, cond, not}
 use mathlib.Core.List.{List}
@@ -31,20 +32,19 @@ use Rattle.owed.specs.Owed.{owed}
 use Rattle.soundness.proofs.Owing.{owed-small}
 use Rattle.repair.specs.Plan.{plan}
 use Rattle.resuming.specs.Resumed.{resumedAll}
-use Rattle.claims.specs.Calls.{Traced, turnBy, play, from}
-use Rattle.claims.specs.Claims.{Rested}
+use Rattle.claims.specs.Calls.{Traced, turnBy, endsCut}
+use Rattle.claims.specs.Claims.{Rested, Always, after}
 use Rattle.claims.proofs.Worlds.{Running}
 use Rattle.claims.proofs.Covers.{Parts, crashed-parts}
-use Rattle.claims.proofs.Recovered.{after, after-lock, after-free, someone}
+use Rattle.claims.proofs.Recovered.{after as recoveredTo, after-lock, after-free, someone}
 use Rattle.claims.proofs.RecoveryImage.{recovery-at, plan-length}
 use Rattle.claims.proofs.Called.{TakenAs, accepts, crash}
 use Rattle.claims.proofs.Moves.{args-full}
 use Rattle.claims.proofs.Played.{Worth, plenty}
-use Rattle.claims.proofs.Resting.{rested-running}
 use Rattle.told.specs.Held.{hasOwner, Masked, LocksCounted}
-use Rattle.told.proofs.Keeping.{nextTurn, Fed, Keeps, Kept, play-keeps, submitted, recovered}
+use Rattle.told.proofs.Keeping.{nextTurn, Fed, Keeps, submitted, recovered}
 use Rattle.told.proofs.Behind.{turnMemory, turned-memory, submitted-aside}
-use Rattle.told.proofs.FromRest.{Any, any-sorted}
+use Rattle.told.proofs.FromRest.{Any, kept-uncut}
 
 -- a mask has just the locks with an owner in a memory, and is a word
 pub record Agrees (rd : Memory) (h : ℕ) : Type 0 where
@@ -104,7 +104,7 @@ module _ (rd : Memory) (h : ℕ) (x : Agrees rd h) where
 
 module _ (n : ℕ) (rd : Memory) (D : ℕ) (p : Parts n D rd) where
   -- behind all stores of its plan
-  recovered-agrees : Agrees (after n rd D) (union (owed n rd) D)
+  recovered-agrees : Agrees (recoveredTo n rd D) (union (owed n rd) D)
   recovered-agrees =
       record {
         bits = λ b l. by b l (someone n rd D b D);
@@ -112,7 +112,7 @@ module _ (n : ℕ) (rd : Memory) (D : ℕ) (p : Parts n D rd) where
       }
     where
       by : (b : ℕ) → b < 64 → ((e : ℕ) × (e < D) × (has (owed n rd e) b ≡ true)) ⊎ ((e : ℕ) → e < D → has (owed n rd e) b ≡ false)
-          → has (union (owed n rd) D) b ≡ not (eqb (after n rd D (lock b)) 0)
+          → has (union (owed n rd) D) b ≡ not (eqb (recoveredTo n rd D (lock b)) 0)
       by b l (inl (e, m, h)) =
           let f = after-lock n rd D p b e l m h in
           union-has (owed n rd) D e b m h ∙ (rw (f, ne-eqb (e + 1) 0 (λ z. omega arith)))
@@ -177,13 +177,14 @@ rested-agrees mark n m rest = record { bits = λ b l. has-none b ∙ (rw (rest .
 masked : (mark n : ℕ) (w : World) → Agrees (at n (w .image)) (w .cursors .held) → Masked mark n w
 masked mark n w x = record { bits = x .bits; number = ones-such (w .cursors .held) (hasOwner mark n (w .image)) (x .small) (x .bits) }
 
-pub locks-counted : (mark n : ℕ) → 8 ≤ n → n ≤ 64 → LocksCounted mark n
-unfolding LocksCounted
-locks-counted mark n wide narrow m rest xs h l uncut =
-    let D = workers m in
-    let cells = cellsOf m in
-    let C : Traced → Type 0 = λ w. Unit {0} in
-    let K = agreeing-keeps mark n D cells wide in
-    let k = play-keeps mark n D cells (Agreeing mark n D cells) C Any K false xs (from m) wide narrow h l (any-sorted mark n xs (from m))
-    (rested-running mark n m rest, rested-agrees mark n m rest) in
-    masked mark n _ (subst (λ (b : Bool). Kept mark n D cells (Agreeing mark n D cells) C Any K b (play mark n xs (from m))) uncut k .1)
+module _ (mark n : ℕ) (wide : 8 ≤ n) (narrow : n ≤ 64) where
+  pub held-agrees : Always mark n (λ m xs. endsCut false xs ≡ false → Agreeing mark n (workers m) (cellsOf m) (after mark n m xs))
+  held-agrees m rest xs h l uncut =
+      let D = workers m in
+      let cells = cellsOf m in
+      kept-uncut mark n wide narrow m rest (Agreeing mark n D cells) (λ w. Unit {0}) (agreeing-keeps mark n D cells wide) (rested-agrees mark n m rest) xs h l
+      uncut .1
+
+  pub locks-counted : LocksCounted mark n
+  unfolding LocksCounted
+  locks-counted m rest xs h l uncut = masked mark n _ (held-agrees m rest xs h l uncut)

@@ -58,6 +58,11 @@ pub mod OrderSubmit
 pub mod OrderEntry
 pub mod OrderFeed
 pub mod EveryOrder
+-- Where a board may change over, and what a recovery does there; what was logged before a cut.
+pub mod Neat
+pub mod AtRest
+pub mod Logged
+pub mod Changing
 -- Agreement: the calls that the claims speak of have the effects that the functions' contracts speak of.
 pub mod Agreement
 -- The tally of a run is the sum over its turns.

@@ -8,4 +8,5 @@ pub mod Enough
 pub mod Paths
 pub mod Turns
 pub mod Between
+pub mod Changing
 pub mod Examples

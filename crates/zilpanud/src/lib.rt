@@ -307,5 +307,5 @@ pub extern "C" fn zilpanud_turns_left(
 pub extern "C" fn zilpanud_version() -> u64
     ensures { λ r. ⌜ r ≡ version ⌝ }
 {
-    5_000
+    6_000
 }

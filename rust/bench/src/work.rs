@@ -1,11 +1,15 @@
 //! What is repeated: each work leaves the image such that it can be done again.
 
 use crate::engine::Engine;
+use crate::stores::PLENTY;
 use std::hint::black_box;
 
 /// Words before the records, and of a record.
 const HEAD: usize = 584;
 const RECORD: usize = 82;
+
+/// The cell that moves take from.
+const CELL_24: usize = 8 + 24;
 
 #[derive(Clone)]
 pub enum Work {
@@ -198,7 +202,8 @@ fn moves<E: Engine>(section: Vec<u64>) -> Side
 where
     E::Places: 'static,
 {
-    let (image, mut places) = formatted::<E>(1);
+    let (mut image, mut places) = formatted::<E>(1);
+    image[CELL_24] = PLENTY;
     let mut number = 0;
     side(image, move |image| {
         number += 1;

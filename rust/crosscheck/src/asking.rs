@@ -3,6 +3,7 @@
 use crate::call::{self, Call, Given, Lent};
 use crate::counts::Counts;
 use crate::follow::Follow;
+use crate::rest;
 use crate::rng::Rng;
 use crate::turns::{self, Told};
 use twin::{HEAD, REC};
@@ -25,17 +26,15 @@ pub struct Asking {
 }
 
 impl Asking {
-    /// A list that begins with a finished formatting for so many workers; what is counted goes on from these counts.
+    /// A list for so many workers, which is not yet followed; what is counted goes on from these counts.
     pub fn new(r: Rng, workers: usize, counts: Counts) -> Asking {
-        Asking {
-            r,
-            workers,
-            all_steps: false,
-            follow: Some(Follow::new(workers)),
-            before: vec![],
-            left: vec![],
-            counts,
-        }
+        Asking { r, workers, all_steps: false, follow: None, before: vec![], left: vec![], counts }
+    }
+
+    /// The list starts with this image, which is at rest: fresh from formatting, or changed over.
+    pub fn start(&mut self, mine: &[u64]) {
+        self.unfollow();
+        self.follow = Some(Follow::from(mine));
     }
 
     /// The list is over.
@@ -104,7 +103,7 @@ impl Asking {
     /// The list is none of demand 3 any more.
     pub fn unfollow(&mut self) {
         if let Some(follow) = self.follow.take() {
-            self.counts.ended(&follow.ended);
+            self.counts.followed(&follow);
         }
     }
 
@@ -143,7 +142,7 @@ impl Asking {
     }
 
     /// Behind a list that is followed: a recovery, which is due if it was cut, and the rounds that bring every section
-    /// to its end.
+    /// to its end. The board could then change over: it is at rest.
     pub fn settle(&mut self, mine: &mut [u64], lent: Lent, was_cut: bool) -> Result<(), Difference> {
         let mut lent = Lent { left: u64::MAX, ..lent };
         let recovers = was_cut || self.r.chance(50);
@@ -158,6 +157,12 @@ impl Asking {
                 }
                 lent = given.lent;
             }
+        }
+        if self.follow.is_some() {
+            let before = mine.to_vec();
+            let given = call::ours(&Call::Recover, mine, lent);
+            rest::stays(&before, &given, mine)?;
+            self.counts.rested += 1;
         }
         Ok(())
     }
@@ -190,13 +195,15 @@ impl Asking {
         if matches!(call, Call::Format { .. }) {
             // refused, it leaves no cursors
             self.unfollow();
-            self.follow = accepted.then(|| Follow::new(self.workers));
+            self.follow = accepted.then(|| Follow::from(mine));
         }
         let Some(follow) = &mut self.follow else {
             return Ok(());
         };
         match call {
-            Call::Submit { worker, args, section, .. } if accepted => follow.taken(*worker, *args, section),
+            Call::Submit { worker, number, args, section } if accepted => {
+                follow.taken(*worker, *number, *args, section);
+            }
             Call::Turn { worker } if given.answer >= 16 => {
                 follow.turn(*worker, (given.answer, given.detail), lent.left > 0, mine)?;
             }

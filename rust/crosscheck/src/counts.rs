@@ -1,6 +1,7 @@
-//! What was compared of turns: counts, so that one sees that nothing is missing.
+//! What was compared of turns, and of the sections that were followed: counts, so that one sees that nothing is missing.
 
-use crate::follow::Ended;
+use crate::follow::{Ended, Follow, Recorded};
+use crate::totals::ENDS;
 use crate::turns::Told;
 
 /// The causes that each of the three functions has, by document 02 and `include/zilpanud.h`.
@@ -25,7 +26,10 @@ pub struct Counts {
     flipped: [u64; 2],
     /// Workers asked right before and right after a recovery.
     pub recovered: u64,
+    /// Lists that were followed until all workers were idle, and left a board at rest.
+    pub rested: u64,
     ended: Ended,
+    totals: Recorded,
 }
 
 impl Counts {
@@ -53,7 +57,12 @@ impl Counts {
         self.flipped[(told.answer != 0) as usize] += 1;
     }
 
-    pub fn ended(&mut self, ended: &Ended) {
+    /// No more is followed.
+    pub fn followed(&mut self, Follow { ended, totals, .. }: &Follow) {
+        self.totals.all += totals.all;
+        self.totals.ends.iter_mut().zip(totals.ends).for_each(|(sum, n)| *sum += n);
+        self.totals.in_resumed += totals.in_resumed;
+        self.totals.resumed_there += totals.resumed_there;
         self.ended.uncut += ended.uncut;
         self.ended.resumed += ended.resumed;
         self.ended.releases += ended.releases;
@@ -75,16 +84,21 @@ impl Counts {
             (self.open_left, "no turns left with a jump ahead"),
             (self.flipped[1], "no turns left with one bit changed were refused"),
             (self.recovered, "no turns left before and after a recovery"),
+            (self.rested, "no list left a board at rest"),
             (uncut, "no uncut section came to its end"),
             (resumed - releases, "no resumed section came to its end, but at a release"),
             (releases, "no section resumed at a release came to its end"),
             (waited, "no section that waited came to its end"),
             (jumped, "no section that jumped came to its end"),
+            (self.totals.in_resumed, "no total stopped in a resumed section"),
+            (self.totals.resumed_there, "no section was resumed at the store of a total that stopped"),
         ];
         let none = counts.iter().filter(|(n, _)| *n == 0).map(|(_, line)| line.to_string());
+        let ends = ENDS.iter().zip(self.totals.ends).filter(|(_, n)| *n == 0);
         let from = FROM_REFUSED.iter().filter(|&&n| self.from[n] == 0);
         let left = LEFT_REFUSED.iter().filter(|&&n| self.left[n] == 0);
-        none.chain(from.map(|n| format!("no turns from a step were refused with {n}")))
+        none.chain(ends.map(|(end, _)| format!("no {end}")))
+            .chain(from.map(|n| format!("no turns from a step were refused with {n}")))
             .chain(left.map(|n| format!("no turns left were refused with {n}")))
             .collect()
     }
@@ -103,10 +117,22 @@ impl Counts {
         let [given, refused] = self.flipped;
         println!(" with one bit of a record changed {given} of these given, {refused} refused");
         println!("turns left the same right before and right after a recovery: {}", self.recovered);
+        println!("lists followed until all workers were idle, which left a board at rest: {}", self.rested);
         let Ended { uncut, resumed, releases, waited, jumped } = self.ended;
         println!(
             "sections followed to their end, with the turns of the reference machine's steps: {uncut} uncut;\n\
              {resumed} resumed, {releases} of them at a release; {waited} of all waited, {jumped} jumped"
+        );
+        self.report_totals();
+    }
+
+    fn report_totals(&self) {
+        let Recorded { all, ends, in_resumed, resumed_there } = self.totals;
+        print!("totals in these sections, with the values that their words give: {all};");
+        ENDS.iter().zip(ends).for_each(|(end, n)| print!(" {end}: {n};"));
+        println!(
+            "\nof those that stopped, {in_resumed} in a resumed section; {resumed_there} sections were resumed at the \
+             store of one"
         );
     }
 }

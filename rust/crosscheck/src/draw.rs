@@ -47,7 +47,7 @@ fn open_worker(r: &mut Rng, workers: u64, lent: &Lent) -> usize {
     }
 }
 
-fn submit(r: &mut Rng, image: &[u64], workers: u64, lent: &Lent) -> Call {
+fn submit(r: &mut Rng, image: &[u64], workers: u64, lent: &Lent, totals: bool) -> Call {
     let idle: Vec<usize> = (0..workers as usize).filter(|&d| lent.turn[d] == 255).collect();
     let worker = match !idle.is_empty() && r.chance(70) {
         true => r.pick(&idle),
@@ -57,8 +57,8 @@ fn submit(r: &mut Rng, image: &[u64], workers: u64, lent: &Lent) -> Call {
     Call::Submit {
         worker,
         number: number(r, image, worker),
-        args: std::array::from_fn(|_| r.word()),
-        section: sections::section(r, locks),
+        args: std::array::from_fn(|_| if totals { r.total() } else { r.word() }),
+        section: sections::section(r, locks, totals),
     }
 }
 
@@ -73,17 +73,17 @@ fn rounds(r: &mut Rng, workers: u64) -> u16 {
     }
 }
 
-/// The next call, where the image is formatted for so many workers.
-pub fn call(r: &mut Rng, image: &[u64], workers: u64, lent: &Lent) -> Call {
+/// The next call, where the image is formatted for so many workers. `totals`: its section has many, near the ends.
+pub fn call(r: &mut Rng, image: &[u64], workers: u64, lent: &Lent, totals: bool) -> Call {
     let someone = worker(r, workers);
     match r.below(100) {
-        0..=24 => submit(r, image, workers, lent),
+        0..=24 => submit(r, image, workers, lent, totals),
         25..=62 => Call::Turn { worker: open_worker(r, workers, lent) },
         63..=77 => Call::Run { rounds: rounds(r, workers) },
         78..=85 => Call::Recover,
         86..=89 => {
             let locks = r.pick(&[2, 5, 64]);
-            Call::Check { section: sections::section(r, locks) }
+            Call::Check { section: sections::section(r, locks, totals) }
         }
         90..=92 => Call::IsIdle { worker: someone },
         93..=95 => Call::Finished { worker: someone },

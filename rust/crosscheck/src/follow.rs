@@ -3,14 +3,20 @@
 //! a jump, which is stored nowhere, with the next step that is. What it goes through is a section's path. When the
 //! section's last turn is made, the turns that did not wait must be those of the path.
 //!
-//! A list is followed from a finished formatting on, as long as each call is given what the last one left and a cut is
-//! followed by a recovery. Runs are made once more by single turns of the library, since their tally does not say whose
-//! they are.
+//! 5/14 with it: where the pc is stored that names a sum or a difference, its log entry must have what totals.rs says of
+//! the words that the image has then. With no section under way the cells must be the machine's, and each worker's
+//! finished number that of its last section begun.
+//!
+//! A list is followed from a finished formatting on, or from the change-over of a board, as long as each call is given
+//! what the last one left and a cut is followed by a recovery. The machine starts with the cells that there are then.
+//! Runs are made once more by single turns of the library, since their tally does not say whose they are.
 
 use crate::call::{told_turn, Given, Lent};
+use crate::rest::finished_numbers;
+use crate::totals::{self, ENDS};
 use crate::turns::left_by_library;
 use twin::plain::{Plain, Ticket};
-use twin::{COUNT, HEAD, PLACE, REC, TOP};
+use twin::{BOARD, COUNT, ENTRY, HEAD, LOCKS, OWN, PLACE, REC, TOP};
 use zilpanud::{cut, Cursors, Needs};
 
 /// What was not so, in words.
@@ -28,6 +34,7 @@ enum Since {
 
 /// A worker's section: taken, and maybe begun.
 struct Section {
+    number: u64,
     ticket: Ticket,
     since: Since,
     /// The turns since then that did not wait, and those that did.
@@ -35,6 +42,19 @@ struct Section {
     waited: u64,
     /// The steps that the reference machine has gone through.
     path: Vec<u64>,
+    /// Whether the instruction that the pc names is a total that stopped.
+    stopped: bool,
+}
+
+/// Totals that were recorded.
+#[derive(Default)]
+pub struct Recorded {
+    pub all: u64,
+    pub ends: [u64; ENDS.len()],
+    /// Those that stopped in a section that a recovery had resumed.
+    pub in_resumed: u64,
+    /// Recoveries that resumed a section at the store of one that stopped.
+    pub resumed_there: u64,
 }
 
 /// Sections that came to their end.
@@ -52,7 +72,10 @@ pub struct Ended {
 pub struct Follow {
     machine: Plain,
     sections: Vec<Option<Section>>,
+    /// The finished numbers that the workers must have when their sections have ended.
+    finished: Vec<u64>,
     pub ended: Ended,
+    pub totals: Recorded,
 }
 
 /// The turn table, written out once more.
@@ -67,8 +90,36 @@ fn turns_of(word: u64) -> u64 {
 }
 
 impl Section {
-    fn taken(ticket: Ticket) -> Section {
-        Section { ticket, since: Since::Taken, moved: 0, waited: 0, path: vec![] }
+    fn taken(number: u64, ticket: Ticket) -> Section {
+        Section { number, ticket, since: Since::Taken, moved: 0, waited: 0, path: vec![], stopped: false }
+    }
+
+    /// The pc of its worker names a step. If that is a total, the entry that is active has its value.
+    fn records(
+        &mut self,
+        worker: usize,
+        pc: u64,
+        image: &[u64],
+        totals: &mut Recorded,
+    ) -> Result<(), Failure> {
+        let record = HEAD + REC * worker;
+        let load = |word| image[if word < 512 { BOARD + word } else { record + OWN + word - 512 }];
+        let instruction = self.ticket.steps[((pc & !TOP) - 1) as usize];
+        let total = totals::of(instruction, load);
+        self.stopped = total.as_ref().is_some_and(|total| total.stopped());
+        let Some(total) = total else {
+            return Ok(());
+        };
+        let logged = image[record + ENTRY + 2 * (pc >> 63) as usize + 1];
+        if logged != total.value {
+            let must = total.value;
+            return Err(format!("{instruction:#x} logs {logged:#x}, and by its words it must be {must:#x}"));
+        }
+        totals.all += 1;
+        total.meets.into_iter().for_each(|end| totals.ends[end] += 1);
+        let resumed = matches!(self.since, Since::Recovered { .. });
+        totals.in_resumed += (self.stopped && resumed) as u64;
+        Ok(())
     }
 
     /// The sum over the steps gone through from `gone` on, by hand and by the library.
@@ -113,17 +164,22 @@ impl Section {
 }
 
 impl Follow {
-    pub fn new(workers: usize) -> Follow {
+    /// From an image on that is at rest.
+    pub fn from(image: &[u64]) -> Follow {
+        let workers = (image.len() - HEAD) / REC;
+        let cells = std::array::from_fn(|cell| image[BOARD + cell]);
         Follow {
-            machine: Plain::new(&vec![vec![]; workers]),
+            machine: Plain::from_board(cells, &vec![vec![]; workers]),
             sections: (0..workers).map(|_| None).collect(),
+            finished: finished_numbers(image),
             ended: Ended::default(),
+            totals: Recorded::default(),
         }
     }
 
     /// An uncut submit was taken.
-    pub fn taken(&mut self, worker: usize, args: [u64; 8], section: &[u64]) {
-        self.sections[worker] = Some(Section::taken(Ticket { args, steps: section.to_vec() }));
+    pub fn taken(&mut self, worker: usize, number: u64, args: [u64; 8], section: &[u64]) {
+        self.sections[worker] = Some(Section::taken(number, Ticket { args, steps: section.to_vec() }));
     }
 
     /// The machine goes on for a worker, up to this step and through it.
@@ -131,6 +187,7 @@ impl Follow {
         let section = self.sections[worker].as_mut().ok_or("a pc is stored with no section taken")?;
         if self.machine.at(worker).is_none() {
             self.machine.push(worker, section.ticket.clone());
+            self.finished[worker] = section.number;
         }
         loop {
             let at = self.machine.at(worker).ok_or("the machine has no step left")? as u64;
@@ -154,7 +211,12 @@ impl Follow {
             let finish = self.sections[worker].as_ref().map_or(0, |s| s.ticket.steps.len() as u64 - 1);
             return match image[index] {
                 0 => self.go_through(worker, finish),
-                pc => self.go_through(worker, (pc & !TOP) - 1),
+                pc => {
+                    if let Some(section) = &mut self.sections[worker] {
+                        section.records(worker, pc, image, &mut self.totals)?;
+                    }
+                    self.go_through(worker, (pc & !TOP) - 1)
+                }
             };
         }
         if index == record + COUNT {
@@ -233,16 +295,23 @@ impl Follow {
             let left = Needs { fewest, most };
             section.since = Since::Recovered { gone: section.path.len(), left };
             (section.moved, section.waited) = (0, 0);
+            self.totals.resumed_there += section.stopped as u64;
         }
         Ok(())
     }
 
-    /// With no section under way the cells are the machine's.
+    /// With no section under way the cells are the machine's, and the finished numbers those of the last begun.
     pub fn rested(&self, image: &[u64]) -> Result<(), Failure> {
-        let under_way = self.sections.iter().any(Option::is_some);
-        if under_way || image[twin::BOARD..twin::LOCKS] == self.machine.board {
+        if self.sections.iter().any(Option::is_some) {
             return Ok(());
         }
-        Err("the cells are not those of the reference machine".to_string())
+        if image[BOARD..LOCKS] != self.machine.board {
+            return Err("the cells are not those of the reference machine".to_string());
+        }
+        let is = finished_numbers(image);
+        match is == self.finished {
+            true => Ok(()),
+            false => Err(format!("finished numbers {is:?}, and the last begun were {:?}", self.finished)),
+        }
     }
 }

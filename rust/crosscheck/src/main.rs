@@ -1,6 +1,7 @@
 //! Random lists of calls on the library and on the twin, compared after every call: the image word for word, the
 //! answer, the cursors, the locks held, the stores left and the tally; of every section its held sets and its turns, of
-//! images the turns left; and sections are followed to their end, and their turns counted. See usage().
+//! images the turns left; and sections are followed to their end, their totals compared and their turns counted. Many
+//! lists start from a board that changes over. See usage().
 
 mod asking;
 mod call;
@@ -8,14 +9,18 @@ mod counts;
 mod damage;
 mod draw;
 mod follow;
+mod found;
 mod met;
 mod passes;
+mod rest;
 mod rng;
 mod sections;
+mod totals;
 mod turns;
 
 use asking::Asking;
 use call::{Call, Given, Lent};
+use found::{Difference, Found};
 use met::Met;
 use rng::Rng;
 use std::env;
@@ -32,43 +37,6 @@ fn usage() -> ! {
   with 2 if there was none but some answer was never met (as may be with few lists)."
     );
     exit(2)
-}
-
-/// A difference: where it is and all that repeats it.
-struct Difference {
-    call: Call,
-    lent: Lent,
-    ours: Given,
-    twins: Given,
-    /// The first word of the image that differs: its index, ours and the twin's.
-    word: Option<(usize, u64, u64)>,
-    /// The owner words' mask, where both left another one and must not.
-    owned: Option<u64>,
-}
-
-/// What differs: what a call gives, what a section's held sets are or how many turns it needs, or what it took.
-enum Found {
-    Call(Box<Difference>),
-    Pass(Box<passes::Difference>),
-    Turns(asking::Difference),
-}
-
-impl From<Box<Difference>> for Found {
-    fn from(call: Box<Difference>) -> Found {
-        Found::Call(call)
-    }
-}
-
-impl From<Box<passes::Difference>> for Found {
-    fn from(pass: Box<passes::Difference>) -> Found {
-        Found::Pass(pass)
-    }
-}
-
-impl From<asking::Difference> for Found {
-    fn from(turns: asking::Difference) -> Found {
-        Found::Turns(turns)
-    }
 }
 
 /// The same call on both, each with its own image of the same words.
@@ -107,6 +75,8 @@ struct Manner {
     odd_cursors: u64,
     /// Only owner words are damaged: the records stay sound, and two workers may come to be owed one lock.
     only_owners: bool,
+    /// Sections have many sums and differences, and arguments near the ends.
+    totals: bool,
 }
 
 struct Play<'a> {
@@ -118,6 +88,8 @@ struct Play<'a> {
     workers: u64,
     /// Whether the call before was cut and the next one is to be a recovery.
     was_cut: bool,
+    /// The finished numbers with which the board changed over; none if it did not.
+    kept: Vec<u64>,
     asking: Asking,
 }
 
@@ -228,7 +200,7 @@ impl Play<'_> {
         let again = self.was_cut && self.r.chance(90);
         let call = match again {
             true => Call::Recover,
-            false => draw::call(&mut self.r, &self.mine, self.workers, &self.lent),
+            false => draw::call(&mut self.r, &self.mine, self.workers, &self.lent, manner.totals),
         };
         if let Call::Check { section } | Call::Submit { section, .. } = &call {
             self.met.pass(&passes::compared(section)?);
@@ -258,33 +230,65 @@ impl Play<'_> {
         let stores = matches!(given.answer, 0 | 16 | 20) && call.sort() < 6 && call.sort() != 1;
         self.was_cut = stores && before != u64::MAX && given.lent.left == 0;
         self.met.call(call, &given, self.was_cut, kind);
+        self.met.kept_numbers += (given.answer == 3 && self.by_a_kept_number(call)) as u64;
         self.compare(call, &given, was_theirs)?;
         Ok(given)
     }
+
+    /// Whether a submit's number is refused by a finished number from before the board changed over.
+    fn by_a_kept_number(&self, call: &Call) -> bool {
+        let Call::Submit { worker, number, .. } = call else {
+            return false;
+        };
+        let is = rest::finished_numbers(&self.mine);
+        let kept = self.kept.get(*worker).is_some_and(|kept| is.get(*worker) == Some(kept));
+        kept && *number > 0
+    }
+
+    /// Formats the image; then the board may change over, from words that an earlier version may have left.
+    fn start(&mut self, changes_over: bool) -> Result<(), Found> {
+        let format = Call::Format { workers: self.workers };
+        self.lent = both(&format, &mut self.mine, &mut self.other, self.lent)?.lent;
+        if changes_over {
+            rest::put(&mut self.r, &mut self.mine);
+            self.other.copy_from_slice(&self.mine);
+            let before = self.mine.clone();
+            let given = both(&Call::Recover, &mut self.mine, &mut self.other, self.lent)?;
+            rest::stays(&before, &given, &self.mine)?;
+            self.lent = given.lent;
+            self.kept = rest::finished_numbers(&self.mine);
+            self.met.changed_over += 1;
+        }
+        self.asking.start(&self.mine);
+        Ok(())
+    }
 }
 
-fn manner(r: &mut Rng) -> Manner {
-    match r.below(10) {
-        0..=4 => Manner { damages: 0, odd_cursors: 0, only_owners: false },
-        5..=6 => Manner { damages: 6, odd_cursors: 2, only_owners: false },
-        7 => Manner { damages: 40, odd_cursors: 0, only_owners: true },
-        _ => Manner { damages: 25, odd_cursors: 15, only_owners: false },
-    }
+/// How a list is played, and whether it starts from a board that changes over.
+fn manner(r: &mut Rng) -> (Manner, bool) {
+    let changes_over = r.chance(40);
+    let totals = changes_over || r.chance(15);
+    let manner = match r.below(10) {
+        0..=4 => Manner { damages: 0, odd_cursors: 0, only_owners: false, totals },
+        5..=6 => Manner { damages: 6, odd_cursors: 2, only_owners: false, totals },
+        7 => Manner { damages: 40, odd_cursors: 0, only_owners: true, totals },
+        _ => Manner { damages: 25, odd_cursors: 15, only_owners: false, totals },
+    };
+    (manner, changes_over)
 }
 
 /// Plays one list; gives the number of the call that differed.
 fn list(seed: u64, number: u64, met: &mut Met) -> Result<(), (u64, Found)> {
     let mut r = Rng::of_list(seed, number);
     let workers = if r.chance(50) { 1 + r.below(3) } else { 1 + r.below(8) };
-    let manner = manner(&mut r);
+    let (manner, changes_over) = manner(&mut r);
     let (fill, calls) = (r.word(), 10 + r.below(60));
     let image = vec![fill; twin::HEAD + twin::REC * workers as usize];
     let lent = Lent { step: [fill as u8; 8], turn: [!fill as u8; 8], held: !fill, left: u64::MAX };
     let (mine, other) = (image.clone(), image);
     let asking = Asking::new(Rng::of_list(!seed, number), workers as usize, take(&mut met.turns));
-    let mut play = Play { r, met, mine, other, lent, workers, was_cut: false, asking };
-    let first = both(&Call::Format { workers }, &mut play.mine, &mut play.other, lent);
-    play.lent = first.map_err(|d| (0, d.into()))?.lent;
+    let mut play = Play { r, met, mine, other, lent, workers, was_cut: false, kept: vec![], asking };
+    play.start(changes_over).map_err(|d| (0, d))?;
     let mut played = (1..=calls).try_for_each(|n| play.next(manner).map_err(|d| (n, d)));
     if played.is_ok() {
         let settled = play.asking.settle(&mut play.mine, play.lent, play.was_cut);
@@ -293,32 +297,6 @@ fn list(seed: u64, number: u64, met: &mut Met) -> Result<(), (u64, Found)> {
     met.turns = play.asking.counted();
     met.lists += played.is_ok() as u64;
     played
-}
-
-fn tell(seed: u64, list: u64, call: u64, found: &Found) {
-    println!("DIFFERENCE in list {list}, call {call}, seed {seed}");
-    println!("to repeat: crosscheck 1 {seed} {list}");
-    match found {
-        Found::Call(difference) => tell_call(difference),
-        Found::Pass(difference) => passes::tell(difference),
-        Found::Turns(difference) => println!("{difference}"),
-    }
-}
-
-fn tell_call(d: &Difference) {
-    println!("call:  {:x?}", d.call);
-    println!("lent:  {:?}", d.lent);
-    println!("ours:  {:?}", d.ours);
-    println!("twin:  {:?}", d.twins);
-    match d.word {
-        Some((index, ours, twins)) => {
-            println!("image word {index}: ours {ours:#x}, twin {twins:#x}")
-        }
-        None => println!("the images are the same"),
-    }
-    if let Some(owned) = d.owned {
-        println!("the owner words' mask is {owned:#x}, and the one left {:#x}", d.ours.lent.held);
-    }
 }
 
 fn main() {
@@ -334,7 +312,7 @@ fn main() {
     for number in first..first + lists {
         if let Err((call, found)) = list(seed, number, &mut met) {
             met.report();
-            tell(seed, number, call, &found);
+            found::tell(seed, number, call, &found);
             exit(1);
         }
     }

@@ -56,7 +56,10 @@ pub struct Met {
     /// Held sets of sections: refused, by the answer, and given, by the check's answer.
     sets_refused: [u64; 6],
     sets_given: [u64; 10],
-    /// What was compared of turns.
+    /// Lists that started from a board that changed over, and submits refused by a finished number from before that.
+    pub changed_over: u64,
+    pub kept_numbers: u64,
+    /// What was compared of turns, and of sections that were followed.
     pub turns: Counts,
 }
 
@@ -111,8 +114,16 @@ impl Met {
         let (passed, counted) = (PASSINGS.iter().zip(self.passed), PASSINGS[1..].iter().zip(self.counted));
         lines.extend(passed.filter(|(_, n)| *n == 0).map(|(why, _)| format!("no turn passed: {why}")));
         lines.extend(counted.filter(|(_, n)| *n == 0).map(|(why, _)| format!("no run counted: {why}")));
-        let masks = [(self.holding, "no mask with locks held was compared"), (self.odd_masks, "no odd mask")];
-        lines.extend(masks.iter().filter(|(n, _)| *n == 0).map(|(_, line)| line.to_string()));
+        let others = [
+            (self.holding, "no mask with locks held was compared"),
+            (self.odd_masks, "no odd mask"),
+            (self.changed_over, "no board changed over"),
+            (
+                self.kept_numbers,
+                "no submit was refused by a finished number from before its board changed over",
+            ),
+        ];
+        lines.extend(others.iter().filter(|(n, _)| *n == 0).map(|(_, line)| line.to_string()));
         let (refused, given) = (SETS_REFUSED.iter(), SETS_GIVEN.iter());
         let refused = refused.filter(|&&n| self.sets_refused[n] == 0);
         let given = given.filter(|&&n| self.sets_given[n] == 0);
@@ -168,6 +179,10 @@ impl Met {
         let (masks, holding, most) = (self.masks, self.holding, self.most_held);
         println!("masks compared with the owner words: {masks}; with locks held: {holding}, {most} at most");
         self.sets();
+        println!(
+            "boards changed over: {}; submits refused by a finished number from before: {}",
+            self.changed_over, self.kept_numbers
+        );
         self.turns.report();
     }
 

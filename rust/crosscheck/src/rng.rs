@@ -41,4 +41,16 @@ impl Rng {
             _ => self.next(),
         }
     }
+
+    /// A word near an end of the range of words, or near its middle, or any.
+    pub fn total(&mut self) -> u64 {
+        let some = self.below(12);
+        match self.below(8) {
+            0..=1 => some,
+            2 => (1 << 63) - 6 + some,
+            3..=5 => u64::MAX - some,
+            6 => self.next(),
+            _ => self.word(),
+        }
+    }
 }

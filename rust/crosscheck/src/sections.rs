@@ -19,15 +19,16 @@ fn word(r: &mut Rng, held: u64) -> u16 {
     512 + r.below(8) as u16
 }
 
-/// An instruction of kinds 3 to 7; a jump is aimed later.
-fn use_of(r: &mut Rng, held: u64) -> u64 {
-    match r.below(6) {
-        0 => instruction(3, word(r, held), r.below(3) as u16, r.below(4) as u16),
-        1 => instruction(7, word(r, held), 0, 0),
-        k => {
-            let kind = 4 + (k % 3) as u16;
-            instruction(kind, word(r, held), word(r, held), word(r, held))
-        }
+/// An instruction of kinds 3 to 7; a jump is aimed later. A third of them are sums and differences, or most.
+fn use_of(r: &mut Rng, held: u64, totals: bool) -> u64 {
+    let kind = match totals {
+        true => r.pick(&[3, 4, 4, 4, 4, 5, 5, 5, 5, 6, 7]),
+        false => r.pick(&[3, 4, 5, 6, 6, 7]),
+    };
+    match kind {
+        3 => instruction(3, word(r, held), r.below(3) as u16, r.below(4) as u16),
+        7 => instruction(7, word(r, held), 0, 0),
+        _ => instruction(kind, word(r, held), word(r, held), word(r, held)),
     }
 }
 
@@ -55,8 +56,8 @@ fn length(r: &mut Rng) -> usize {
     }
 }
 
-/// A section that passes the check, on locks below `locks` (at least 2).
-pub fn passing(r: &mut Rng, locks: u64) -> Vec<u64> {
+/// A section that passes the check, on locks below `locks` (at least 2). `totals`: with many sums and differences.
+pub fn passing(r: &mut Rng, locks: u64, totals: bool) -> Vec<u64> {
     let n = length(r);
     let (mut section, mut befores) = (vec![], vec![]);
     let mut held = 0u64;
@@ -80,7 +81,7 @@ pub fn passing(r: &mut Rng, locks: u64) -> Vec<u64> {
             held &= !(1 << lock);
             section.push(instruction(2, lock, 0, 0));
         } else {
-            section.push(use_of(r, held));
+            section.push(use_of(r, held, totals));
         }
     }
     section.push(FINISH);
@@ -133,11 +134,11 @@ fn shaped(r: &mut Rng) -> u64 {
 }
 
 /// The section of a call.
-pub fn section(r: &mut Rng, locks: u64) -> Vec<u64> {
+pub fn section(r: &mut Rng, locks: u64, totals: bool) -> Vec<u64> {
     let mut section = match r.below(20) {
         0 => return unordered(r),
         1 => return (0..r.below(71)).map(|_| r.next()).collect(),
-        _ => passing(r, locks),
+        _ => passing(r, locks, totals),
     };
     if r.chance(35) {
         for _ in 0..1 + r.below(2) {

@@ -27,8 +27,8 @@ fn usage() -> ! {
     eprintln!(
         "usage: powercut [kills [seed]]
   {KILLS} kills and seed {SEED} by default. Exits with 1 at the first difference, which it prints, and where no kill
-  fell amid a section, since nothing is then shown. (The seed gives the moves and the waits before the kills; where a
-  child then is, is the system's doing.)"
+  fell amid a section or no total stopped at an end, since nothing is then shown. (The seed gives the moves and the
+  waits before the kills; where a child then is, is the system's doing.)"
     );
     exit(2)
 }
@@ -63,20 +63,22 @@ fn all(kills: u64, seed: u64) -> Result<Met, Box<dyn Error>> {
     for kill in 1..=kills {
         trial.kill().map_err(|error| format!("kill {kill}, seed {seed}: {error}"))?;
     }
-    match trial.met.amid_sections {
-        0 => Err(format!("{kills} kills, seed {seed}: none fell amid a section, so nothing is shown").into()),
+    let none = |what| Err(format!("{kills} kills, seed {seed}: {what}, so nothing is shown").into());
+    match (trial.met.amid_sections, trial.met.stopped) {
+        (0, _) => none("none fell amid a section"),
+        (_, 0) => none("no total stopped at an end"),
         _ => Ok(trial.met),
     }
 }
 
 fn tell(met: &Met, seed: u64, seconds: f64) {
-    let Met { kills, sections, amid_sections, begun, submitted, .. } = met;
+    let Met { kills, sections, stopped, amid_sections, begun, submitted, .. } = met;
     let Met { amid_recoveries, amid_makings, before_the_file, holding, .. } = met;
     println!(
-        "{kills} kills, seed {seed}, {seconds:.1} seconds: {sections} sections finished, each once; {amid_sections} \
-         kills fell amid sections ({begun} with one begun, {submitted} with one to withdraw), {amid_recoveries} amid \
-         a recovery's stores, {amid_makings} amid the making of a file, {before_the_file} before there was one; \
-         {holding} recoveries gave locks back"
+        "{kills} kills, seed {seed}, {seconds:.1} seconds: {sections} sections finished, each once, {stopped} of them \
+         with a total that stopped at an end; {amid_sections} kills fell amid sections ({begun} with one begun, \
+         {submitted} with one to withdraw), {amid_recoveries} amid a recovery's stores, {amid_makings} amid the making \
+         of a file, {before_the_file} before there was one; {holding} recoveries gave locks back"
     );
 }
 

@@ -28,6 +28,8 @@ const SIGKILL: i32 = 9;
 pub struct Met {
     pub kills: u64,
     pub sections: u64,
+    /// Of the sections, those in which a total stopped at an end.
+    pub stopped: u64,
     /// With a section begun, or submitted and not begun: a recovery had to let it go on or to withdraw it.
     pub amid_sections: u64,
     pub begun: u64,
@@ -44,12 +46,14 @@ pub struct Met {
 struct Expected {
     path: PathBuf,
     cells: Vec<u64>,
+    /// All that was stowed in the moved cells.
+    stowed: u64,
     finished: Vec<u64>,
 }
 
 impl Expected {
     fn new(path: PathBuf, workers: usize) -> Expected {
-        Expected { path, cells: vec![0; CELLS], finished: vec![0; workers] }
+        Expected { path, cells: vec![0; CELLS], stowed: 0, finished: vec![0; workers] }
     }
 
     fn workers(&self) -> usize {
@@ -160,16 +164,19 @@ impl Trial {
             .into());
         }
         for number in before + 1..=finished {
-            Move::of(self.seed, worker, number).make(&mut self.board.cells);
+            let one = Move::of(self.seed, worker, number);
+            self.met.stopped += one.make(&mut self.board.cells) as u64;
+            self.board.stowed += one.stowed();
         }
         self.board.finished[worker] = finished;
         self.met.sections += finished - before;
         Ok(())
     }
 
-    /// All cells are what the finished moves leave, and the moved ones add up to what they did at first.
+    /// All cells are what the finished moves leave, and the moved ones add up to what was stowed.
     fn compare(&self, cells: &[u64]) -> Result<(), Box<dyn Error>> {
-        let sum = cells[..MOVED].iter().fold(0, |sum: u64, cell| sum.wrapping_add(*cell));
+        let sum: u128 = cells[..MOVED].iter().map(|&cell| cell as u128).sum();
+        let stowed = self.board.stowed as u128;
         let differs = |&cell: &usize| cells[cell] != self.board.cells[cell];
         let differing: Vec<usize> = (0..CELLS).filter(differs).collect();
         if let [first, ..] = differing[..] {
@@ -180,9 +187,9 @@ impl Trial {
             )
             .into());
         }
-        match sum {
-            0 => Ok(()),
-            _ => Err(format!("the moved cells add up to {sum:#x} and not to 0").into()),
+        match sum == stowed {
+            true => Ok(()),
+            false => Err(format!("the moved cells add up to {sum:#x}, and {stowed:#x} was stowed").into()),
         }
     }
 }

@@ -4,8 +4,8 @@
 //! rising order, at least one is held before each step in between, and none at the finish. Steps count from 0.
 //!
 //! A *word number* names what an instruction works on: 0 to 511 a cell, whose lock ([`lock_of`]) must be held, and 512
-//! to 519 the worker's own words ([`own`]), which are the section's arguments when it starts. Words are unsigned, and
-//! sums are modulo 2^64.
+//! to 519 the worker's own words ([`own`]), which are the section's arguments when it starts. Words are unsigned; a sum
+//! stops at 2^64 − 1 and a difference at 0 ([`add`], [`sub`]).
 //!
 //! Nothing is tested here: a field that its kind does not have is put into the word as it is, and the check of a
 //! section ([`check`](crate::check), or a submit) refuses the step with [`Cause::Malformed`](crate::Cause::Malformed).
@@ -72,12 +72,14 @@ pub const fn set(word: u16, value: u32) -> u64 {
     instruction(Kind::Set as u16, word, (value >> 16) as u16, value as u16)
 }
 
-/// `word := a + b`, modulo 2^64.
+/// `word := a + b`. It stops at the largest word, 2^64 − 1, as `saturating_add` does. That it has stopped is kept
+/// nowhere: what is subtracted then is subtracted from there.
 pub const fn add(word: u16, a: u16, b: u16) -> u64 {
     instruction(Kind::Add as u16, word, a, b)
 }
 
-/// `word := a − b`, modulo 2^64.
+/// `word := a − b`. It stops at 0, as `saturating_sub` does; so a move whose subtraction stops gives more than it takes.
+/// Compare first ([`less`]) where that matters, as the section [above](self) does.
 pub const fn sub(word: u16, a: u16, b: u16) -> u64 {
     instruction(Kind::Subtract as u16, word, a, b)
 }

@@ -100,7 +100,7 @@ pub const LOCKS: usize = 64;
 pub const STEPS: usize = 64;
 
 /// The version of the library that this crate was written for, as [`version`] says it.
-pub const VERSION: u64 = 5_000;
+pub const VERSION: u64 = 6_000;
 
 /// The version of the library that is linked: 1,000,000 × major + 1,000 × minor + patch.
 pub fn version() -> u64 {

@@ -1,6 +1,6 @@
 //! LMDB: one entry a cell; a move reads two and writes two in one transaction.
 
-use super::{Shm, Store};
+use super::{Shm, Store, PLENTY};
 use std::ffi::{c_char, c_int, c_uint, c_void};
 use std::ptr::{null, null_mut};
 
@@ -84,7 +84,7 @@ impl Lmdb {
             right(opened, "mdb_env_open");
             let txn = begun(env);
             right(mdb_dbi_open(txn, null(), INTEGERKEY, &mut dbi), "mdb_dbi_open");
-            (0..512).for_each(|cell| set_word(txn, dbi, cell, 0));
+            (0..512).for_each(|cell| set_word(txn, dbi, cell, if cell == 24 { PLENTY } else { 0 }));
             right(mdb_txn_commit(txn), "mdb_txn_commit");
         }
         Lmdb { manner, env, dbi, _file: file }
@@ -101,8 +101,8 @@ impl Store for Lmdb {
     fn make_move(&mut self) {
         let (txn, dbi) = (begun(self.env), self.dbi);
         let (from, to) = (word_of(txn, dbi, 24), word_of(txn, dbi, 25));
-        set_word(txn, dbi, 24, from.wrapping_sub(1));
-        set_word(txn, dbi, 25, to.wrapping_add(1));
+        set_word(txn, dbi, 24, from.saturating_sub(1));
+        set_word(txn, dbi, 25, to.saturating_add(1));
         right(unsafe { mdb_txn_commit(txn) }, "mdb_txn_commit");
     }
 

@@ -1,6 +1,7 @@
-//! Whole moves in stores that others have built, each on a file in memory (/dev/shm): an amount goes from one cell to
-//! another, in one transaction, as the section `one_lock_move` does it. None of them waits for a disk, and neither do
-//! we, so what is compared is the work of making a move whole.
+//! Whole moves in stores that others have built, each on a file in memory (/dev/shm): an amount goes from one cell, which
+//! has plenty, to another, in one transaction, as the section `one_lock_move` does it: the first stops at 0 and the
+//! second at the store's largest number. None of them waits for a disk, and neither do we, so what is compared is the
+//! work of making a move whole.
 
 #[cfg(have_lmdb)]
 mod lmdb;
@@ -17,10 +18,13 @@ use std::path::PathBuf;
 use std::process::exit;
 use std::sync::atomic::{AtomicUsize, Ordering};
 
-/// A store with two cells.
+/// What the first cell of a move has at first: more than is ever moved.
+pub const PLENTY: u64 = 1 << 62;
+
+/// A store with two cells, the first with `PLENTY` and the second with 0 at first.
 pub trait Store {
     fn name(&self) -> String;
-    /// Moves 1 from the first cell to the second, in one transaction.
+    /// Moves 1 from the first cell to the second, in one transaction. Neither goes past an end.
     fn make_move(&mut self);
     fn cells(&mut self) -> (u64, u64);
 }
@@ -99,10 +103,10 @@ fn row(mut store: Box<dyn Store>, rounds: usize) {
         times
     };
     let m = measure::compared(&mut |n| ours.batch(n), &mut theirs, rounds);
-    // every move took 1 from the first cell, which began at 0, and gave it to the second
+    // every move took 1 from the first cell and gave it to the second
     let of_ours = (ours.image[8 + 24], ours.image[8 + 25]);
     let (made, name) = (ours.times, store.name());
-    if of_ours != (made.wrapping_neg(), made) || store.cells() != (moved.wrapping_neg(), moved) {
+    if of_ours != (PLENTY - made, made) || store.cells() != (PLENTY - moved, moved) {
         eprintln!("{name}: the cells are not what the moves leave");
         drop(store); // and with it the file
         exit(1);

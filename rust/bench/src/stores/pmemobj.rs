@@ -3,7 +3,7 @@
 //! though it is none, and the caches are not flushed, as memory that a battery keeps with its caches allows and as we
 //! do it.
 
-use super::{Shm, Store};
+use super::{Shm, Store, PLENTY};
 use std::ffi::{c_char, c_int, c_uint, c_void};
 use std::ptr::null_mut;
 
@@ -45,16 +45,18 @@ impl Pmemobj {
         let pool = unsafe { pmemobj_create(path.as_ptr().cast(), layout.as_ptr(), 16 << 20, 0o600) };
         assert!(!pool.is_null(), "PMDK creates no pool");
         let root = unsafe { pmemobj_root(pool, 8 * CELLS) };
-        let cells = unsafe { pmemobj_direct(root) }.cast();
+        let cells: *mut u64 = unsafe { pmemobj_direct(root) }.cast();
+        // SAFETY: the root has 512 words
+        unsafe { *cells.add(24) = PLENTY };
         Pmemobj { pool, root, cells, _file: file }
     }
 
-    fn add(&mut self, cell: usize, amount: u64) {
+    fn change(&mut self, cell: usize, value: impl Fn(u64) -> u64) {
         let added = unsafe { pmemobj_tx_add_range(self.root, 8 * cell as u64, 8) };
         assert_eq!(added, 0, "PMDK logs no word");
         // SAFETY: the root has 512 words, and the pool is open as long as `self` is
         let word = unsafe { &mut *self.cells.add(cell) };
-        *word = word.wrapping_add(amount);
+        *word = value(*word);
     }
 }
 
@@ -66,8 +68,8 @@ impl Store for Pmemobj {
     fn make_move(&mut self) {
         let begun = unsafe { pmemobj_tx_begin(self.pool, null_mut(), NO_LOCK) };
         assert_eq!(begun, 0, "PMDK begins no transaction");
-        self.add(24, 1u64.wrapping_neg());
-        self.add(25, 1);
+        self.change(24, |from| from.saturating_sub(1));
+        self.change(25, |to| to.saturating_add(1));
         unsafe {
             pmemobj_tx_commit();
             pmemobj_tx_end();

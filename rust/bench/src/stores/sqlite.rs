@@ -1,4 +1,4 @@
-//! SQLite: one row a cell, two updates in one transaction, prepared once.
+//! SQLite: one row a cell, two updates in one transaction, prepared once. Its integers are signed, so the top is 2^63 − 1.
 
 use super::{Shm, Store};
 use std::ffi::{c_char, c_int, c_void, CStr};
@@ -57,16 +57,16 @@ pub struct Sqlite {
 
 const STATEMENTS: [&CStr; 4] = [
     c"BEGIN IMMEDIATE",
-    c"UPDATE cells SET word = word - 1 WHERE cell = 24",
-    c"UPDATE cells SET word = word + 1 WHERE cell = 25",
+    c"UPDATE cells SET word = max(word, 1) - 1 WHERE cell = 24",
+    c"UPDATE cells SET word = min(word, 9223372036854775806) + 1 WHERE cell = 25",
     c"COMMIT",
 ];
 
-/// A table of 512 cells, each with 0.
+/// A table of 512 cells, the first of a move with plenty (2^62), each other with 0.
 const SET_UP: &CStr = c"
     CREATE TABLE cells (cell INTEGER PRIMARY KEY, word INTEGER NOT NULL);
     WITH RECURSIVE n(i) AS (SELECT 0 UNION ALL SELECT i + 1 FROM n WHERE i < 511)
-    INSERT INTO cells SELECT i, 0 FROM n;";
+    INSERT INTO cells SELECT i, (i = 24) << 62 FROM n;";
 
 fn prepared(db: *mut c_void, sql: &CStr) -> *mut c_void {
     let mut statement = null_mut();

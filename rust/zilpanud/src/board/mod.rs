@@ -23,18 +23,19 @@ use std::path::Path;
 ///
 /// # let path = std::env::temp_dir().join(format!("zilpanud-board-page-{}", std::process::id()));
 /// # let _ = std::fs::remove_file(&path);
-/// // Moves own word 0 from cell 24 to cell 40.
+/// // Stows own word 1 in cell 24, and moves own word 0 from there to cell 40.
 /// let (from, to) = (24, 40);
 /// let section = [
 ///     acquire(lock_of(from)),
 ///     acquire(lock_of(to)),
+///     add(from, from, own(1)),
 ///     sub(from, from, own(0)),
 ///     add(to, to, own(0)),
 ///     release(lock_of(to)),
 ///     release(lock_of(from)),
 ///     finish(),
 /// ];
-/// let args = [7, 0, 0, 0, 0, 0, 0, 0];
+/// let args = [7, 20, 0, 0, 0, 0, 0, 0];
 ///
 /// let mut board = Board::create(&path, 2)?;
 /// let number = board.finished(1)? + 1;
@@ -50,7 +51,7 @@ use std::path::Path;
 /// }
 /// let run = board.run_to_idle()?;
 /// assert_eq!(run.end, End::AllIdle);
-/// assert_eq!((board.cell(24), board.cell(40)), (Some(0u64.wrapping_sub(7)), Some(7)));
+/// assert_eq!((board.cell(24), board.cell(40)), (Some(13), Some(7)));
 /// # drop(board);
 /// # std::fs::remove_file(&path)?;
 /// # Ok::<(), Box<dyn std::error::Error>>(())
@@ -74,6 +75,13 @@ use std::path::Path;
 ///
 /// The lock is the system's advisory one on the file. It goes when the board is dropped and when its process ends, and
 /// it binds those who ask for it: while a board is open, no other program may write or shorten its file.
+///
+/// # A board that an earlier version kept
+///
+/// Before 0.6.0 sums and differences were modulo 2^64. The file is the same, so opening does not see it, and a section
+/// that the earlier version has begun would go on by the new rule: let that version run until all workers are idle
+/// first. Opening then changes no word, and all that is promised from formatting counts from there, with the cells and
+/// the finished numbers that the board has. The manual has the steps.
 #[derive(Debug)]
 pub struct Board {
     /// Dropped first: the file is unmapped, then closed and with that unlocked.

@@ -4,7 +4,7 @@ use mathlib.Core.Logic.{⊎-elim}
 use denote.Ref.{now}
 use borrow.Author.Needs.{needs}
 use Rattle.image.specs.Image.{at}
-use Rattle.code.specs.Op.{eval}
+use Rattle.code.specs.Op.{ofTwo, eval}
 use Rattle.log.specs.Log.{wordIn}
 use Rattle.log.proofs.words.eval.Statement.{statement}
 use Rattle.log.proofs.words.eval.Tie as tie
@@ -53,7 +53,7 @@ unfolding eval
 returns c = rw (c .before .e .given .1)
 
 returns-2 : tie.Need-returns-2
-unfolding eval
+unfolding ofTwo eval
 returns-2 c =
     let A = c .before .before .before .before .before .args in
     let f = wordIn (A .own) (at (A .own) (now (A .image))) (A .d) in
