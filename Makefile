@@ -29,7 +29,8 @@ WARNINGS = -Wall -Wextra -Wpedantic -Wconversion -Wsign-conversion -Wshadow -Wca
 C99 = $(CC) -std=c99 $(WARNINGS) -Wstrict-prototypes -Wmissing-prototypes $(CFLAGS) -Iinclude
 CXX17 = $(CXX) -std=c++17 $(WARNINGS) -Wold-style-cast $(CXXFLAGS) -Iinclude
 
-.PHONY: all library board help check tools header example messages stores wrapper crosscheck powercut install clean
+.PHONY: all library board help check tools header example check_example messages stores wrapper crosscheck powercut
+.PHONY: install clean
 .NOTPARALLEL:
 .SUFFIXES:
 
@@ -107,8 +108,14 @@ $(OUT)/example_cut: checks/example_cut.c examples/board.c include/zilpanud.h $(A
 $(OUT)/held_sets $(OUT)/turns: $(OUT)/%: examples/%.c include/zilpanud.h $(ARCHIVE) | $(OUT)
 	@$(C99) $< $(ARCHIVE) -o $@
 
-example: $(OUT)/example $(OUT)/example_cut $(OUT)/held_sets $(OUT)/turns
-	@sh checks/example.sh $(OUT)/example $(OUT)/example_cut $(OUT)/held_sets $(OUT)/turns
+# one in Rust; cargo decides itself what must be built again
+check_example: $(ARCHIVE) | $(OUT)
+	@$(RUST) build $(AS_IS) --quiet --manifest-path rust/zilpanud/Cargo.toml --example check
+
+EXAMPLES = $(OUT)/example $(OUT)/example_cut $(OUT)/held_sets $(OUT)/turns
+
+example: $(EXAMPLES) check_example
+	@sh checks/example.sh $(EXAMPLES) $(OUT)/cargo/debug/examples/check
 
 # what board says on standard error
 

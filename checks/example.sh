@@ -1,13 +1,15 @@
 #!/bin/sh
-# usage: example.sh EXAMPLE EXAMPLE_CUT HELD_SETS TURNS
+# usage: example.sh EXAMPLE EXAMPLE_CUT HELD_SETS TURNS CHECK
 # Plays examples/board.c on boards in a temporary folder: moves one after the other, a number given twice, too many
 # boxes, damaged files, several programs at once, and a move cut after each of its stores. Then examples/held_sets.c, on
-# tickets whose bays are worked out by hand, and examples/turns.c, whose turns are.
+# tickets whose bays are worked out by hand, examples/turns.c, whose turns are, and the wrapper's examples/check.rs, on
+# tickets whose faults are.
 set -u
 example=$1
 cut=$2
 held_sets=$3
 turns=$4
+check=$5
 room=$(mktemp -d) || exit 1
 trap 'rm -rf "$room"' EXIT
 trap 'exit 1' HUP INT TERM
@@ -191,4 +193,38 @@ a move of 7 boxes, if there are so many, turns to the end:
   power goes after 16 turns: 18 to 26 left, and it takes 18
   power goes after 24 turns: 12 left, and it takes 12'
 [ "$said" = "$wanted" ] && [ ! -s "$room/error" ] || fail "turns says: $said$(cat "$room/error")"
-echo "example: ok, and once exactly after each of $stores cuts; held sets and turns as worked out by hand"
+
+# checks STATUS PRINTED SAID WORD...: check must print this, say this on standard error and end with this status
+checks() {
+    wanted="$1 $2|$3"
+    shift 3
+    "$check" "$@" >"$room/out" 2>"$room/error"
+    said="$? $(cat "$room/out")|$(cat "$room/error")"
+    [ "$said" = "$wanted" ] || fail "check $* ends with $said"
+}
+
+# Document 01's ticket, and it with word 32 (0020) for word 24 (0018); then a row for each cause.
+drop=0002000300000000
+end=0008000000000000
+checks 0 passes '' "$take" 0003001800000005 "$drop" "$end"
+checks 1 'cause 8 at step 1: word 32 is in bay 4, which is not held at step 1' '' \
+    "$take" 0003002000000005 "$drop" "$end"
+checks 1 'cause 4: a ticket has 3 to 64 steps, and this one has 2' '' "$take" "$end"
+checks 1 'cause 4: a ticket has 3 to 64 steps, and this one has 65' '' $(yes "$take" | head -n 65)
+checks 1 'cause 5 at step 1: step 1 has kind 9, and the kinds are 1 to 8' '' "$take" 0009000000000000 "$end"
+checks 1 'cause 5 at step 63: step 63 is the last, and does not end the ticket' '' $(yes "$take" | head -n 64)
+checks 1 'cause 6 at step 2: step 2 ends the ticket with bays 3 and 63 held' '' "$take" 0001003f00000000 "$end"
+checks 1 'cause 7 at step 1: bay 2 is below bay 3, which is held at step 1' '' \
+    "$take" 0001000200000000 0002000200000000 "$drop" "$end"
+checks 1 'cause 9 at step 1: step 1 has bay 3 held and skips to step 3, which has no bay held' '' \
+    "$take" 0007001800030000 "$drop" "$end"
+checks 2 '' 'check: usage: check WORD .., each a step of 16 hexadecimal digits'
+for word in '' take 000100030000000 00010003000000000 000100030000000A 0x01000300000000 +001000300000000; do
+    checks 2 '' "check: '$word' is not 16 hexadecimal digits (0 to 9, a to f)" "$take" "$word" "$end"
+done
+if [ -w /dev/full ]; then
+    "$check" "$take" "$drop" "$end" >/dev/full 2>"$room/error"
+    status=$?
+    [ "$status" -eq 2 ] && grep -q '^check: standard output: ' "$room/error" || fail "check ends with $status"
+fi
+echo "example: ok, and once exactly after each of $stores cuts; held sets, turns and faults as worked out by hand"

@@ -251,7 +251,11 @@ static void turns_made(void)
     ensure(submit(0, 0, STEPS) == ZILPANUD_NUMBER && submit(WORKERS, 1, STEPS) == ZILPANUD_NO_WORKER, "3 and 1");
     ensure(submit(0, 1, 2) == ZILPANUD_LENGTH && submit(0, 1, STEPS - 1) == ZILPANUD_MALFORMED, "4 and 5");
     ensure(detail == STEPS - 2, "the step that fails");
+    ensure(zilpanud_check(section, STEPS - 1, &detail) == ZILPANUD_MALFORMED && detail == STEPS - 2, "5 alone");
+    ensure(zilpanud_check(section, 2, &detail) == ZILPANUD_LENGTH && detail == 0, "4 alone");
+    ensure(submit(0, 0, 2) == ZILPANUD_NUMBER && submit(WORKERS, 0, 2) == ZILPANUD_NO_WORKER, "3 and 1 before 4");
     ensure(submit(0, 1, STEPS) == ZILPANUD_DONE && submit(0, 2, STEPS) == ZILPANUD_BUSY, "taken, and then busy");
+    ensure(submit(0, 2, 2) == ZILPANUD_BUSY && submit(0, 2, STEPS - 1) == ZILPANUD_BUSY, "2 before 4 and 5");
     ensure(submit(1, 1, STEPS) == ZILPANUD_DONE, "worker 1 is given the same");
     ensure(one_turn(0) == ZILPANUD_STORED && holds_lock_3(0), "a turn stores the intent, and no lock is held");
     ensure(one_turn(0) == ZILPANUD_STORED && holds_lock_3(1), "the next stores the owner word, and lock 3 is held");

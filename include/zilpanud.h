@@ -36,10 +36,12 @@
  * Before 6000 sums and differences were modulo 2^64; now they stop at the ends. An image that was kept by an earlier
  * version is taken over with all workers idle, and no earlier: its layout is the same, and a recovery cannot see by
  * which rule it was kept. The manual has the steps: 'What do I do on the day of the change?'.
+ *
+ * 7000 answers and stores as 6000 did. Its submit is proved to be its tests of 10, 1, 2 and 3 and then the check.
  */
 
-#define ZILPANUD_VERSION 6000
-#define ZILPANUD_VERSION_TEXT "0.6.0"
+#define ZILPANUD_VERSION 7000
+#define ZILPANUD_VERSION_TEXT "0.7.0"
 
 /* ---- sizes */
 
@@ -218,8 +220,28 @@ uint64_t zilpanud_version(void);
 uint64_t zilpanud_format(uint64_t *image, size_t image_words, uint64_t workers, uint8_t *step, uint8_t *turn,
                          uint64_t *held, uint64_t *left);
 
-/* The check of a section alone: 0, or 4 to 9. */
+/* The two operations on a section that is to be worked: its check alone, and its submit, which does that check.
+ *
+ *                 zilpanud_check                             zilpanud_submit
+ *   needs         the words; no image, and no free worker    image, cursors, worker, number, arguments, the words
+ *   tests first                                              10, 1, 2, 3, in this order
+ *   tests then    4; 5 over all steps; 6, 7, 8, 9 by step    the same check: the same cause and the same detail
+ *   returns 0     the section passes                         the section is taken
+ *   leaves then   all as it was                              number, args (as own words), words and count stored, in
+ *                                                            this order; the worker at step 0, its first turn
+ *   refused       all as it was                              all as it was
+ */
+
+/* The check of a section alone: 0, or the first of 4 to 9 that it fails. Any words will do, however many, and nothing
+ * but *detail is written. It goes by the words alone, so that the verdict stays: a section that passes is taken by an
+ * idle worker under a number above its last finished one, and no other section is. */
 uint64_t zilpanud_check(const uint64_t *words, size_t words_len, uint64_t *detail);
+
+/* Submits a section for a worker: 0, or 10, 1, 2, 3, 4 to 9, tested in this order. What is refused with 4 to 9 has the
+ * same answer and detail from zilpanud_check. */
+uint64_t zilpanud_submit(uint64_t *image, size_t image_words, uint8_t *step, uint8_t *turn, uint64_t *held,
+                         size_t worker, uint64_t number, const uint64_t *args, const uint64_t *words, size_t words_len,
+                         uint64_t *left, uint64_t *detail);
 
 /* Which locks are held before each step of a section: 0, or 4, 5. Causes 6 to 9 are not asked, so that one sees the
  * sets of a section that the check refuses with them. It is one pass, and the very one in which the check looks up the
@@ -249,11 +271,6 @@ uint64_t zilpanud_turns_of_path(const uint64_t *words, size_t words_len, const u
  * From step 0 on it is what an uncut section needs; zilpanud_turns_left says it of one that a recovery resumes. */
 uint64_t zilpanud_turns_from(const uint64_t *words, size_t words_len, uint64_t step, uint64_t *fewest, uint64_t *most,
                              uint64_t *detail);
-
-/* Submits a section for a worker: 0, or 10, 1, 2, 3, 4 to 9, tested in this order. */
-uint64_t zilpanud_submit(uint64_t *image, size_t image_words, uint8_t *step, uint8_t *turn, uint64_t *held,
-                         size_t worker, uint64_t number, const uint64_t *args, const uint64_t *words, size_t words_len,
-                         uint64_t *left, uint64_t *detail);
 
 /* One turn of a worker, with at most one store: 16 to 19, or 10, 1, 11. A release that frees its lock answers 16; one
  * that finds it already free or another's leaves it so and answers 17, and detail says which. */

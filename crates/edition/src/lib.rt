@@ -48,7 +48,7 @@ pub fn image_words(workers: u64) -> usize
     formatting::image_words(workers, OWN)
 }
 
-// The check of a section by itself: it passes, or the first of causes 4 to 9.
+// The check of a section by itself: it passes, or the first of causes 4 to 9. It asks for no image and stores nothing.
 pub fn check(words: &[u64]) -> Verdict
     ensures { λ r. ⌜ r ≡ check ownWords (length (now (words .entry))) (codeOf (now (words .entry))) ⌝ }
 {
@@ -98,7 +98,7 @@ pub fn format(image: &mut [u64], workers: u64, left: &mut u64) -> Cleared
     formatting::format(image, workers, MARK, OWN, left)
 }
 
-// Submits a section for worker d, with its number and its eight arguments.
+// Submits a section for worker d, with its number and its eight arguments: causes 10, 1, 2, 3, then that very check, then the stores. (Document 02: loads.)
 pub fn submit(
     image: &mut [u64],
     c: Cursors,

@@ -1,2 +1,3 @@
 pub mod Assigns
 pub mod Submission
+pub mod Split

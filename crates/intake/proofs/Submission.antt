@@ -2,7 +2,7 @@
 -- stores: their number, their places, and their order in the code.
 use Prim.Native.Nat.{ℕ, _+_, _-_, _<_, _≤_}
 use borrow.Author.Tests.{ltb-true, lt-ltb}
-use mathlib.Core.Path.{_≡_, refl, sym}
+use mathlib.Core.Path.{_≡_, refl, sym, _∙_}
 use mathlib.Core.Bool.{Bool, true, false, cond, _&&_, and-assoc, false≢true, true≢false}
 use mathlib.Core.List.{List, [], _∷_, _++_}
 use native.Mathlib.Omega.{arith}
@@ -15,7 +15,8 @@ use Rattle.image.specs.Image.{Image, indexOf, at, workers, headerOk, put, putAl
 use Rattle.image.proofs.Lists.{allValid, putAll-nil, putAll-cons, putAll-append}
 use Rattle.section.specs.declared.Verdict.{Verdict}
 use Rattle.section.specs.declared.Verdict.the-variants.{Pass, Length, Malformed, Unbracketed, Unordered, Unguarded, Unlevel}
-use Rattle.section.specs.Check.{codeOf, check}
+use Rattle.section.specs.Check.{codeOf, check, passes}
+use Rattle.section.proofs.Passing.{passed-is}
 use Rattle.working.specs.declared.Refusal.the-variants.{Worker, Busy, Number as NumberRefused, Image as ImageRefused}
 use Rattle.intake.specs.declared.Submitted.{Submitted}
 use Rattle.intake.specs.declared.Submitted.the-variants.{Taken, Refused}
@@ -34,19 +35,19 @@ pub record Accepted (mark n : ℕ) (w : World) (d k : ℕ) (ws : List ℕ) : Typ
   pub newer : at n (w .image) (field Finished d) < k
   pub checked : check n (length ws) (codeOf ws) ≡ Pass
 
-private-pass : (v : Verdict) → isTaken (verdictAnswer v) ≡ true → v ≡ Pass
-private-pass Pass h = refl
-private-pass Length h = absurd (false≢true h)
-private-pass (Malformed i) h = absurd (false≢true h)
-private-pass (Unbracketed i) h = absurd (false≢true h)
-private-pass (Unordered i) h = absurd (false≢true h)
-private-pass (Unguarded i) h = absurd (false≢true h)
-private-pass (Unlevel i) h = absurd (false≢true h)
+pub verdict-taken : (v : Verdict) → isTaken (verdictAnswer v) ≡ passes v
+verdict-taken Pass = refl
+verdict-taken Length = refl
+verdict-taken (Malformed i) = refl
+verdict-taken (Unbracketed i) = refl
+verdict-taken (Unordered i) = refl
+verdict-taken (Unguarded i) = refl
+verdict-taken (Unlevel i) = refl
 
 private-parts : (a b c e : Bool) (v : Verdict)
     → isTaken (cond a (cond b (cond c (cond e (verdictAnswer v) (Refused NumberRefused)) (Refused Busy)) (Refused Worker)) (Refused ImageRefused)) ≡ true
     → (a ≡ true) × (b ≡ true) × (c ≡ true) × (e ≡ true) × (v ≡ Pass)
-private-parts true true true true v h = (refl, refl, refl, refl, private-pass v h)
+private-parts true true true true v h = (refl, refl, refl, refl, passed-is v (sym (verdict-taken v) ∙ h))
 private-parts true true true false v h = absurd (false≢true h)
 private-parts true true false e v h = absurd (false≢true h)
 private-parts true false c e v h = absurd (false≢true h)

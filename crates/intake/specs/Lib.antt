@@ -1,2 +1,3 @@
 pub mod Submit
 pub mod Codes
+pub mod Split

@@ -1,4 +1,4 @@
-// Submitting a section to a worker.
+// Submitting a section to a worker: causes 10, 1, 2, 3, then the check that `section` has by itself, then the stores.
 use working::Cursors;
 use working::Refusal;
 

@@ -1,4 +1,4 @@
-// Submitting a section: the causes, and the stores of one that is taken.
+// Submitting a section: the causes before the check, the check, and the stores of a section that is taken.
 use crate::Submitted;
 use image::Field;
 use working::Cursors;
@@ -12,6 +12,7 @@ ghost use Rattle.image.specs.Image.{indexOf, put, putAll};
 ghost use Rattle.image.specs.inner.Inside.{Inside};
 ghost use Rattle.working.specs.World.{world};
 ghost use Rattle.intake.specs.Submit.{assigns, submission, verdictAnswer, free, submitAnswer, isTaken};
+ghost use Rattle.intake.specs.Split.{beforeCheck};
 
 // One word of worker d's record.
 fn store_field(image: &mut [u64], f: Field, d: usize, value: u64, n: usize, left: &mut u64)
@@ -88,18 +89,17 @@ fn by_verdict(v: section::Verdict) -> Submitted
     Submitted::Refused(Refusal::Section(v))
 }
 
-// Whether a section is taken, or why not: causes 10, 1, 2, 3, then the check's.
-pub fn judge(
+// Causes 10, 1, 2, 3: whether worker d can be given a section of this number, whatever the section.
+fn before_check(
     image: &[u64],
     c: Cursors,
     d: usize,
     number: u64,
-    words: &[u64],
     mark: u64,
     own: usize,
 ) -> Submitted
     requires { ⌜ own ≤ 64 ⌝ }
-    ensures { λ r. ⌜ ((k : ℕ) → r ≡ submitAnswer mark own (world (now (image .entry)) c k) d number (now (words .entry))) ⌝ }
+    ensures { λ r. ⌜ ((k : ℕ) → r ≡ beforeCheck mark own (world (now (image .entry)) c k) d number) ⌝ }
 {
     if !image::header_ok(image, mark, own) {
         return Submitted::Refused(Refusal::Image);
@@ -112,6 +112,26 @@ pub fn judge(
     }
     if number <= image::read_field(image, Field::Finished, d, own) {
         return Submitted::Refused(Refusal::Number);
+    }
+    Submitted::Taken
+}
+
+// Whether a section is taken, or why not: causes 10, 1, 2, 3, and then the very check that `section` has by itself.
+pub fn judge(
+    image: &[u64],
+    c: Cursors,
+    d: usize,
+    number: u64,
+    words: &[u64],
+    mark: u64,
+    own: usize,
+) -> Submitted
+    requires { ⌜ own ≤ 64 ⌝ }
+    ensures { λ r. ⌜ ((k : ℕ) → r ≡ submitAnswer mark own (world (now (image .entry)) c k) d number (now (words .entry))) ⌝ }
+{
+    let a = before_check(image, c, d, number, mark, own);
+    if !taken(a) {
+        return a;
     }
     by_verdict(section::check(words, own as u16))
 }

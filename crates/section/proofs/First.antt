@@ -44,16 +44,16 @@ or-cong (Unlevel i) v w h = refl
 -- ---- all steps
 
 -- what holds at the first step and at the later ones
-private-all : (f : ℕ → Verdict) (i j : ℕ) → f i ≡ Pass → (i + 1 ≤ j → f j ≡ Pass) → i ≤ j → Dec (i ≡ j) → f j ≡ Pass
-private-all f i j e more l (yes p) = rw (← p) e
-private-all f i j e more l (no n) = more (omega arith)
+pub all-from : (f : ℕ → Verdict) (i j : ℕ) → f i ≡ Pass → (i + 1 ≤ j → f j ≡ Pass) → i ≤ j → Dec (i ≡ j) → f j ≡ Pass
+all-from f i j e more l (yes p) = rw (← p) e
+all-from f i j e more l (no n) = more (omega arith)
 
 pub first-all : (f : ℕ → Verdict) (i k : ℕ) → firstOf f i k ≡ Pass → (j : ℕ) → i ≤ j → j < i + k → f j ≡ Pass
 unfolding firstOf
 first-all f i zero e j l u = absurd (omega arith)
 first-all f i (suc k) e j l u =
     let (a, b) = or-pass (f i) (firstOf f (i + 1) k) e in
-    private-all f i j a (λ m. first-all f (i + 1) k b j m (omega arith)) l (ℕ-discrete i j)
+    all-from f i j a (λ m. first-all f (i + 1) k b j m (omega arith)) l (ℕ-discrete i j)
 
 pub all-first : (f : ℕ → Verdict) (i k : ℕ) → ((j : ℕ) → i ≤ j → j < i + k → f j ≡ Pass) → firstOf f i k ≡ Pass
 unfolding firstOf

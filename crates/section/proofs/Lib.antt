@@ -3,7 +3,9 @@ pub mod First
 pub mod Steps
 pub mod Facts
 pub mod Passing
+pub mod Refusing
 pub mod Left
 pub mod Whole
 pub mod Filled
 pub mod Answers
+pub mod Meaning

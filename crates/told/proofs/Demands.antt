@@ -15,6 +15,9 @@ use Rattle.told.specs.Enough.{EnoughIsWhole}
 use Rattle.told.specs.Turns.{TurnsExact, UncutSpanned}
 use Rattle.told.specs.Between.{PathsBetween, TurnsBetween, LeftTold}
 use Rattle.told.specs.Changing.{ChangesOver, CountsAnew, Anew, RestRecovered, LoggedStored}
+use Rattle.intake.specs.Split.{SubmitsSplit}
+use Rattle.told.specs.Checking.{VerdictsHold}
+use Rattle.intake.proofs.Split.{submits-split}
 use Rattle.claims.proofs.Durable.{durable-always, formatted-rests}
 use Rattle.claims.proofs.Linear.{linearizable}
 use Rattle.told.proofs.RunTurns as run-turns
@@ -31,6 +34,7 @@ use Rattle.told.proofs.Left as left
 use Rattle.told.proofs.Changing as changing
 use Rattle.told.proofs.AtRest as at-rest
 use Rattle.told.proofs.Logged as logged
+use Rattle.told.proofs.Checking.{verdicts-hold}
 use Rattle.told.proofs.Once.{admitted-always, once-always, told-always, asked-always}
 use Rattle.told.proofs.Finishes.{begun-finishes}
 use Rattle.told.proofs.Through.{through-always}
@@ -128,6 +132,16 @@ rest-recovered = at-rest.rest-recovered mark ownWords
 -- what was logged before a cut is stored as logged
 pub logged-stored : LoggedStored mark ownWords
 logged-stored = logged.logged-stored mark ownWords
+
+-- ---- the check apart from the load
+
+-- a submit is causes 10, 1, 2, 3 and then the check that is had by itself
+pub submit-split : SubmitsSplit mark ownWords
+submit-split = submits-split mark ownWords
+
+-- and what the check says is what an idle worker answers, under a number above its finished one, whatever was called and cut before
+pub verdicts-kept : VerdictsHold mark ownWords
+verdicts-kept = verdicts-hold mark ownWords (omega arith) (omega arith)
 
 -- ---- what a planner may be told
 

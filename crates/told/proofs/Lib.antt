@@ -63,6 +63,8 @@ pub mod Neat
 pub mod AtRest
 pub mod Logged
 pub mod Changing
+-- What a submit answers: the check's verdict, once the worker is idle.
+pub mod Checking
 -- Agreement: the calls that the claims speak of have the effects that the functions' contracts speak of.
 pub mod Agreement
 -- The tally of a run is the sum over its turns.

@@ -31,11 +31,10 @@ use Rattle.told.proofs.Writes.{Says, turn-writes}
 use Rattle.claims.proofs.Worlds.{Running}
 use Rattle.claims.proofs.Turning.{still}
 use Rattle.claims.proofs.Called.{TakenAs, taken-as}
-use Rattle.claims.proofs.Played.{plenty, running-lent, Good, play-good, whole-good}
-use Rattle.claims.proofs.Resting.{rested-running}
+use Rattle.claims.proofs.Played.{plenty, running-lent, whole-good}
 use Rattle.claims.proofs.Moves.{play-append, args-full, machine-parts, legal-parts, ends-append, plain-uncut, submit-legal}
 use Rattle.told.proofs.Keeping.{nextTurn, Fed, submitted, Keeps, Kept, play-keeps, working-keeps}
-use Rattle.told.proofs.FromRest.{settled-pcs, Plain, plain-sorted}
+use Rattle.told.proofs.FromRest.{uncut-running, settled-pcs, Plain, plain-sorted}
 use Rattle.told.proofs.Once.{finished-others, tells-settled}
 use Rattle.told.proofs.Telling.{begunThen, turn-begun, pending}
 use Rattle.told.proofs.Recorded.{tellingOf, aside-of}
@@ -190,11 +189,7 @@ module _ (mark n : ℕ) (wide : 8 ≤ n) (narrow : n ≤ 64) (m : Image) (rest :
     legals = submit-legal (endsCut false xs) d k args ws ys (legal-parts false xs later l .1)
 
     running : Running mark n D cells w
-    running =
-        let hs = machine-parts xs later h .0 in
-        let ls = legal-parts false xs later l .0 in
-        subst (λ (b : Bool). Good mark n D cells b w) (legals .0)
-        (play-good mark n D cells false xs (from m) wide narrow hs ls (rested-running mark n m rest))
+    running = uncut-running mark n wide narrow m rest xs (machine-parts xs later h .0) (legal-parts false xs later l .0) (legals .0)
 
     parts : (callable submit ≡ true) × (machine ys ≡ true)
     unfolding machine

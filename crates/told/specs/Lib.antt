@@ -9,4 +9,5 @@ pub mod Paths
 pub mod Turns
 pub mod Between
 pub mod Changing
+pub mod Checking
 pub mod Examples

@@ -1,7 +1,7 @@
 -- What the numbers say: a turn's answer is read back from its code and its detail, a refusal is told from any other answer, and 0
 -- is returned where the call is done and nowhere else.
 use Prim.Native.Nat.{ℕ, zero, suc, _+_, _<_}
-use mathlib.Core.Path.{_≡_, refl}
+use mathlib.Core.Path.{_≡_, refl, _∙_}
 use mathlib.Core.Bool.{Bool, true, false, cond, true≢false}
 use mathlib.Core.List.{List}
 use native.Mathlib.Omega.{arith}
@@ -42,6 +42,8 @@ use Rattle.intake.specs.Submit.{verdictAnswer, isTaken, free, submitAnswer}
 use Rattle.run.specs.Run.{Counting, counting, Course, Sweep, through, halted, anyOpen, turned, swept, sweep, afterSweep, roundsOf, runOf}
 use Rattle.formatting.specs.Codes.{formatCode}
 use Rattle.intake.specs.Codes.{submitCode}
+use Rattle.intake.proofs.Submission.{verdict-taken}
+use Rattle.intake.proofs.Split.{verdict-cause}
 use Rattle.turn.specs.Codes.{turnCode, turnDetail}
 use Rattle.run.specs.Codes.{endCode}
 use Rattle.soundness.specs.declared.Refusal.the-variants.{Image as NotAnImage, Record, Lock}
@@ -129,13 +131,7 @@ abbrev Taking : Submitted → Type 0
 Taking a = isTaken a ≡ eqb (submitCode a) 0
 
 private-verdict : (v : Verdict) → Taking (verdictAnswer v)
-private-verdict Pass = refl
-private-verdict Length = refl
-private-verdict (Malformed i) = refl
-private-verdict (Unbracketed i) = refl
-private-verdict (Unordered i) = refl
-private-verdict (Unguarded i) = refl
-private-verdict (Unlevel i) = refl
+private-verdict v = rw (verdict-cause v) (verdict-taken v ∙ check-zero v)
 
 private-taking : (b : Bool) (x y : Submitted) → Taking x → Taking y → Taking (cond b x y)
 private-taking true x y g h = g

@@ -41,7 +41,7 @@ pub extern "C" fn zilpanud_format(
     formatting::codes::format_code(a)
 }
 
-// The check of a section: 0, or 4 to 9, with the step.
+// The check of a section alone, without an image: 0, or 4 to 9, with the step.
 #[no_mangle]
 pub extern "C" fn zilpanud_check(words: &[u64], detail: &mut u64) -> u64
     ensures code { λ r. ⌜ r ≡ causeOf (checking (now (words .entry))) ⌝ }
@@ -106,7 +106,7 @@ pub extern "C" fn zilpanud_turns_from(
     needs::codes::needed_code(a)
 }
 
-// Submits a section for a worker: 0, or 10, 1, 2, 3 and 4 to 9, the last with the step.
+// Submits a section for a worker: 0, or 10, 1, 2, 3, and then 4 to 9 by that very check, with the step. Where it is refused, nothing is stored.
 #[no_mangle]
 pub extern "C" fn zilpanud_submit(
     image: &mut [u64],
@@ -307,5 +307,5 @@ pub extern "C" fn zilpanud_turns_left(
 pub extern "C" fn zilpanud_version() -> u64
     ensures { λ r. ⌜ r ≡ version ⌝ }
 {
-    6_000
+    7_000
 }

@@ -84,7 +84,7 @@ pub fn ours(call: &Call, image: &mut [u64], lent: Lent) -> Given {
     let done = |()| (0, 0);
     let (answer, detail) = match call {
         Call::Format { workers } => of_ours(cut::format(image, *workers as usize, &mut at, &mut left), done),
-        Call::Check { section } => of_ours(zilpanud::check(section), done),
+        Call::Check { section } => of_ours(zilpanud::check(section).map_err(Into::into), done),
         Call::Submit { worker, number, args, section } => {
             let taken = cut::submit(image, &mut at, *worker, *number, args, section, &mut left);
             of_ours(taken, done)

@@ -15,8 +15,8 @@ pub struct Difference {
     pub owned: Option<u64>,
 }
 
-/// What differs: what a call gives, what a section's held sets are, or something that is told in words: how many turns a
-/// section needs or took, what it logged, or what became of a board that changed over.
+/// What differs: what a call gives, what a section's held sets are, or something that is told in words: what the check
+/// says of a section, how many turns it needs or took, what it logged, or what became of a board that changed over.
 pub enum Found {
     Call(Box<Difference>),
     Pass(Box<passes::Difference>),

@@ -1,10 +1,12 @@
 //! Random lists of calls on the library and on the twin, compared after every call: the image word for word, the
-//! answer, the cursors, the locks held, the stores left and the tally; of every section its held sets and its turns, of
-//! images the turns left; and sections are followed to their end, their totals compared and their turns counted. Many
-//! lists start from a board that changes over. See usage().
+//! answer, the cursors, the locks held, the stores left and the tally; of every section its check, with the sentence
+//! that says what is wrong, its held sets and its turns, of images the turns left; of every submit what it has to do
+//! with the check; and sections are followed to their end, their totals compared and their turns counted. Many lists
+//! start from a board that changes over. See usage().
 
 mod asking;
 mod call;
+mod checked;
 mod counts;
 mod damage;
 mod draw;
@@ -17,15 +19,19 @@ mod rng;
 mod sections;
 mod totals;
 mod turns;
+mod verdicts;
+mod wrong;
 
 use asking::Asking;
 use call::{Call, Given, Lent};
+use checked::{Beside, Submit};
 use found::{Difference, Found};
 use met::Met;
 use rng::Rng;
 use std::env;
 use std::mem::take;
 use std::process::exit;
+use verdicts::Verdicts;
 
 const LISTS: u64 = 100_000;
 const SEED: u64 = 20_260_714;
@@ -39,8 +45,27 @@ fn usage() -> ! {
     exit(2)
 }
 
-/// The same call on both, each with its own image of the same words.
-fn both(call: &Call, mine: &mut [u64], other: &mut [u64], lent: Lent) -> Result<Given, Box<Difference>> {
+/// The same call on both, each with its own image of the same words. A submit is compared with the check besides.
+fn both(
+    call: &Call,
+    (mine, other): (&mut [u64], &mut [u64]),
+    lent: Lent,
+    verdicts: &mut Verdicts,
+) -> Result<Given, Found> {
+    let submit = Submit::before(call, mine, lent)?;
+    let given = the_same(call, (mine, other), lent)?;
+    if let Some(submit) = submit {
+        submit.after(&given, mine)?;
+        verdicts.submit(&submit);
+    }
+    Ok(given)
+}
+
+fn the_same(
+    call: &Call,
+    (mine, other): (&mut [u64], &mut [u64]),
+    lent: Lent,
+) -> Result<Given, Box<Difference>> {
     let ours = call::ours(call, mine, lent);
     let twins = call::twins(call, other, lent);
     if ours == twins && mine == other {
@@ -91,6 +116,7 @@ struct Play<'a> {
     /// The finished numbers with which the board changed over; none if it did not.
     kept: Vec<u64>,
     asking: Asking,
+    beside: Beside,
 }
 
 impl Play<'_> {
@@ -110,7 +136,8 @@ impl Play<'_> {
         for left in 0..=stores {
             mine.copy_from_slice(&self.mine);
             other.copy_from_slice(&self.other);
-            both(call, &mut mine, &mut other, Lent { left, ..self.lent })?;
+            let lent = Lent { left, ..self.lent };
+            both(call, (&mut mine, &mut other), lent, &mut self.met.verdicts)?;
             self.asking.one(&mine, &mut other)?;
             self.asking.flipped(&mut mine, &mut other)?;
         }
@@ -127,7 +154,7 @@ impl Play<'_> {
         let (mut mine, mut other) = (self.mine.clone(), self.other.clone());
         mine.resize(len, 0);
         other.resize(len, 0);
-        let given = both(call, &mut mine, &mut other, self.lent)?;
+        let given = both(call, (&mut mine, &mut other), self.lent, &mut self.met.verdicts)?;
         self.asking.one(&mine, &mut other)?;
         self.met.odd_lengths += 1;
         self.met.call(call, &given, false, 9);
@@ -204,7 +231,9 @@ impl Play<'_> {
         };
         if let Call::Check { section } | Call::Submit { section, .. } = &call {
             self.met.pass(&passes::compared(section)?);
+            self.check(section)?;
             self.asking.section(section)?;
+            self.beside(&call)?;
         }
         if self.r.chance(1) {
             self.another_length(&call)?;
@@ -221,11 +250,33 @@ impl Play<'_> {
         Ok(())
     }
 
+    /// The check of a section alone.
+    fn check(&mut self, section: &[u64]) -> Result<(), Found> {
+        let verdict = checked::compared(section)?;
+        Ok(self.met.verdicts.alone(section, &verdict)?)
+    }
+
+    /// Sections beside the list's: one of an odd length, and with a submit a wrong one, submitted on copies of the
+    /// images.
+    fn beside(&mut self, call: &Call) -> Result<(), Found> {
+        let odd = self.beside.odd_length();
+        self.check(&odd)?;
+        if let Some(submit) = self.beside.submit(call, &self.mine, self.workers) {
+            if let Call::Submit { section, .. } = &submit {
+                self.check(section)?;
+            }
+            let (mut mine, mut other) = (self.mine.clone(), self.other.clone());
+            both(&submit, (&mut mine, &mut other), self.lent, &mut self.met.verdicts)?;
+        }
+        Ok(())
+    }
+
     /// Makes the call on both.
-    fn made(&mut self, call: &Call) -> Result<Given, Box<Difference>> {
+    fn made(&mut self, call: &Call) -> Result<Given, Found> {
         let (before, kind) = (self.lent.left, self.kind(call));
         let was_theirs = self.lent.held == owned(&self.mine);
-        let given = both(call, &mut self.mine, &mut self.other, self.lent)?;
+        let images = (&mut self.mine[..], &mut self.other[..]);
+        let given = both(call, images, self.lent, &mut self.met.verdicts)?;
         // with none left one cannot tell whether a store was wanted: taken for a cut where the call stores at all
         let stores = matches!(given.answer, 0 | 16 | 20) && call.sort() < 6 && call.sort() != 1;
         self.was_cut = stores && before != u64::MAX && given.lent.left == 0;
@@ -248,12 +299,12 @@ impl Play<'_> {
     /// Formats the image; then the board may change over, from words that an earlier version may have left.
     fn start(&mut self, changes_over: bool) -> Result<(), Found> {
         let format = Call::Format { workers: self.workers };
-        self.lent = both(&format, &mut self.mine, &mut self.other, self.lent)?.lent;
+        self.lent = the_same(&format, (&mut self.mine, &mut self.other), self.lent)?.lent;
         if changes_over {
             rest::put(&mut self.r, &mut self.mine);
             self.other.copy_from_slice(&self.mine);
             let before = self.mine.clone();
-            let given = both(&Call::Recover, &mut self.mine, &mut self.other, self.lent)?;
+            let given = the_same(&Call::Recover, (&mut self.mine, &mut self.other), self.lent)?;
             rest::stays(&before, &given, &self.mine)?;
             self.lent = given.lent;
             self.kept = rest::finished_numbers(&self.mine);
@@ -287,7 +338,8 @@ fn list(seed: u64, number: u64, met: &mut Met) -> Result<(), (u64, Found)> {
     let lent = Lent { step: [fill as u8; 8], turn: [!fill as u8; 8], held: !fill, left: u64::MAX };
     let (mine, other) = (image.clone(), image);
     let asking = Asking::new(Rng::of_list(!seed, number), workers as usize, take(&mut met.turns));
-    let mut play = Play { r, met, mine, other, lent, workers, was_cut: false, kept: vec![], asking };
+    let beside = Beside(Rng::of_list(seed ^ 6, number));
+    let mut play = Play { r, met, mine, other, lent, workers, was_cut: false, kept: vec![], asking, beside };
     play.start(changes_over).map_err(|d| (0, d))?;
     let mut played = (1..=calls).try_for_each(|n| play.next(manner).map_err(|d| (n, d)));
     if played.is_ok() {

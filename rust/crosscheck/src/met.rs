@@ -4,6 +4,7 @@ use crate::call::{Call, Given, SORTS};
 use crate::counts::Counts;
 use crate::damage::DAMAGES;
 use crate::passes::Pass;
+use crate::verdicts::Verdicts;
 
 /// The answers' numbers, by column of the table.
 const ANSWERS: [u64; 19] = [0, 1, 2, 3, 4, 5, 6, 7, 8, 9, 10, 11, 12, 13, 16, 17, 18, 19, 20];
@@ -61,6 +62,8 @@ pub struct Met {
     pub kept_numbers: u64,
     /// What was compared of turns, and of sections that were followed.
     pub turns: Counts,
+    /// What the check said of sections, alone and in submits.
+    pub verdicts: Verdicts,
 }
 
 impl Met {
@@ -130,6 +133,7 @@ impl Met {
         lines.extend(refused.map(|n| format!("no held sets were refused with {n}")));
         lines.extend(given.map(|n| format!("no held sets were given where the check answers {n}")));
         lines.extend(self.turns.missing());
+        lines.extend(self.verdicts.missing());
         lines
     }
 
@@ -184,6 +188,7 @@ impl Met {
             self.changed_over, self.kept_numbers
         );
         self.turns.report();
+        self.verdicts.report();
     }
 
     fn sets(&self) {

@@ -34,6 +34,10 @@ fn of_ours<T>(result: &Result<T, zilpanud::Refusal>) -> Told {
     result.as_ref().map_or_else(|no| (no.0.number(), no.0.detail().unwrap_or(0)), |_| (0, 0))
 }
 
+fn checked(section: &[u64]) -> Told {
+    of_ours(&zilpanud::check(section).map_err(Into::into))
+}
+
 fn of_twins<T>(result: &Result<T, twin::Refusal>) -> Told {
     result.as_ref().map_or_else(|no| (no.number as u64, no.at as u64), |_| (0, 0))
 }
@@ -43,16 +47,12 @@ fn library(section: &[u64], lent: [u64; STEPS]) -> Pass {
     let (steps, count) = (section.as_ptr(), section.len());
     // SAFETY: every pointer comes from a live reference of its own, to as many words as the call asks for.
     let answer = unsafe { zilpanud_held_sets(steps, count, words.as_mut_ptr(), &mut detail) };
-    Pass { checked: of_ours(&zilpanud::check(section)), told: (answer, detail), words }
+    Pass { checked: checked(section), told: (answer, detail), words }
 }
 
 fn wrapper(section: &[u64]) -> Pass {
     let sets = zilpanud::held_sets(section);
-    Pass {
-        checked: of_ours(&zilpanud::check(section)),
-        told: of_ours(&sets),
-        words: sets.unwrap_or([0; STEPS]),
-    }
+    Pass { checked: checked(section), told: of_ours(&sets), words: sets.unwrap_or([0; STEPS]) }
 }
 
 fn twins(section: &[u64]) -> Pass {

@@ -2,7 +2,7 @@
 //! again.
 
 use crate::cut::{self, done, ENOUGH};
-use crate::{raw, Cause, Cursors, Refusal, RefusedRun, Run, Standing, Turn, STEPS};
+use crate::{raw, Cause, Cursors, Fault, Refusal, RefusedRun, Run, Standing, Turn, STEPS};
 
 /// Formats an image for so many workers, and gives the cursors, all idle with no lock held. Refuses with cause 10 and
 /// stores nothing.
@@ -14,12 +14,44 @@ pub fn format(image: &mut [u64], workers: usize) -> Result<Cursors, Refusal> {
     Ok(cursors)
 }
 
-/// The check of a section alone. Refuses with the first of causes 4 to 9 that the section fails.
-pub fn check(section: &[u64]) -> Result<(), Refusal> {
+/// The check of a section alone: without an image, before a worker is free. Any words will do, and nothing is stored.
+///
+/// Refuses with the first of causes 4 to 9 that the section fails, in document 01's order: 4; then 5 over all steps;
+/// then 6, 7, 8, 9 step by step. The [`Fault`] says with it what is wrong at its step.
+///
+/// [`submit`] tests causes 10, 1, 2 and 3, and then does this very check. So the answer here is the one that every
+/// later submit of the same section will have behind those four, whatever happens on the board until then: a section
+/// that passes is taken by an idle worker under a number above its last finished one, and no other section is.
+///
+/// ```
+/// use zilpanud::code::{acquire, finish, release, set};
+/// use zilpanud::{Cause, Refusal};
+///
+/// let mut section = [acquire(3), set(32, 5), release(3), finish()];
+/// let fault = zilpanud::check(&section).unwrap_err();
+/// assert_eq!(fault.to_string(), "word 32 is in bay 4, which is not held at step 1");
+///
+/// let mut image = vec![0; zilpanud::image_len(1)];
+/// let mut cursors = zilpanud::format(&mut image, 1)?;
+/// let refused = zilpanud::submit(&mut image, &mut cursors, 0, 1, &[0; 8], &section);
+/// assert_eq!(refused, Err(Refusal(fault.cause())));
+///
+/// section[1] = set(24, 5);
+/// zilpanud::check(&section)?;
+/// zilpanud::submit(&mut image, &mut cursors, 0, 1, &[0; 8], &section)?;
+/// // The worker is busy now, and a submit says that before it does the check.
+/// let refused = zilpanud::submit(&mut image, &mut cursors, 0, 2, &[0; 8], &[]);
+/// assert_eq!(refused, Err(Refusal(Cause::Busy)));
+/// # Ok::<(), Refusal>(())
+/// ```
+pub fn check(section: &[u64]) -> Result<(), Fault> {
     let mut detail = 0;
     // SAFETY: here and below, every pointer comes from a live reference of its own, and every length is its slice's.
     let answer = unsafe { raw::zilpanud_check(section.as_ptr(), section.len(), &mut detail) };
-    done(answer, detail)
+    match answer {
+        0 => Ok(()),
+        _ => Err(Fault::of(answer, detail, section)),
+    }
 }
 
 /// The held set before each step of a section: a mask, in which bit b is set if lock b is held there. It goes by the
@@ -28,16 +60,16 @@ pub fn check(section: &[u64]) -> Result<(), Refusal> {
 /// looks up the step that a jump names, and a recovery the one that a pc does.
 ///
 /// Refuses with causes 4 and 5 alone. A section that the check refuses with 6 to 9 has its sets given, and they show
-/// why:
+/// why (as the check's [`Fault`] says it, step by step):
 ///
 /// ```
 /// use zilpanud::code::{acquire, finish, jump_if_zero, release};
-/// use zilpanud::{Cause, Refusal, LOCKS};
+/// use zilpanud::{Cause, LOCKS};
 ///
 /// // Meant to go on behind the release of lock 5, the jump goes to the step that releases it.
 /// let (jump, target) = (1, 3);
 /// let section = [acquire(3), jump_if_zero(24, target), acquire(5), release(5), release(3), finish()];
-/// assert_eq!(zilpanud::check(&section), Err(Refusal(Cause::Unlevel { step: jump })));
+/// assert_eq!(zilpanud::check(&section).unwrap_err().cause(), Cause::Unlevel { step: jump });
 ///
 /// let sets = zilpanud::held_sets(&section)?;
 /// assert_eq!(sets[..6], [0, 1 << 3, 1 << 3, 1 << 3 | 1 << 5, 1 << 3, 0]);
@@ -46,7 +78,7 @@ pub fn check(section: &[u64]) -> Result<(), Refusal> {
 /// let (here, there) = (held(jump), held(target as usize));
 /// println!("step {jump} jumps with locks {here:?} held, to step {target} with {there:?}");
 /// assert_eq!((here, there), (vec![3], vec![3, 5]));
-/// # Ok::<(), Refusal>(())
+/// # Ok::<(), zilpanud::Refusal>(())
 /// ```
 pub fn held_sets(section: &[u64]) -> Result<[u64; STEPS], Refusal> {
     let mut sets = [0; STEPS];
@@ -57,8 +89,11 @@ pub fn held_sets(section: &[u64]) -> Result<[u64; STEPS], Refusal> {
     Ok(sets)
 }
 
-/// Submits a section to a worker, with its number and its arguments, which become the worker's own words. Refuses with
-/// causes 10, 1, 2, 3, then 4 to 9, and leaves image and cursors as they were.
+/// Submits a section to a worker, with its number and its arguments, which become the worker's own words.
+///
+/// It tests causes 10, 1, 2 and 3, and then does the very [`check`] of the section; what passes is stored. Refused, it
+/// leaves image and cursors as they were. With 4 to 9, the check of the same section has the same cause and step, and
+/// says what is wrong there.
 pub fn submit(
     image: &mut [u64],
     cursors: &mut Cursors,

@@ -8,7 +8,8 @@
 //! stops at 2^64 − 1 and a difference at 0 ([`add`], [`sub`]).
 //!
 //! Nothing is tested here: a field that its kind does not have is put into the word as it is, and the check of a
-//! section ([`check`](crate::check), or a submit) refuses the step with [`Cause::Malformed`](crate::Cause::Malformed).
+//! section ([`check`](crate::check), or a submit, which does it too) refuses the step with
+//! [`Cause::Malformed`](crate::Cause::Malformed).
 //!
 //! ```
 //! use zilpanud::code::{acquire, add, finish, jump_if_zero, less, lock_of, own, release, sub};
@@ -52,9 +53,31 @@ pub enum Kind {
     Finish = 8,
 }
 
+impl Kind {
+    /// The kind of a number, 1 to 8; another number is no kind's.
+    pub const fn of(number: u16) -> Option<Kind> {
+        Some(match number {
+            1 => Kind::Acquire,
+            2 => Kind::Release,
+            3 => Kind::Set,
+            4 => Kind::Add,
+            5 => Kind::Subtract,
+            6 => Kind::Less,
+            7 => Kind::Jump,
+            8 => Kind::Finish,
+            _ => return None,
+        })
+    }
+}
+
 /// An instruction word of a kind's number, with its three fields.
 pub const fn instruction(kind: u16, a: u16, b: u16, c: u16) -> u64 {
     (kind as u64) << 48 | (a as u64) << 32 | (b as u64) << 16 | c as u64
+}
+
+/// The number of an instruction word's kind, and its fields a, b, c.
+pub(crate) const fn fields_of(word: u64) -> (u16, [u16; 3]) {
+    ((word >> 48) as u16, [(word >> 32) as u16, (word >> 16) as u16, word as u16])
 }
 
 /// Acquires a lock, 0 to 63, that is above all locks held; the worker waits while another has it.

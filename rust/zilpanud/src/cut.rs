@@ -51,7 +51,8 @@ pub fn format(
     done(answer, 0)
 }
 
-/// [`submit`](crate::submit).
+/// [`submit`](crate::submit): the tests of causes 10, 1, 2 and 3, and then the [`check`](crate::check), make no store,
+/// so that its answer is the same whatever `left` is. A section that it refuses with 4 to 9 is explained by the check.
 pub fn submit(
     image: &mut [u64],
     cursors: &mut Cursors,

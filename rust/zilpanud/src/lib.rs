@@ -56,9 +56,16 @@
 //! # Ok::<(), zilpanud::Refusal>(())
 //! ```
 //!
-//! [`check`] tests a section by itself, and [`held_sets`] says which locks are held before each of its steps. For a
-//! timetable, [`turns_from`] says how many turns it needs from a step on, [`turns_left`] how many after a recovery, and
-//! [`turns_of_path`] how many it takes where the steps that it goes through are known.
+//! A section is tested by two operations:
+//!
+//! - [`check`], without an image, before a worker is free: the first of causes 4 to 9 that the section fails, or that
+//!   it passes. Its [`Fault`] says in a sentence what is wrong, and at which step.
+//! - [`submit`], which tests causes 10, 1, 2 and 3, then does that very check, and then stores the section. A refusal
+//!   with 4 to 9 is explained by `check` of the same section.
+//!
+//! [`held_sets`] says which locks are held before each step of a section. For a timetable, [`turns_from`] says how many
+//! turns it needs from a step on, [`turns_left`] how many after a recovery, and [`turns_of_path`] how many it takes
+//! where the steps that it goes through are known.
 //!
 //! [`cut`] has the calls that store once more, with the number of stores that they may still make: so tests cut them.
 //!
@@ -75,17 +82,21 @@ mod board;
 mod calls;
 pub mod code;
 pub mod cut;
+mod fault;
 mod raw;
 mod refusal;
 mod turns;
+mod why;
 
 pub use answers::{Cursors, End, Needs, Passing, Run, Standing, Tally, Turn};
 #[cfg(all(unix, target_pointer_width = "64"))]
 pub use board::{Board, BoardError};
 pub use calls::{check, finished, format, held_sets, is_idle, recover, run, standing, submit, turn};
 pub use code::instruction;
+pub use fault::Fault;
 pub use refusal::{Cause, Refusal, RefusedRun};
 pub use turns::{turns_from, turns_left, turns_of_path};
+pub use why::{Field, Why};
 
 /// An image has 1 to 8 workers.
 pub const WORKERS: usize = 8;
@@ -100,7 +111,7 @@ pub const LOCKS: usize = 64;
 pub const STEPS: usize = 64;
 
 /// The version of the library that this crate was written for, as [`version`] says it.
-pub const VERSION: u64 = 6_000;
+pub const VERSION: u64 = 7_000;
 
 /// The version of the library that is linked: 1,000,000 × major + 1,000 × minor + patch.
 pub fn version() -> u64 {

@@ -70,7 +70,7 @@ fn cause_3_number() {
 
 /// A section that the check refuses, by itself and in a submit.
 fn fails(section: &[u64], cause: Cause) {
-    assert_eq!(zilpanud::check(section), refused(cause));
+    assert_eq!(zilpanud::check(section).map_err(Refusal::from), refused(cause));
     not_taken(&mut World::formatted(1), 0, 1, section, cause);
 }
 

@@ -344,7 +344,7 @@ fn refused_as_the_check_does() {
         (&[acquire(3), jump_if_zero(24, 3), release(3), finish()], Cause::Unlevel { step: 1 }),
     ];
     for (section, cause) in sections {
-        assert_eq!(zilpanud::check(section), Err(Refusal(cause)));
+        assert_eq!(zilpanud::check(section).map_err(Refusal::from), Err(Refusal(cause)));
         for step in [0, 1, 2, 3].into_iter().chain(past(section.len() as u64)) {
             refused(section, step, cause);
         }

@@ -140,7 +140,9 @@ impl Board {
 /// Calls that change the board.
 impl Board {
     /// Submits a section to a worker under a number above the last that it finished, with its arguments, which become
-    /// the worker's own words. Refuses with causes 1, 2, 3, then 4 to 9, and changes nothing.
+    /// the worker's own words. It tests causes 1, 2 and 3, and then does the very [`check`](crate::check) of the
+    /// section. Refused, it changes nothing; with 4 to 9, the check of the same section says what is wrong with it, and
+    /// could have said so before the worker was free, or without the board.
     pub fn submit(
         &mut self,
         worker: usize,
@@ -151,9 +153,10 @@ impl Board {
         crate::submit(self.image.words_mut(), &mut self.cursors, worker, number, args, section)
     }
 
-    /// Submits a section under the worker's next number, one above the last finished, and gives the number. A caller
-    /// that must know after a crash which number it used notes it first, from [`finished`](Board::finished), and calls
-    /// [`submit`](Board::submit): here a crash can come before the number is told.
+    /// Submits a section under the worker's next number, one above the last finished, and gives the number; tested and
+    /// refused as [`submit`](Board::submit) is. A caller that must know after a crash which number it used notes it
+    /// first, from [`finished`](Board::finished), and calls [`submit`](Board::submit): here a crash can come before the
+    /// number is told.
     pub fn submit_next(&mut self, worker: usize, args: &[u64; 8], section: &[u64]) -> Result<u64, Refusal> {
         let number = self.finished(worker)?.saturating_add(1);
         self.submit(worker, number, args, section)?;

@@ -3,6 +3,7 @@
 #![allow(dead_code)]
 
 pub mod held;
+pub mod says;
 pub mod totals;
 
 use std::path::PathBuf;

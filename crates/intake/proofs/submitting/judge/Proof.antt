@@ -1,80 +1,30 @@
--- `intake::submitting::judge` meets its contract: its tests are the definition's, in the same order, each past those before it.
-use borrow.Author.Tests.{lt-ltb, le-ltb}
+-- `intake::submitting::judge` meets its contract: a submit's answer is divided in the tests before the check and the check.
 use borrow.Author.Needs.{needs}
+use mathlib.Core.Path.{_≡_}
+use mathlib.Core.Bool.{true, false}
 use denote.Ref.{now}
 use Rattle.base.proofs.Bools.{denied, granted}
-use Rattle.image.proofs.Header.{header-inside}
-use Rattle.intake.specs.Submit.{submitAnswer}
+use Rattle.working.specs.World.{world}
+use Rattle.intake.specs.Submit.{isTaken}
+use Rattle.intake.specs.Split.{beforeCheck}
+use Rattle.intake.proofs.Split.{answers-before, answers-behind}
 use Rattle.intake.proofs.submitting.judge.Statement.{statement}
 use Rattle.intake.proofs.submitting.judge.Tie as tie
 
-header-ok-requires : tie.Need-header-ok-requires
-header-ok-requires c κs = search needs
+before-check-requires : tie.Need-before-check-requires
+before-check-requires c κs = search needs
+
+taken-requires : tie.Need-taken-requires
+taken-requires c κs = search needs
 
 returns : tie.Need-returns
-unfolding submitAnswer
-returns c = λ k. rw (denied (c .before .header-ok .ensures) (c .if1 .taken))
-
-workers-requires : tie.Need-workers-requires
-workers-requires c κs = search needs
-
-returns-2 : tie.Need-returns-2
-unfolding submitAnswer
-returns-2 c = λ k.
-    let w = c .before in
-    let h = w .before .before in
-    let A = h .before .before .before .args in
-    rw (granted (h .header-ok .ensures) (w .before .if1 .left), ← w .workers .ensures, le-ltb (A .d) (w .workers .result) (c .if2 .taken))
-
-free-requires : tie.Need-free-requires
-free-requires c κs =
-    let w = c .before in
-    let h = w .before .before in
-    let S = h .before .before .before in
-    let A = S .args in
-    header-inside (A .mark) (A .own) (now (A .image)) (A .d) (S .pre) (granted (h .header-ok .ensures) (w .before .if1 .left))
-    (rw (← w .workers .ensures) (c .if2 .left))
-
-returns-3 : tie.Need-returns-3
-unfolding submitAnswer
-returns-3 c = λ k.
-    let r = c .before in
-    let w = r .before .before in
-    let h = w .before .before in
-    let A = h .before .before .before .args in
-    rw (
-      granted (h .header-ok .ensures) (w .before .if1 .left),
-      ← w .workers .ensures,
-      lt-ltb (A .d) (w .workers .result) (r .before .if2 .left),
-      denied (r .free .ensures k) (c .if3 .taken),
-    )
-
-read-field-requires : tie.Need-read-field-requires
-read-field-requires c κs =
-    let r = c .before in
-    let w = r .before .before in
-    let h = w .before .before in
-    let S = h .before .before .before in
-    let A = S .args in
-    header-inside (A .mark) (A .own) (now (A .image)) (A .d) (S .pre) (granted (h .header-ok .ensures) (w .before .if1 .left))
-    (rw (← w .workers .ensures) (r .before .if2 .left))
-
-returns-4 : tie.Need-returns-4
-unfolding submitAnswer
-returns-4 c = λ k.
-    let f = c .before in
-    let r = f .before .before in
-    let w = r .before .before in
-    let h = w .before .before in
-    let A = h .before .before .before .args in
-    rw (
-      granted (h .header-ok .ensures) (w .before .if1 .left),
-      ← w .workers .ensures,
-      lt-ltb (A .d) (w .workers .result) (r .before .if2 .left),
-      granted (r .free .ensures k) (f .before .if3 .left),
-      ← f .read-field .ensures,
-      le-ltb (f .read-field .result) (A .number) (c .if4 .taken),
-    )
+returns c = λ k.
+    let t = c .before in
+    let A = c .before .before .before .before .before .args in
+    let w = world (now (A .image)) (A .c) k in
+    let e = t .before .before-check .ensures k in
+    let r : isTaken (beforeCheck (A .mark) (A .own) w (A .d) (A .number)) ≡ false = rw (← e) (denied (t .taken .ensures) (c .if1 .taken)) in
+    rw (answers-before (A .mark) (A .own) w (A .d) (A .number) (now (A .words)) r) e
 
 cast-check : tie.Need-cast-check
 cast-check c = search needs
@@ -85,38 +35,23 @@ check-requires c κs = search needs
 by-verdict-requires : tie.Need-by-verdict-requires
 by-verdict-requires c κs = search needs
 
-returns-5 : tie.Need-returns-5
-unfolding submitAnswer
-returns-5 c = λ k.
-    let f = c .before .before .before in
-    let r = f .before .before in
-    let w = r .before .before in
-    let h = w .before .before in
-    let A = h .before .before .before .args in
-    rw (
-      granted (h .header-ok .ensures) (w .before .if1 .left),
-      ← w .workers .ensures,
-      lt-ltb (A .d) (w .workers .result) (r .before .if2 .left),
-      granted (r .free .ensures k) (f .before .if3 .left),
-      ← f .read-field .ensures,
-      lt-ltb (f .read-field .result) (A .number) (c .before .before .if4 .left),
-      ← c .before .check .ensures,
-    )
-    (c .by-verdict .ensures)
+returns-2 : tie.Need-returns-2
+returns-2 c = λ k.
+    let t = c .before .before .before in
+    let A = t .before .before .before .before .args in
+    let w = world (now (A .image)) (A .c) k in
+    let b = t .before .before-check .ensures k in
+    let r : isTaken (beforeCheck (A .mark) (A .own) w (A .d) (A .number)) ≡ true = rw (← b) (granted (t .taken .ensures) (c .before .before .if1 .left)) in
+    rw (answers-behind (A .mark) (A .own) w (A .d) (A .number) (now (A .words)) r, ← c .before .check .ensures) (c .by-verdict .ensures)
 
 pub judge-spec : {M : Type 1} → statement M
 judge-spec =
     tie.close
     (tie.spec
-    header-ok-requires
+    before-check-requires
+    taken-requires
     returns
-    workers-requires
-    returns-2
-    free-requires
-    returns-3
-    read-field-requires
-    returns-4
     cast-check
     check-requires
     by-verdict-requires
-    returns-5)
+    returns-2)

@@ -114,7 +114,7 @@ pub fn long() {
 }
 
 /// The held set before each step by another way: a bay is in it if the last step before that takes or drops it takes it.
-fn slow(steps: &[u64]) -> [u64; 64] {
+pub fn slow(steps: &[u64]) -> [u64; 64] {
     let moves = |w: u64, bay| matches!(w >> 48, 1 | 2) && w >> 32 & 0xffff == bay;
     let held = |s: usize, bay| {
         let last = steps.get(..s).and_then(|before| before.iter().rfind(|&&w| moves(w, bay)));
@@ -124,7 +124,7 @@ fn slow(steps: &[u64]) -> [u64; 64] {
 }
 
 /// A step that passes 5 as step s of n, not the last.
-fn step(r: &mut Rng, s: u64, n: u64, bays: u64) -> u64 {
+pub fn step(r: &mut Rng, s: u64, n: u64, bays: u64) -> u64 {
     // own words, or any
     let (low, words) = if r.chance(80) { (512, 8) } else { (0, 520) };
     let mut below = |n: u64| r.below(n) as u16;
