@@ -29,7 +29,7 @@ WARNINGS = -Wall -Wextra -Wpedantic -Wconversion -Wsign-conversion -Wshadow -Wca
 C99 = $(CC) -std=c99 $(WARNINGS) -Wstrict-prototypes -Wmissing-prototypes $(CFLAGS) -Iinclude
 CXX17 = $(CXX) -std=c++17 $(WARNINGS) -Wold-style-cast $(CXXFLAGS) -Iinclude
 
-.PHONY: all library board help check tools header example check_example messages stores wrapper crosscheck powercut
+.PHONY: all library board help check tools header example rust_examples messages stores wrapper crosscheck powercut
 .PHONY: install clean
 .NOTPARALLEL:
 .SUFFIXES:
@@ -82,7 +82,7 @@ $(OUT):
 
 # the header, as C99 and as C++17
 
-HEADER = checks/header.c checks/header_turns.c checks/header_again.c
+HEADER = checks/header.c checks/header_turns.c checks/header_day.c checks/header_again.c
 HEADER_NEEDS = $(HEADER) checks/header_again.h include/zilpanud.h $(ARCHIVE) | $(OUT)
 
 $(OUT)/header_c99: $(HEADER_NEEDS)
@@ -108,14 +108,16 @@ $(OUT)/example_cut: checks/example_cut.c examples/board.c include/zilpanud.h $(A
 $(OUT)/held_sets $(OUT)/turns: $(OUT)/%: examples/%.c include/zilpanud.h $(ARCHIVE) | $(OUT)
 	@$(C99) $< $(ARCHIVE) -o $@
 
-# one in Rust; cargo decides itself what must be built again
-check_example: $(ARCHIVE) | $(OUT)
-	@$(RUST) build $(AS_IS) --quiet --manifest-path rust/zilpanud/Cargo.toml --example check
+# those in Rust; cargo decides itself what must be built again
+rust_examples: $(ARCHIVE) | $(OUT)
+	@$(RUST) build $(AS_IS) --quiet --manifest-path rust/zilpanud/Cargo.toml --examples
 
 EXAMPLES = $(OUT)/example $(OUT)/example_cut $(OUT)/held_sets $(OUT)/turns
+RUST_EXAMPLES = $(OUT)/cargo/debug/examples
 
-example: $(EXAMPLES) check_example
-	@sh checks/example.sh $(EXAMPLES) $(OUT)/cargo/debug/examples/check
+example: $(EXAMPLES) rust_examples
+	@sh checks/example.sh $(EXAMPLES) $(RUST_EXAMPLES)/check
+	@sh checks/waits.sh $(RUST_EXAMPLES)/waits
 
 # what board says on standard error
 
@@ -142,7 +144,7 @@ wrapper: $(ARCHIVE) | $(OUT)
 	@sh checks/quiet.sh wrapper tests rust/zilpanud $(RUST) test $(AS_IS)
 
 crosscheck: $(ARCHIVE) | $(OUT)
-	@sh checks/quiet.sh crosscheck '20000 lists' rust/crosscheck $(RUST) run $(AS_IS) --release -- 20000
+	@sh checks/quiet.sh crosscheck '20000 lists and recorded days' rust/crosscheck $(RUST) run $(AS_IS) --release -- 20000
 
 powercut: $(ARCHIVE) | $(OUT)
 	@sh checks/quiet.sh powercut '300 kills' rust/powercut $(RUST) run $(AS_IS) --release -- 300

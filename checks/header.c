@@ -1,6 +1,7 @@
 /*
  * The header, as C99 and as C++17: every macro and every call of it is used, and what it says of the archive is tried
- * (the turns that a section takes in header_turns.c). Exits with 1 at the first thing that is not so.
+ * (the turns that a section takes in header_turns.c, recorded days in header_day.c). Exits with 1 at the first thing
+ * that is not so.
  */
 #include "header_again.h"
 
@@ -376,6 +377,7 @@ int main(void)
     sets_given();
     sets_refused();
     turns_counted();
+    days_summed();
     formatted();
     nothing_given();
     formatted();

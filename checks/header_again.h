@@ -10,6 +10,9 @@ uint64_t left_elsewhere(void);
 /* how many turns a section takes */
 void turns_counted(void);
 
+/* the waits of a recorded day */
+void days_summed(void);
+
 /* Ends the program with 1 where this is not so. */
 void ensure(int holds, const char *what);
 

@@ -26,6 +26,8 @@ says '' '' ''
 says '01\n03' "$recovered" ''
 says '01\n03\n' "$recovered" ''
 says '01\n02010001\n03\n' "ffff 0000000000000001\n$recovered" ''
+says '01\n040000\n04ffff\n03\n040001' "$recovered" ''
+says '01\n03\n0400\n03\n' "$recovered$malformed" "board: line 3: malformed (14)$behind"
 says '01\n03\n0z\n03\n' "$recovered$malformed" "board: line 3: malformed (14)$behind"
 says '01\n03\n\n' "$recovered$malformed" "board: line 3: malformed (14)$behind"
 says '01\n0x' "$malformed" "board: line 2: malformed (14)$behind"

@@ -8,10 +8,11 @@
  * Words: a worker is a desk of the board, a section its ticket, an instruction a step of it, a lock a bay, a cell a
  * board word; to submit is to hand in, to acquire and to release are to take and to drop, a cursor is a working place.
  *
- * What the caller owes, since C cannot say it: a pointer and its length name that many words; step and turn name
- * 8 bytes, held a word, args 8 words, tally 5 words, sets 64 words; no two of a call's pointers name the same memory
- * (only args, words and path, which are read alone, may), and none is null; a pointer to words is aligned to 8. With a
- * length of 0 the pointer is not read, and any pointer that is not null and is aligned to 8 will do.
+ * What the caller owes, since C cannot say it: a pointer and its length name that many words, or bytes; step and turn
+ * name 8 bytes, held a word, args, waited and moved 8 words, tally 5 words, sets and locks 64 words; no two of a call's
+ * pointers name the same memory (only args, words and path, which are read alone, may), and none is null; a pointer to
+ * words is aligned to 8. With a length of 0 the pointer is not read, and any pointer that is not null and is aligned to
+ * 8, which one to bytes need not be, will do.
  *
  * Threads: the library keeps nothing between calls; all it knows is the image, the cursors (step, turn and held) and
  * the numbers that a call is lent. So calls on different images, each with its cursors, may be made from different
@@ -38,10 +39,13 @@
  * which rule it was kept. The manual has the steps: 'What do I do on the day of the change?'.
  *
  * 7000 answers and stores as 6000 did. Its submit is proved to be its tests of 10, 1, 2 and 3 and then the check.
+ *
+ * 8000 answers and stores as 7000 did, and adds zilpanud_day_sums. Its program board plays frame lines of kind 04,
+ * which that of 7000 called malformed.
  */
 
-#define ZILPANUD_VERSION 7000
-#define ZILPANUD_VERSION_TEXT "0.7.0"
+#define ZILPANUD_VERSION 8000
+#define ZILPANUD_VERSION_TEXT "0.8.0"
 
 /* ---- sizes */
 
@@ -98,7 +102,7 @@
 /* ---- what a call returns: done, the cause of a refusal, or another answer; zilpanud_text() has a line for each */
 
 #define ZILPANUD_DONE 0            /* formatted, passed the check, sets or turns given, taken, recovered, all idle; a
-                                      question answered */
+                                      question answered; a day read to its end */
 
 #define ZILPANUD_NO_WORKER 1       /* the worker is not below the image's number of workers */
 #define ZILPANUD_BUSY 2            /* submit: the worker is not idle, or its record's count or pc is not 0 */
@@ -111,7 +115,8 @@
 #define ZILPANUD_UNORDERED 7       /* an acquire not above all held, or a release of a lock not held */
 #define ZILPANUD_UNGUARDED 8       /* a cell whose lock is not held */
 #define ZILPANUD_UNLEVEL 9         /* a jump to a step with another held set */
-#define ZILPANUD_IMAGE 10          /* the image's length, its words 0 to 7, or the number of workers is wrong */
+#define ZILPANUD_IMAGE 10          /* the image's length, its words 0 to 7, or the number of workers is wrong; day_sums:
+                                      that of the first line is */
 #define ZILPANUD_CURSOR 11         /* turn, run: a worker that is not idle has a count not 3 to 64, or a cursor past
                                       the count, on a step that fails 5 or on a turn that its kind lacks.
                                       detail: the worker */
@@ -119,7 +124,8 @@
                                       worker asked after is not */
 #define ZILPANUD_LOCK 13           /* recover: two workers are owed the lock, or its owner word names no worker that
                                       intends it. detail: the lock */
-#define ZILPANUD_LINE 14           /* the program board prints it for a malformed frame line; no call returns it */
+#define ZILPANUD_LINE 14           /* day_sums: a frame line is malformed. detail: which, from 1. The program board
+                                      prints it for such a line */
 
 #define ZILPANUD_STORED 16         /* turn: one word was stored. detail: its index */
 #define ZILPANUD_PASSED 17         /* turn: there was nothing to store. detail: why, as below */
@@ -209,7 +215,7 @@ uint64_t zilpanud_version(void);
  * no submit touches it, and nothing but the count of zilpanud_locks_held goes by it.
  * *left is the number of stores that the call may still make: each store takes one off, and with none left it changes
  * nothing. A call given k is that call cut after its k-th store; its answer and the cursors then count for nothing.
- * *detail is always written: with what the comment at the answer says, else 0.
+ * *detail is always written: with what the comment at the answer says, else 0 (of zilpanud_day_sums the lines read).
  * A refused call leaves image, cursors and *left as they were, but for: format and recover, which leave all workers
  * idle and *held 0; run, which keeps its earlier turns and their tally.
  */
@@ -325,6 +331,25 @@ uint64_t zilpanud_standing(const uint64_t *image, size_t image_words, size_t wor
  */
 uint64_t zilpanud_turns_left(const uint64_t *image, size_t image_words, size_t worker, uint64_t *fewest,
                              uint64_t *most);
+
+/* ---- a recorded day */
+
+/* How long workers waited for locks in a day of frame lines, the whole of it in memory: 0 where all lines were read, 14
+ * where one is malformed, 10 where the first is two digits and no image has so many workers. Any bytes will do. The day
+ * is played from its first line on as the program board plays it, on an image of the call's own, and nothing is
+ * printed; the same bytes have the same numbers. All that is lent is always written, whatever the bytes are.
+ *
+ * locks[b]: the turns that answered waiting on lock b. waited[d]: worker d's turns that waited. moved[d]: its turns
+ * that did not, which stored or passed. They are the turns of all 02 and 04 lines, also across a 03. Every turn of a
+ * worker that is not idle is in just one of waited and moved: an 02 line of 65,535 turns of a worker that waits is
+ * 65,535 waits. Turns of idle workers and refused turns are in none, and a worker that the day has not is 0. A number
+ * that would pass 2^64 - 1 stays there, each by itself; while none has, the 64 of locks add up to the 8 of waited.
+ *
+ * *detail: how many lines were read, the one that stopped it included. A byte 10 ends a line, and no line follows one
+ * that ends the bytes. Where reading stops early, the sums are those up to there: all 0 where the first line stops it,
+ * or where there are no bytes at all. The call takes some 16 KB of stack, by its image. */
+uint64_t zilpanud_day_sums(const uint8_t *bytes, size_t length, uint64_t *locks, uint64_t *waited, uint64_t *moved,
+                           uint64_t *detail);
 
 #ifdef __cplusplus
 }

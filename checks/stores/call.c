@@ -29,6 +29,7 @@ static uint64_t imageless(const struct call *call, struct world *w)
         return zilpanud_turns_of_path(call->section, call->steps, call->path, call->steps + 1, &w->told, &w->detail);
     case TURNS_FROM:
         return zilpanud_turns_from(call->section, call->steps, call->number, &w->told, &w->most, &w->detail);
+    case DAY_SUMS: return zilpanud_day_sums(call->day, call->bytes, w->locks, w->waited, w->moved, &w->detail);
     default:
         w->told = zilpanud_locks_held(w->held);
         return ZILPANUD_DONE;
@@ -43,6 +44,7 @@ void perform(const struct call *call, struct world *w)
     case HELD_SETS:
     case TURNS_OF_PATH:
     case TURNS_FROM:
+    case DAY_SUMS:
     case LOCKS_HELD: w->answer = imageless(call, w); break;
     case IS_IDLE:
         w->answer = zilpanud_is_idle(image, call->words, w->step, w->turn, call->worker, &w->told);
@@ -62,7 +64,7 @@ void describe(FILE *to, const struct call *call)
 {
     static const char *const names[NAMES] = {
         "format", "check", "held_sets", "turns_of_path", "turns_from", "submit", "turn",
-        "run", "recover", "locks_held", "is_idle", "finished", "standing", "turns_left",
+        "run", "recover", "locks_held", "is_idle", "finished", "standing", "turns_left", "day_sums",
     };
     fprintf(to, "%s of %zu words", names[call->name], call->words);
     switch (call->name) {
@@ -75,6 +77,7 @@ void describe(FILE *to, const struct call *call)
         fprintf(to, ", worker %zu, number %" PRIu64 ", steps %zu", call->worker, call->number, call->steps);
         break;
     case RUN: fprintf(to, ", rounds %d", call->rounds); break;
+    case DAY_SUMS: fprintf(to, ", bytes %zu", call->bytes); break;
     case RECOVER:
     case LOCKS_HELD: break;
     default: fprintf(to, ", worker %zu", call->worker);

@@ -12,10 +12,11 @@
 
 #define LARGEST 1240    /* the words of an image of 8 workers */
 #define AROUND 8        /* words watched before and behind it, which no call may change */
+#define DAY 1000        /* bytes of a recorded day, at most */
 
 enum name {
     FORMAT, CHECK, HELD_SETS, TURNS_OF_PATH, TURNS_FROM, SUBMIT, TURN, RUN, RECOVER, LOCKS_HELD, IS_IDLE, FINISHED,
-    STANDING, TURNS_LEFT, NAMES
+    STANDING, TURNS_LEFT, DAY_SUMS, NAMES
 };
 
 /* what a call is given by value or only reads */
@@ -30,6 +31,8 @@ struct call {
     size_t steps;
     uint64_t section[ZILPANUD_STEPS_MAX + 1];
     uint64_t path[ZILPANUD_STEPS_MAX + 1];    /* each step of the section, and one number more */
+    size_t bytes;
+    uint8_t day[DAY];
 };
 
 /* the words that are watched */
@@ -49,6 +52,9 @@ struct world {
     uint64_t detail;
     uint64_t tally[ZILPANUD_TALLY_WORDS];
     uint64_t sets[ZILPANUD_STEPS_MAX];
+    uint64_t locks[ZILPANUD_LOCKS];    /* these three: the sums of a day */
+    uint64_t waited[ZILPANUD_WORKERS];
+    uint64_t moved[ZILPANUD_WORKERS];
     uint64_t told;    /* what a question writes, or the locks held; the turns of a path, or the fewest */
     uint64_t most;    /* turns */
     uint64_t answer;

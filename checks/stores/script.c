@@ -308,6 +308,23 @@ static void refused_recoveries(void)
     locks_held(0);
 }
 
+/* ---- recorded days: their board is the call's own, and the image under trial stays as it is */
+
+#define NONE "0000000000000000"
+#define TICKET(worker)                                                                           \
+    "01" worker "0000000000000001" NONE NONE NONE NONE NONE NONE NONE NONE                       \
+    "0001000300000000" "0002000300000000" "0008000000000000\n"
+
+/* Worker 0 takes lock 3 in round 2 and frees it in round 11, before worker 1's turn, which waits in rounds 2 to 10. */
+static void days(void)
+{
+    fresh(2);
+    day_sums("", 0, ZILPANUD_DONE);
+    day_sums("09\n", 0, ZILPANUD_IMAGE);
+    day_sums("02\n" TICKET("00") TICKET("01") "04000a\n02010000\n03\n", 9, ZILPANUD_DONE);
+    day_sums("02\n" TICKET("00") TICKET("01") "02000002\n02010004\n0g\n0201ffff\n", 3, ZILPANUD_LINE);
+}
+
 void play(void)
 {
     formats();
@@ -320,6 +337,7 @@ void play(void)
     recoveries();
     large_recovery();
     refused_recoveries();
+    days();
     all_met();
 }
 

@@ -1,5 +1,6 @@
 #include "trial.h"
 
+#include "junk.h"
 #include "watch.h"
 
 #include <inttypes.h>
@@ -52,6 +53,7 @@ void all_met(void)
         [FINISHED] = asked,
         [STANDING] = asked,
         [TURNS_LEFT] = asked | BIT(12),
+        [DAY_SUMS] = BIT(0) | BIT(10) | BIT(14),
     };
     static const unsigned turns[9] = {0, 6, 6, 4, 4, 4, 4, 1, 3};
     for (size_t name = 0; name < NAMES; name++) {
@@ -67,41 +69,6 @@ void all_met(void)
 
 /* ---- junk */
 
-static uint64_t random_word(void)
-{
-    static uint64_t state = 20261116;
-    state ^= state << 13;
-    state ^= state >> 7;
-    state ^= state << 17;
-    return state;
-}
-
-static uint64_t junk(void)
-{
-    for (;;) {
-        const uint64_t word = random_word();
-        uint64_t bytes[4] = {1};    /* a bit for each byte met; 0 counts as met */
-        int i = 0;
-        for (; i < 64; i += 8) {
-            const unsigned byte = word >> i & 255;
-            if ((bytes[byte / 64] & BIT(byte % 64)) != 0) {
-                break;
-            }
-            bytes[byte / 64] |= BIT(byte % 64);
-        }
-        if (i == 64) {
-            return word;
-        }
-    }
-}
-
-static void put_junk(uint64_t *words, size_t count)
-{
-    for (size_t i = 0; i < count; i++) {
-        words[i] = junk();
-    }
-}
-
 void fill_with_junk(void)
 {
     put_junk(now.memory.before, AROUND);
@@ -109,6 +76,9 @@ void fill_with_junk(void)
     put_junk(now.memory.behind, AROUND);
     put_junk(&now.held, 1);
     put_junk(now.sets, ZILPANUD_STEPS_MAX);
+    put_junk(now.locks, ZILPANUD_LOCKS);
+    put_junk(now.waited, ZILPANUD_WORKERS);
+    put_junk(now.moved, ZILPANUD_WORKERS);
 }
 
 /* ---- calls */
@@ -168,6 +138,14 @@ static void wrong_answer(const struct call *call)
     describe(stderr, call);
     fprintf(stderr, " answered %" PRIu64 ", which the script does not expect\n", now.answer);
     exit(2);
+}
+
+static void by_script(const char *what, uint64_t is, uint64_t wanted)
+{
+    if (is != wanted) {
+        fprintf(stderr, "stores: %s: %" PRIu64 ", and by the script %" PRIu64 "\n", what, is, wanted);
+        exit(2);
+    }
 }
 
 static void expect(const struct call *call, uint64_t answer)
@@ -259,10 +237,7 @@ void turn(size_t worker, uint64_t answer)
 void passing_turn(size_t worker, uint64_t detail)
 {
     turn(worker, ZILPANUD_PASSED);
-    if (now.detail != detail) {
-        fprintf(stderr, "stores: a turn passed with detail %" PRIu64 ", which is not the script's\n", now.detail);
-        exit(2);
-    }
+    by_script("the detail of a turn that passed", now.detail, detail);
 }
 
 void turns_until_idle(size_t worker)
@@ -293,10 +268,7 @@ void locks_held(uint64_t count)
 {
     const struct call call = call_of(LOCKS_HELD, 0);
     expect(&call, ZILPANUD_DONE);
-    if (now.told != count) {
-        fprintf(stderr, "stores: %" PRIu64 " locks are held, and by the script %" PRIu64 "\n", now.told, count);
-        exit(2);
-    }
+    by_script("locks held", now.told, count);
 }
 
 void questions(size_t worker, uint64_t answer)
@@ -314,6 +286,15 @@ void turns_left(size_t worker, uint64_t answer)
 {
     const struct call call = call_of(TURNS_LEFT, worker);
     expect(&call, answer);
+}
+
+void day_sums(const char *day, uint64_t waits, uint64_t answer)
+{
+    struct call call = call_of(DAY_SUMS, 0);
+    call.bytes = strlen(day);
+    memcpy(call.day, day, call.bytes);
+    expect(&call, answer);
+    by_script("waits for lock 3", now.locks[3], waits);
 }
 
 /* ---- calls that are not watched, and damage */

@@ -31,10 +31,13 @@ void locks_held(uint64_t count);
 void questions(size_t worker, uint64_t answer);
 void turns_left(size_t worker, uint64_t answer);
 
+/* A recorded day, in which lock 3 was waited for so many times. */
+void day_sums(const char *day, uint64_t waits, uint64_t answer);
+
 /* ---- calls that are not watched, and damage */
 
-/* Words, a mask of locks held and held sets, whose eight bytes are different and none of them 0, so that a half of a
- * word, or a word that is stored before its time, shows. */
+/* Words, a mask of locks held, held sets and sums of a day, whose eight bytes are different and none of them 0, so that
+ * a half of a word, or a word that is stored before its time, shows. */
 void fill_with_junk(void);
 
 /* A formatted image of so many workers with junk in all words that an image at rest may have it in. */

@@ -223,7 +223,7 @@ static void judge_end(struct cuts *cuts, const struct world *should)
     }
     if (memcmp(is, should, sizeof *is) != 0) {
         tell_call(cuts->call);
-        fprintf(stderr, ": its answer, cursors, tally, sets, turns or stores left are not those of the same call "
+        fprintf(stderr, ": its answer, cursors, tally, sets, turns, sums or stores left are not those of the same call "
                         "unwatched\n");
         exit(1);
     }

@@ -1,5 +1,6 @@
 #!/usr/bin/env python3
-"""Writes the days of data/ that are not among the given vectors: data/our-*.frames.
+"""Writes the days of data/ that are not among the given vectors, data/our-*.frames, and for some of them the sums that were worked
+out by hand, data/our-*.sums.
 
 Words are document 01's: a ticket's steps are kind, a, b, c in sixteen bits each; a frame line is lower-case hexadecimal.
 """
@@ -47,6 +48,10 @@ def turns(desk, n):
     return f"02{desk:02x}{n:04x}"
 
 
+def rounds(n):
+    return f"04{n:04x}"
+
+
 CUT = "03"
 TICKET = [take(3), put(24, 5), drop(3), END]
 
@@ -54,6 +59,17 @@ TICKET = [take(3), put(24, 5), drop(3), END]
 def write(name, lines, last=b"\n"):
     text = b"\n".join(l if isinstance(l, bytes) else l.encode() for l in lines)
     (DATA / f"our-{name}.frames").write_bytes(text + last)
+
+
+def sums(name, bays=None, waited=(), moved=()):
+    """The sums of a day, by hand: data/OUR-DAYS.md says how. Bays and desks that are not named have 0."""
+    rows = {
+        "bays": [(bays or {}).get(b, 0) for b in range(64)],
+        "waited": (*waited, *[0] * 8)[:8],
+        "moved": (*moved, *[0] * 8)[:8],
+    }
+    lines = [" ".join([row, *map(str, numbers)]) for row, numbers in rows.items()]
+    (DATA / f"our-{name}.sums").write_text("\n".join(lines) + "\n")
 
 
 def refusals():
@@ -115,7 +131,7 @@ def malformed():
         "empty-line": "",
         "one-digit": "0",
         "kind-00": "00",
-        "kind-04": "040005",
+        "kind-05": "050005",
         "kind-10": "10000005",
         "kind-ff": "ff",
         "turns-7": "0200001",
@@ -123,6 +139,12 @@ def malformed():
         "turns-2": "02",
         "cut-3": "030",
         "cut-4": "0300",
+        "rounds-2": "04",
+        "rounds-5": "04001",
+        "rounds-7": "0400001",
+        "rounds-8": "04000001",
+        "rounds-blank-behind": "040001 ",
+        "rounds-upper-case": "04000A",
         "hand-in-2": "01",
         "hand-in-147": line[:147],
         "steps-part-1": line[:149],
@@ -157,15 +179,20 @@ def waits():
     a = hand_in(0, 1, TICKET)
     b = hand_in(1, 7, [take(3), add(24, 24, 512), drop(3), END], args=(2, 0, 0, 0, 0, 0, 0, 0))
     write("wait", ["02", a, b, turns(0, 3), turns(1, 0xFFFF), turns(0, 19), turns(1, 0xFFFF), turns(0, 1)])
+    sums("wait", {3: 65534}, (0, 65534), (19, 19))
     write("wait-across-a-cut", ["02", a, b, turns(0, 6), turns(1, 9), CUT, turns(1, 9), turns(0, 50), turns(1, 50), CUT])
     write("no-turns", ["01", a, turns(0, 0), turns(9, 0), turns(0, 1), CUT, CUT, turns(0, 0)])
     write("idle-turns", ["01", turns(0, 0xFFFF), a, turns(0, 0xFFFF), turns(0, 5), CUT, turns(0, 3)])
+    sums("idle-turns", moved=(19,))
     write("no-last-line-end", ["01", a, turns(0, 5), CUT], last=b"")
     write("turns-no-last-line-end", ["01", a, turns(0, 5)], last=b"")
+    whole, top = turns(1, 0xFFFF), 2 * 65535
+    write("wait-each-turn", ["02", a, b, turns(0, 2), turns(1, 1), whole, whole, turns(2, 0xFFFF), turns(0, 0xFFFF), whole])
+    sums("wait-each-turn", {3: top}, (0, top), (19, 19))
     eight = ["08"] + [hand_in(d, 1, [take(d), take(8), add(64, 64, 512), drop(8), drop(d), END], args=(d + 1,) + (0,) * 7) for d in range(8)]
-    rounds = [turns(d, 3) for _ in range(40) for d in range(8)]
-    write("eight-desks", eight + rounds)
-    write("eight-desks-cut", eight + rounds[:77] + [CUT] + rounds[:50] + [CUT, CUT] + rounds * 2)
+    threes = [turns(d, 3) for _ in range(40) for d in range(8)]
+    write("eight-desks", eight + threes)
+    write("eight-desks-cut", eight + threes[:77] + [CUT] + threes[:50] + [CUT, CUT] + threes * 2)
 
 
 def reports():
@@ -219,6 +246,63 @@ def two_desks():
         write(f"two-desks-cut-{n:02d}", lines + [CUT])
 
 
+def in_rounds():
+    """Document 02, 7/14: rounds of one desk, and where none is open."""
+    a, c = hand_in(0, 1, TICKET), hand_in(2, 1, TICKET)
+    most = rounds(0xFFFF)
+    write("rounds-none", ["01", a, rounds(0), turns(0, 1), rounds(0), CUT, rounds(0)])
+    sums("rounds-none", moved=(1,))
+    write("rounds-before-any-hand-in", ["03", rounds(1), most, CUT, most, c, rounds(1)])
+    sums("rounds-before-any-hand-in", moved=(0, 0, 1))
+    write("rounds-spent-amid-a-ticket", ["02", a, rounds(7), turns(1, 5), rounds(0), rounds(5)])
+    sums("rounds-spent-amid-a-ticket", moved=(12,))
+    write("rounds-just-enough", ["01", a, rounds(18), rounds(1), rounds(1), hand_in(0, 2, TICKET)])
+    sums("rounds-just-enough", moved=(19,))
+    write("rounds-to-the-end", ["03", a, most, most, hand_in(0, 2, TICKET), c, most])
+    sums("rounds-to-the-end", {3: 13}, (0, 0, 13), (38, 0, 19))
+    slow = [take(3)] + [put(24, i) for i in range(61)] + [drop(3), END]
+    write("rounds-each-digit", ["01", hand_in(0, 1, slow), rounds(0x100), rounds(0x3), hand_in(0, 2, slow), rounds(0x10), rounds(0x1000)])
+    sums("rounds-each-digit", moved=(518,))
+    write("rounds-no-last-line-end", ["01", a, rounds(5)], last=b"")
+    write("rounds-no-desk", ["02", a, turns(2, 0xFFFF), turns(0, 3), turns(255, 0xFFFF), rounds(2), turns(1, 0xFFFF), most])
+    sums("rounds-no-desk", moved=(19,))
+    write("rounds-first-refused", ["09", rounds(5), a, rounds(5)])
+    sums("rounds-first-refused")
+    write("rounds-first-malformed", [rounds(1), a, rounds(5)])
+    write("rounds-then-malformed", ["02", a, hand_in(1, 1, TICKET), rounds(9), "040", rounds(9)])
+    sums("rounds-then-malformed", {3: 8}, (0, 8), (9, 1))
+
+
+def rounds_of_many():
+    """Document 02, 7/14: rounds of desks that wait for each other, and across cuts."""
+    a, b, c = (hand_in(d, 1, TICKET) for d in range(3))
+    most = rounds(0xFFFF)
+    write("rounds-two-desks", ["02", a, b, most])
+    sums("rounds-two-desks", {3: 13}, (0, 13), (19, 19))
+    write("rounds-three-desks", ["03", c, rounds(2), a, b, most])
+    sums("rounds-three-desks", {3: 37}, (12, 25), (19, 19, 19))
+    long = [take(2), put(16, 1), put(17, 2), put(18, 3), drop(2), END]
+    both = [take(1), take(2), drop(2), drop(1), END]
+    write("rounds-two-bays", ["03", hand_in(0, 1, [take(1), drop(1), END]), hand_in(1, 1, long), hand_in(2, 1, both), most])
+    sums("rounds-two-bays", {1: 9, 2: 6}, (0, 0, 15), (15, 27, 27))
+    write("rounds-among-turns", ["02", a, b, turns(0, 2), rounds(3), turns(1, 7), rounds(2), turns(0, 100), turns(1, 4), rounds(9), turns(1, 0xFFFF)])
+    sums("rounds-among-turns", {3: 11}, (0, 11), (19, 19))
+    write("rounds-across-a-cut", ["02", a, b, rounds(5), CUT, rounds(3), b, most])
+    sums("rounds-across-a-cut", {3: 9}, (0, 9), (19, 20))
+    eight = [hand_in(d, 1, [take(d), take(8), add(64, 64, 512), drop(8), drop(d), END], args=(d + 1,) + (0,) * 7) for d in range(8)]
+    write("rounds-eight-desks", ["08"] + eight + [rounds(40), most])
+    sums("rounds-eight-desks", {8: 364}, range(0, 92, 13), (31,) * 8)
+    write("rounds-eight-desks-cut", ["08"] + eight + [rounds(n) if n else CUT for n in (9, 0, 13, 0, 0, 60, 0, 1, 0)] + eight + [most])
+    other = hand_in(1, 1, [take(4), put(32, 7), drop(4), END])
+    late = hand_in(2, 1, [take(4), skip(32, 3), add(32, 32, 32), drop(4), END])
+    write("rounds-report-each", ["03", a, other, rounds(15), CUT, late, turns(2, 2), most])
+    sums("rounds-report-each", moved=(21, 21, 20))
+    write("rounds-report-cut-again", ["03", a, other, rounds(15), CUT, rounds(2), CUT, late, turns(2, 2), rounds(2), CUT, late, most])
+    sums("rounds-report-cut-again", moved=(25, 25, 24))
+    for n in 1, 4, 5, 14, 15, 16, 20, 28, 33:
+        write(f"rounds-cut-{n:02d}", ["02", a, b, rounds(n), CUT, rounds(3), CUT, b, most])
+
+
 if __name__ == "__main__":
     for old in DATA.glob("our-*"):
         old.unlink()
@@ -229,3 +313,5 @@ if __name__ == "__main__":
     reports()
     totals()
     two_desks()
+    in_rounds()
+    rounds_of_many()

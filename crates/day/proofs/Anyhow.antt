@@ -11,7 +11,7 @@ use lib.ListN.{length, length-append}
 use lib.Dec.{ltb, leb, eqb}
 use Rattle.base.proofs.Bools.{and-right}
 use Rattle.lines.specs.declared.Job.{Job}
-use Rattle.lines.specs.declared.Job.the-variants.{Turns, Stores, Next, Stop}
+use Rattle.lines.specs.declared.Job.the-variants.{Turns, Rounds, Stores, Next, Stop}
 use Rattle.lines.specs.Play.{Stage}
 use Rattle.buffers.specs.Input.{lineOf, restOf, complete, completeAt}
 use Rattle.buffers.specs.Output.{bytesOf}
@@ -88,6 +88,7 @@ module _ (l x : List ℕ) (s : Stage) where
 
   longer : (more : Bool) (j : Job) → (more ≡ false → x ≡ []) → readyFor more l j ≡ true → Longer more l x s j
   longer more (Turns w k) o c = record { ready = refl; stage = refl; then = refl }
+  longer more (Rounds d r) o c = record { ready = refl; stage = refl; then = refl }
   longer more (Stores i) o c = record { ready = refl; stage = refl; then = refl }
   longer more Next o c = private-next more o c
   longer more Stop o c = let z : _≡_ {A = ℕ} 0 1 = cc in absurd (omega arith)

@@ -10,7 +10,7 @@ use lib.ListN.{length, length-append}
 use lib.Dec.{leb, ltb}
 use Rattle.base.proofs.Bools.{and-right}
 use Rattle.lines.specs.declared.Job.{Job}
-use Rattle.lines.specs.declared.Job.the-variants.{Turns, Stores, Next, Stop}
+use Rattle.lines.specs.declared.Job.the-variants.{Turns, Rounds, Stores, Next, Stop}
 use Rattle.day.specs.declared.Want.{Want}
 use Rattle.day.specs.declared.Want.the-variants.{Room, Nothing}
 use Rattle.pieces.specs.Pieces.{Point, readyFor, ready, piece, Progress, progress, after, advance, piecesLeft, whole}
@@ -62,6 +62,7 @@ private-room false w e = (refl, e)
 
 private-over : (l : List ℕ) (j : Job) → inputFor j ≡ Nothing → readyFor false l j ≡ false
 private-over l (Turns w k) e = let z : _≡_ {A = ℕ} 0 1 = cc in absurd (omega arith)
+private-over l (Rounds d r) e = let z : _≡_ {A = ℕ} 0 1 = cc in absurd (omega arith)
 private-over l (Stores i) e = let z : _≡_ {A = ℕ} 0 1 = cc in absurd (omega arith)
 private-over l Next e = let z : _≡_ {A = ℕ} 0 1 = cc in absurd (omega arith)
 private-over l Stop e = refl

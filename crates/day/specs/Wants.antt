@@ -3,12 +3,13 @@ use Prim.Native.Nat.{ℕ}
 use mathlib.Core.Bool.{Bool, cond}
 use lib.Dec.{ltb}
 use Rattle.lines.specs.declared.Job.{Job}
-use Rattle.lines.specs.declared.Job.the-variants.{Turns, Stores, Next, Stop}
+use Rattle.lines.specs.declared.Job.the-variants.{Turns, Rounds, Stores, Next, Stop}
 use Rattle.day.specs.declared.Want.{Want}
 use Rattle.day.specs.declared.Want.the-variants.{Room, Input, Nothing}
 
 abbrev pub inputFor : Job → Want
 inputFor (Turns w k) = Input
+inputFor (Rounds d r) = Input
 inputFor (Stores i) = Input
 inputFor Next = Input
 inputFor Stop = Nothing

@@ -79,6 +79,10 @@ pub fn wants(d: Day, more: bool, room: usize) -> Want
             worker: _,
             turns: _,
         } => Want::Input,
+        Job::Rounds {
+            worker: _,
+            rounds: _,
+        } => Want::Input,
         Job::Stores(_) => Want::Input,
         Job::Next => Want::Input,
         Job::Stop => Want::Nothing,

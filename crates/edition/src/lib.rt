@@ -11,6 +11,7 @@ use recovery::Restored;
 use repair::Repair;
 use repair::Slot;
 use run::Ran;
+use run::round::NextTurn;
 use section::Verdict;
 use turn::Turned;
 use working::Cursors;
@@ -26,6 +27,7 @@ ghost use Rattle.intake.specs.Submit.{submitAnswer, submitLeaves};
 ghost use Rattle.asking.specs.Asking.{standingOf, askCode, finishedOf};
 ghost use Rattle.turn.specs.Call.{answerOf, leaves, outcome};
 ghost use Rattle.run.specs.Run.{counting, ran, runOf};
+ghost use Rattle.run.specs.Round.{nextWorker, nextOutcome};
 ghost use Rattle.needs.specs.Path.{alongOf};
 ghost use Rattle.needs.specs.From.{needsOf};
 ghost use Rattle.needs.specs.Left.{leftOf};
@@ -144,6 +146,26 @@ pub fn turn(image: &mut [u64], c: Cursors, d: usize, left: &mut u64) -> Turned
         ≡ leaves ownWords (world (now (image .entry)) c (now (left .entry))) d (outcome mark ownWords (world (now (image .entry)) c (now (left .entry))) d) ⌝ }
 {
     turn::turn(image, c, d, MARK, OWN, left)
+}
+
+// One turn of worker d, as `turn` makes it, for lines of turns: the library has a turn call of its own, into which the compiler can put `turn`.
+pub fn line_turn(image: &mut [u64], c: Cursors, d: usize, left: &mut u64) -> NextTurn
+    ensures answer { λ r. ⌜ r .answer ≡ answerOf ownWords (outcome mark ownWords (world (now (image .entry)) c (now (left .entry))) d) ⌝ }
+    ensures after { λ r. ⌜ world (now (image .exit)) (r .cursors) (now (left .exit))
+        ≡ leaves ownWords (world (now (image .entry)) c (now (left .entry))) d (outcome mark ownWords (world (now (image .entry)) c (now (left .entry))) d) ⌝ }
+{
+    run::round::only(image, c, d, MARK, OWN, left)
+}
+
+// The next turn of a round, from worker d on.
+pub fn round_turn(image: &mut [u64], c: Cursors, d: usize, left: &mut u64) -> NextTurn
+    ensures worker { λ r. ⌜ r .worker ≡ nextWorker mark ownWords (world (now (image .entry)) c (now (left .entry))) d ⌝ }
+    ensures answer { λ r. ⌜ r .answer ≡ answerOf ownWords (nextOutcome mark ownWords (world (now (image .entry)) c (now (left .entry))) d) ⌝ }
+    ensures after { λ r. ⌜ world (now (image .exit)) (r .cursors) (now (left .exit))
+        ≡ leaves ownWords (world (now (image .entry)) c (now (left .entry))) (r .worker)
+        (nextOutcome mark ownWords (world (now (image .entry)) c (now (left .entry))) d) ⌝ }
+{
+    run::round::next(image, c, d, MARK, OWN, left)
 }
 
 // Rounds of turns until all workers are idle or the rounds are spent.

@@ -1,4 +1,4 @@
--- What a line's bytes say. (Document 01, 'Frame lines'.)
+-- What a line's bytes say. (Document 01, 'Frame lines'; document 02, 7/14.)
 use Prim.Native.Nat.{ℕ, zero, suc, _+_, _-_, _*_, _/_, _%_}
 use mathlib.Core.List.{List, [], _∷_}
 use mathlib.Core.Bool.{cond}
@@ -7,7 +7,7 @@ use lib.Dec.{ltb, eqb}
 use Rattle.frames.specs.declared.Opening.{Opening}
 use Rattle.frames.specs.declared.Opening.the-variants.{Workers, Malformed as OpeningMalformed}
 use Rattle.frames.specs.declared.Frame.{Frame}
-use Rattle.frames.specs.declared.Frame.the-variants.{Submit, Turns, Recover, Malformed}
+use Rattle.frames.specs.declared.Frame.the-variants.{Submit, Turns, Recover, Rounds, Malformed}
 use Rattle.frames.specs.Hex.{allHex, hexAt}
 
 -- the first line: the number of workers in two digits
@@ -28,8 +28,13 @@ turnsFrame l = cond (eqb (length l) 8) (Turns (hexAt l 2 2) (hexAt l 4 4)) Malfo
 unfoldable pub recoverFrame : List ℕ → Frame
 recoverFrame l = cond (eqb (length l) 2) Recover Malformed
 
+-- 04, rounds (4)
+unfoldable pub roundsFrame : List ℕ → Frame
+roundsFrame l = cond (eqb (length l) 6) (Rounds (hexAt l 2 4)) Malformed
+
 unfoldable pub byKind : List ℕ → ℕ → Frame
-byKind l k = cond (eqb k 1) (submitFrame l) (cond (eqb k 2) (turnsFrame l) (cond (eqb k 3) (recoverFrame l) Malformed))
+byKind l k =
+    cond (eqb k 1) (submitFrame l) (cond (eqb k 2) (turnsFrame l) (cond (eqb k 3) (recoverFrame l) (cond (eqb k 4) (roundsFrame l) Malformed)))
 
 -- malformed: more than 4,096 digits, another character, no first two digits, others, or another length
 unfoldable pub frameOf : List ℕ → Frame

@@ -18,12 +18,13 @@ pub enum Opening {
     Malformed,
 }
 
-// What a later line says. (Document 01: 01, 02, 03, or malformed.) The arguments and the steps' part of a submit stay in
+// What a later line says. (Document 01: 01, 02, 03, or malformed; document 02, 7/14: 04.) The arguments and the steps' part of a submit stay in
 // the line.
 pub enum Frame {
     Submit { worker: usize, number: u64 },
     Turns { worker: usize, turns: u64 },
     Recover,
+    Rounds(u64),
     Malformed,
 }
 

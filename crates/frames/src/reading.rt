@@ -5,7 +5,7 @@ use crate::digits;
 ghost use mathlib.Core.Path.{_≡_};
 ghost use Prim.Native.Nat.{_≤_, _/_};
 ghost use lib.ListN.{length, take};
-ghost use Rattle.frames.specs.Line.{firstOf, frameOf, submitFrame, turnsFrame, recoverFrame, stepsPart, argumentsOf, wordsOf};
+ghost use Rattle.frames.specs.Line.{firstOf, frameOf, submitFrame, turnsFrame, recoverFrame, roundsFrame, stepsPart, argumentsOf, wordsOf};
 
 pub fn first(line: &[u8]) -> Opening
     ensures { λ r. ⌜ r ≡ firstOf (now (line .entry)) ⌝ }
@@ -59,6 +59,16 @@ fn recover(line: &[u8]) -> Frame
     Frame::Recover
 }
 
+// 04.
+fn rounds(line: &[u8]) -> Frame
+    ensures { λ r. ⌜ r ≡ roundsFrame (now (line .entry)) ⌝ }
+{
+    if line.len() != 6 {
+        return Frame::Malformed;
+    }
+    Frame::Rounds(digits::number(line, 2, 4))
+}
+
 pub fn read(line: &[u8]) -> Frame
     ensures { λ r. ⌜ r ≡ frameOf (now (line .entry)) ⌝ }
 {
@@ -77,6 +87,7 @@ pub fn read(line: &[u8]) -> Frame
         1 => submit(line),
         2 => turns(line),
         3 => recover(line),
+        4 => rounds(line),
         _ => Frame::Malformed,
     }
 }

@@ -1,5 +1,6 @@
 // One line played, piece by piece. No line is cut: each call is given all the stores there are.
 use crate::Job;
+use crate::Made;
 use crate::Played;
 use crate::saying;
 use frames::Printed;
@@ -14,9 +15,19 @@ ghost use Rattle.edition.specs.Edition.{mark, ownWords};
 ghost use Rattle.repair.specs.Repair.{noRepair};
 ghost use Rattle.recovery.specs.Recovery.{recovery};
 ghost use Rattle.frames.specs.declared.Printed.the-variants.{Nothing};
-ghost use Rattle.lines.specs.declared.Job.the-variants.{Turns as TurnsLeft, Next, Stop};
+ghost use Rattle.lines.specs.declared.Job.the-variants.{Turns as TurnsLeft, Rounds as RoundsLeft, Next, Stop};
 ghost use Rattle.frames.specs.Print.{malformed, refusal};
-ghost use Rattle.lines.specs.Play.{stage, played, submitStage, recovered, printJob, goesOn, turnStage, slotStage};
+ghost use Rattle.lines.specs.Play.{stage, played, noTurn, submitStage, recovered, printJob, goesOn, turnsMade, turnStage, slotStage};
+
+pub fn no_turn() -> Made
+    ensures { λ r. ⌜ r ≡ noTurn ⌝ }
+{
+    Made {
+        worker: 0,
+        answer: Answer::Idle,
+        times: 0,
+    }
+}
 
 // 01: the section is submitted.
 pub fn submit(image: &mut [u64], c: Cursors, line: &[u8], worker: usize, number: u64) -> Played
@@ -35,12 +46,13 @@ pub fn submit(image: &mut [u64], c: Cursors, line: &[u8], worker: usize, number:
         printed: saying::submitted(answer),
         job: Job::Next,
         repair: repair::no_repair(),
+        made: no_turn(),
     }
 }
 
 // 02: its turns are made by `turn`.
 pub fn turns(c: Cursors, worker: usize, turns: u64) -> Played
-    ensures { λ r. ⌜ r ≡ played c Nothing (TurnsLeft worker turns) noRepair ⌝ }
+    ensures { λ r. ⌜ r ≡ played c Nothing (TurnsLeft worker turns) noRepair noTurn ⌝ }
 {
     Played {
         cursors: c,
@@ -50,6 +62,23 @@ pub fn turns(c: Cursors, worker: usize, turns: u64) -> Played
             turns: turns,
         },
         repair: repair::no_repair(),
+        made: no_turn(),
+    }
+}
+
+// 04: its turns are made by `rounds::turn`.
+pub fn rounds(c: Cursors, rounds: u64) -> Played
+    ensures { λ r. ⌜ r ≡ played c Nothing (RoundsLeft 0 rounds) noRepair noTurn ⌝ }
+{
+    Played {
+        cursors: c,
+        printed: Printed::Nothing,
+        job: Job::Rounds {
+            worker: 0,
+            rounds: rounds,
+        },
+        repair: repair::no_repair(),
+        made: no_turn(),
     }
 }
 
@@ -67,6 +96,7 @@ pub fn recover(image: &mut [u64]) -> Played
         printed: saying::recovered(answer),
         job: print_job(answer),
         repair: repair,
+        made: no_turn(),
     }
 }
 
@@ -80,19 +110,20 @@ fn print_job(a: soundness::Answer) -> Job
 }
 
 pub fn malformed(c: Cursors) -> Played
-    ensures { λ r. ⌜ r ≡ played c (refusal malformed) Stop noRepair ⌝ }
+    ensures { λ r. ⌜ r ≡ played c (refusal malformed) Stop noRepair noTurn ⌝ }
 {
     Played {
         cursors: c,
         printed: frames::refusal(frames::MALFORMED),
         job: Job::Stop,
         repair: repair::no_repair(),
+        made: no_turn(),
     }
 }
 
 // Nothing is printed, and this is left to do.
 pub fn over(p: Played, job: Job) -> Played
-    ensures { λ r. ⌜ r ≡ played (p .cursors) Nothing job (p .repair) ⌝ }
+    ensures { λ r. ⌜ r ≡ played (p .cursors) Nothing job (p .repair) noTurn ⌝ }
 {
     let cursors = p.cursors;
     let repair = p.repair;
@@ -101,6 +132,7 @@ pub fn over(p: Played, job: Job) -> Played
         printed: Printed::Nothing,
         job: job,
         repair: repair,
+        made: no_turn(),
     }
 }
 
@@ -129,6 +161,24 @@ fn turns_job(a: Answer, worker: usize, turns: u64) -> Job
     }
 }
 
+// The turns that are made by one with this answer, the first of so many: all of them where they would answer the same.
+fn turns_made(a: Answer, worker: usize, turns: u64) -> Made
+    ensures { λ r. ⌜ r ≡ turnsMade a worker turns ⌝ }
+{
+    let times = match a {
+        Answer::Stored(_) => 1,
+        Answer::Passed(_) => 1,
+        Answer::Waiting(_) => turns,
+        Answer::Idle => turns,
+        Answer::Refused(_) => 0,
+    };
+    Made {
+        worker: worker,
+        answer: a,
+        times: times,
+    }
+}
+
 // The first of so many turns.
 pub fn turn(image: &mut [u64], p: Played, worker: usize, turns: u64) -> Played
     ensures { λ r. ⌜ stage (now (image .exit)) r ≡ turnStage (now (image .entry)) p worker turns ⌝ }
@@ -139,7 +189,7 @@ pub fn turn(image: &mut [u64], p: Played, worker: usize, turns: u64) -> Played
     let c = p.cursors;
     let repair = p.repair;
     let mut left = u64::MAX;
-    let t = edition::turn(image, c, worker, &mut left);
+    let t = edition::line_turn(image, c, worker, &mut left);
     let answer = t.answer;
     let after = t.cursors;
     Played {
@@ -147,6 +197,7 @@ pub fn turn(image: &mut [u64], p: Played, worker: usize, turns: u64) -> Played
         printed: saying::turned(image, answer),
         job: turns_job(answer, worker, turns - 1),
         repair: repair,
+        made: turns_made(answer, worker, turns),
     }
 }
 
@@ -164,5 +215,6 @@ pub fn store(p: Played, slot: usize) -> Played
         printed: saying::slot(edition::slot_at(repair, slot)),
         job: Job::Stores(slot + 1),
         repair: repair,
+        made: no_turn(),
     }
 }

@@ -5,7 +5,7 @@ use mathlib.Core.Bool.{Bool, true, false}
 use mathlib.Core.List.{List}
 use lib.ListN.{length, take, drop}
 use Rattle.lines.specs.declared.Job.{Job}
-use Rattle.lines.specs.declared.Job.the-variants.{Turns, Stores, Next, Stop}
+use Rattle.lines.specs.declared.Job.the-variants.{Turns, Rounds, Stores, Next, Stop}
 use Rattle.lines.specs.Play.{stage, goOn}
 use Rattle.stages.specs.declared.Day.{Day}
 use Rattle.pieces.specs.declared.Piece.{Piece}
@@ -48,6 +48,11 @@ module _ (m input : List ℕ) (d : Day) (from : ℕ) (more : Bool) where
         → Pieced m k input d (made true s from) (ready more (pointOf (drop from input) m d)) (piece more (pointOf (drop from input) m d))
     turn-made w n e =
         piece-as k (made true s from) (Turns w n) e (record { done = refl; point = ap (point (drop from input)) f; from = h; keeps = b })
+
+    pub round-made : (w n : ℕ) → d .played .job ≡ Rounds w n
+        → Pieced m k input d (made true s from) (ready more (pointOf (drop from input) m d)) (piece more (pointOf (drop from input) m d))
+    round-made w n e =
+        piece-as k (made true s from) (Rounds w n) e (record { done = refl; point = ap (point (drop from input)) f; from = h; keeps = b })
 
     pub store-made : (i : ℕ) → d .played .job ≡ Stores i
         → Pieced m k input d (made true s from) (ready more (pointOf (drop from input) m d)) (piece more (pointOf (drop from input) m d))

@@ -6,7 +6,7 @@ use mathlib.Core.List.{List, [], _++_}
 use native.Mathlib.Omega.{arith}
 use lib.ListN.{length, take, drop}
 use Rattle.lines.specs.declared.Job.{Job}
-use Rattle.lines.specs.declared.Job.the-variants.{Turns, Stores, Next, Stop}
+use Rattle.lines.specs.declared.Job.the-variants.{Turns, Rounds, Stores, Next, Stop}
 use Rattle.lines.specs.declared.Played.{Played}
 use Rattle.lines.specs.Play.{Stage, stage, goOn}
 use Rattle.stages.specs.declared.Day.{Day}
@@ -23,12 +23,14 @@ use Rattle.pieces.proofs.Advances.{loop-next}
 
 private-ready : (more : Bool) (l : List ℕ) (j : Job) → isGoing j ≡ true → readyFor more l j ≡ true
 private-ready more l (Turns w k) e = refl
+private-ready more l (Rounds d r) e = refl
 private-ready more l (Stores i) e = refl
 private-ready more l Next e = let z : _≡_ {A = ℕ} 0 1 = cc in absurd (omega arith)
 private-ready more l Stop e = let z : _≡_ {A = ℕ} 0 1 = cc in absurd (omega arith)
 
 private-piece : (more : Bool) (q : Point) (j : Job) → isGoing j ≡ true → pieceFor more q j ≡ point (q .input) (goOn (q .stage))
 private-piece more q (Turns w k) e = refl
+private-piece more q (Rounds d r) e = refl
 private-piece more q (Stores i) e = refl
 private-piece more q Next e = let z : _≡_ {A = ℕ} 0 1 = cc in absurd (omega arith)
 private-piece more q Stop e = let z : _≡_ {A = ℕ} 0 1 = cc in absurd (omega arith)

@@ -1,16 +1,20 @@
--- Each piece leaves fewer pieces than there were (`piece-less`): a turn, one of the line's turns; a printed store, one of the repair's
--- slots; a new line has 65,535 turns at most, four digits' worth, and takes a byte of input.
-use Prim.Native.Nat.{ℕ, zero, suc, _+_, _-_, _*_, _%_, _<_, _≤_}
+-- Each piece leaves fewer pieces than there were (`piece-less`): a turn, one of the line's turns; a turn of a round or its end, one of the ten that each of the
+-- line's rounds has; a printed store, one of the repair's slots; a new line has 65,535 turns or rounds at most, four digits' worth, and takes a byte of input.
+use Prim.Native.Nat.{ℕ, zero, suc, _+_, _-_, _*_, _<_, _≤_}
 use mathlib.Core.Path.{_≡_, refl, sym, ap}
 use mathlib.Core.Bool.{Bool, true, false, cond, _&&_}
 use mathlib.Core.List.{List}
 use native.Mathlib.Omega.{arith}
-use borrow.Author.Tests.{ltb-true, leb-true}
-use lib.ListN.{length, getD}
+use borrow.Author.Tests.{ltb-true}
+use lib.ListN.{length}
 use lib.Dec.{ltb, leb, eqb}
 use Rattle.image.specs.Image.{Image}
 use Rattle.working.specs.declared.Cursors.{Cursors}
 use Rattle.turn.specs.Call.{outcome, answerOf}
+use Rattle.turn.specs.declared.Answer.{Answer as TurnAnswer}
+use Rattle.turn.specs.declared.Answer.the-variants.{Stored, Passed, Waiting, Idle, Refused as TurnRefused}
+use Rattle.run.specs.Round.{nextWorker, nextOutcome}
+use Rattle.run.proofs.Next.{next-above}
 use Rattle.soundness.specs.declared.Answer.{Answer}
 use Rattle.soundness.specs.declared.Answer.the-variants.{Done, Refused}
 use Rattle.recovery.specs.Recovery.{recovery}
@@ -19,93 +23,48 @@ use Rattle.edition.specs.Edition.{mark, ownWords}
 use Rattle.frames.specs.declared.Opening.{Opening}
 use Rattle.frames.specs.declared.Opening.the-variants.{Workers, Malformed as OpeningMalformed}
 use Rattle.frames.specs.declared.Frame.{Frame}
-use Rattle.frames.specs.declared.Frame.the-variants.{Submit, Turns as TurnsFrame, Recover, Malformed}
-use Rattle.frames.specs.Hex.{allHex, hexOf, hexFrom, hexAt}
-use Rattle.frames.specs.Line.{firstOf, frameOf, byKind, submitFrame, turnsFrame, recoverFrame}
+use Rattle.frames.specs.declared.Frame.the-variants.{Submit, Turns as TurnsFrame, Recover, Rounds as RoundsFrame, Malformed}
+use Rattle.frames.specs.Line.{firstOf, frameOf}
+use Rattle.frames.proofs.Frames.{timesIn, times-most}
 use Rattle.lines.specs.declared.Job.{Job}
-use Rattle.lines.specs.declared.Job.the-variants.{Turns, Stores, Next, Stop}
+use Rattle.lines.specs.declared.Job.the-variants.{Turns, Rounds, Stores, Next, Stop}
 use Rattle.lines.specs.declared.Played.{Played}
-use Rattle.lines.specs.Play.{Stage, stage, uncut, goesOn, turnStage, slotStage, printJob, beginFrame, goOn, goOnJob}
+use Rattle.lines.specs.Play.{Stage, uncut, goesOn, makes, turnStage, roundJob, roundStage, slotStage, printJob, beginFrame, goOn, goOnJob}
 use Rattle.buffers.specs.Input.{lineOf}
 use Rattle.stages.specs.Begun.{formatStage, fresh, ended, opened, lineOn}
 use Rattle.pieces.specs.Pieces.{Point, readyFor, ready, pieceFor, piece, jobPieces, piecesLeft}
+use Rattle.lines.proofs.Few.{next-few}
 use Rattle.buffers.proofs.Lines.{rest-less}
-
--- ---- four digits
-
-digit-most : (b : ℕ) → hexOf b ≤ 15
-unfolding hexOf
-digit-most b = by (ltb b 48) (leb b 57) (ltb b 97) (leb b 102) refl refl
-  where
-    by : (t u v w : Bool) → leb b 57 ≡ u → leb b 102 ≡ w → cond t 0 (cond u (b - 48) (cond v 0 (cond w (b - 87) 0))) ≤ 15
-    by true u v w e f = omega arith
-    by false true v w e f = omega (arith, leb-true b 57 e)
-    by false false true w e f = omega arith
-    by false false false true e f = omega (arith, leb-true b 102 f)
-    by false false false false e f = omega arith
-
-four-most : (l : List ℕ) → hexAt l 4 4 ≤ 65535
-unfolding hexFrom
-four-most l = omega (arith, digit-most (getD l 4 0), digit-most (getD l 5 0), digit-most (getD l 6 0), digit-most (getD l 7 0))
-
--- ---- the turns of a frame
-
-abbrev turnsIn : Frame → ℕ
-turnsIn (Submit d k) = 0
-turnsIn (TurnsFrame d k) = k
-turnsIn Recover = 0
-turnsIn Malformed = 0
-
-tests-most : (long hex short k1 k2 k3 few even turns whole : Bool) (d k e j : ℕ) → j ≤ 65535
-    → turnsIn (cond long Malformed (cond hex (cond short Malformed
-    (cond k1 (cond few Malformed (cond even (Submit d k) Malformed))
-    (cond k2 (cond turns (TurnsFrame e j) Malformed) (cond k3 (cond whole Recover Malformed) Malformed)))) Malformed)) ≤ 65535
-tests-most true hex short k1 k2 k3 few even turns whole d k e j h = omega arith
-tests-most false false short k1 k2 k3 few even turns whole d k e j h = omega arith
-tests-most false true true k1 k2 k3 few even turns whole d k e j h = omega arith
-tests-most false true false true k2 k3 true even turns whole d k e j h = omega arith
-tests-most false true false true k2 k3 false true turns whole d k e j h = omega arith
-tests-most false true false true k2 k3 false false turns whole d k e j h = omega arith
-tests-most false true false false true k3 few even true whole d k e j h = h
-tests-most false true false false true k3 few even false whole d k e j h = omega arith
-tests-most false true false false false true few even turns true d k e j h = omega arith
-tests-most false true false false false true few even turns false d k e j h = omega arith
-tests-most false true false false false false few even turns whole d k e j h = omega arith
-
-turns-most : (l : List ℕ) → turnsIn (frameOf l) ≤ 65535
-unfolding frameOf byKind submitFrame turnsFrame recoverFrame
-turns-most l =
-    tests-most (ltb 4096 (length l)) (allHex l) (ltb (length l) 2) (eqb (hexAt l 0 2) 1) (eqb (hexAt l 0 2) 2) (eqb (hexAt l 0 2) 3)
-    (ltb (length l) 148) (eqb ((length l - 148) % 16) 0) (eqb (length l) 8) (eqb (length l) 2) _ _ _ (hexAt l 4 4) (four-most l)
 
 -- ---- a line begun
 
-print-most : (a : Answer) → jobPieces (printJob a) ≤ 65536
+print-most : (a : Answer) → jobPieces (printJob a) ≤ 655360
 print-most Done = omega arith
 print-most (Refused r) = omega arith
 
-begin-most : (m : Image) (c : Cursors) (l : List ℕ) (f : Frame) → turnsIn f ≤ 65535 → jobPieces (beginFrame m c l f .played .job) ≤ 65536
+begin-most : (m : Image) (c : Cursors) (l : List ℕ) (f : Frame) → timesIn f ≤ 65535 → jobPieces (beginFrame m c l f .played .job) ≤ 655360
 begin-most m c l (Submit d k) h = omega arith
 begin-most m c l (TurnsFrame d k) h = omega arith
 begin-most m c l Recover h = print-most (recoveryAnswer (recovery mark ownWords m))
+begin-most m c l (RoundsFrame r) h = omega arith
 begin-most m c l Malformed h = omega arith
 
-open-most : (o : Opening) → jobPieces (opened o .played .job) ≤ 65536
+open-most : (o : Opening) → jobPieces (opened o .played .job) ≤ 655360
 unfolding formatStage fresh ended
 open-most OpeningMalformed = omega arith
 open-most (Workers D) = by (leb 1 D && leb D 8) refl
   where
-    by : (t : Bool) → (leb 1 D && leb D 8) ≡ t → jobPieces (opened (Workers D) .played .job) ≤ 65536
+    by : (t : Bool) → (leb 1 D && leb D 8) ≡ t → jobPieces (opened (Workers D) .played .job) ≤ 655360
     by true e = rw e (omega arith)
     by false e = rw e (omega arith)
 
-line-most : (s : Stage) (l : List ℕ) → jobPieces (lineOn s l .played .job) ≤ 65536
+line-most : (s : Stage) (l : List ℕ) → jobPieces (lineOn s l .played .job) ≤ 655360
 unfolding lineOn
 line-most s l = by (eqb (length (s .image)) 0) refl
   where
-    by : (t : Bool) → eqb (length (s .image)) 0 ≡ t → jobPieces (lineOn s l .played .job) ≤ 65536
+    by : (t : Bool) → eqb (length (s .image)) 0 ≡ t → jobPieces (lineOn s l .played .job) ≤ 655360
     by true e = rw e (open-most (firstOf l))
-    by false e = rw e (begin-most (s .image) (s .played .cursors) l (frameOf l) (turns-most l))
+    by false e = rw e (begin-most (s .image) (s .played .cursors) l (frameOf l) (times-most l))
 
 -- ---- a line gone on with
 
@@ -117,6 +76,26 @@ turn-less : (m : Image) (p : Played) (d k : ℕ) → jobPieces (turnStage m p d 
 unfolding turnStage
 turn-less m p d zero = omega arith
 turn-less m p d (suc k) = turns-less (goesOn (answerOf ownWords (outcome mark ownWords (uncut m (p .cursors)) d))) d k
+
+-- a turn of a round, by its answer, made by worker e, the first open one from d on: below the eighth where it is made
+round-job-less : (a : TurnAnswer) (d e r : ℕ) → d ≤ e → (makes a ≡ true → e < 8) → jobPieces (roundJob a d e (suc r)) < 10 * suc r + (9 - d) + 1
+round-job-less (Stored i) d e r h f = omega (arith, f refl)
+round-job-less (Passed why) d e r h f = omega (arith, f refl)
+round-job-less (Waiting b) d e r h f = omega (arith, f refl)
+round-job-less Idle d e r h f = by (eqb d 0)
+  where
+    by : (t : Bool) → jobPieces (cond t Next (Rounds 0 (suc r - 1))) < 10 * suc r + (9 - d) + 1
+    by true = omega arith
+    by false = omega arith
+round-job-less (TurnRefused x) d e r h f = omega arith
+
+round-less : (m : Image) (p : Played) (d r : ℕ) → jobPieces (roundStage m p d r .played .job) < 10 * r + (9 - d) + 1
+unfolding roundStage
+round-less m p d zero = omega arith
+round-less m p d (suc r) =
+    let w = uncut m (p .cursors) in
+    round-job-less (answerOf ownWords (nextOutcome mark ownWords w d)) d (nextWorker mark ownWords w d) r (next-above mark ownWords w d)
+    (next-few mark ownWords w d)
 
 slot-less : (m : Image) (p : Played) (i : ℕ) → jobPieces (slotStage m p i .played .job) < 592 - i + 1
 unfolding slotStage
@@ -133,9 +112,11 @@ module _ (more : Bool) (q : Point) where
   private-on j e = ap (λ (i : Job). goOnJob (q .stage .image) (q .stage .played) i .played .job) (sym e)
 
   private-less : (j : Job) → q .stage .played .job ≡ j → readyFor more (q .input) j ≡ true
-      → piecesLeft (pieceFor more q j) < 65537 * length (q .input) + jobPieces j
+      → piecesLeft (pieceFor more q j) < 655361 * length (q .input) + jobPieces j
   private-less (Turns w k) e r =
       omega (arith, turn-less (q .stage .image) (q .stage .played) w k, ap jobPieces (private-on (Turns w k) e))
+  private-less (Rounds d r) e o =
+      omega (arith, round-less (q .stage .image) (q .stage .played) d r, ap jobPieces (private-on (Rounds d r) e))
   private-less (Stores i) e r =
       omega (arith, slot-less (q .stage .image) (q .stage .played) i, ap jobPieces (private-on (Stores i) e))
   private-less Next e r =
@@ -147,6 +128,7 @@ module _ (more : Bool) (q : Point) where
 
   private-none : (j : Job) → readyFor more (q .input) j ≡ false → pieceFor more q j ≡ q
   private-none (Turns w k) r = let z : _≡_ {A = ℕ} 0 1 = cc in absurd (omega arith)
+  private-none (Rounds d k) r = let z : _≡_ {A = ℕ} 0 1 = cc in absurd (omega arith)
   private-none (Stores i) r = let z : _≡_ {A = ℕ} 0 1 = cc in absurd (omega arith)
   private-none Next r = rw r
   private-none Stop r = refl

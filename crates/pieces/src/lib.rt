@@ -23,13 +23,17 @@ pub struct Run {
 }
 
 // Whether a line is to be gone on with.
-fn going(job: Job) -> bool
+pub fn going(job: Job) -> bool
     ensures { λ r. ⌜ r ≡ isGoing job ⌝ }
 {
     match job {
         Job::Turns {
             worker: _,
             turns: _,
+        } => true,
+        Job::Rounds {
+            worker: _,
+            rounds: _,
         } => true,
         Job::Stores(_) => true,
         Job::Next => false,
@@ -104,6 +108,10 @@ pub fn make(image: &mut [u64], d: Day, input: &[u8], from: usize, more: bool) ->
         Job::Turns {
             worker: _,
             turns: _,
+        } => made(stages::on(image, d), from, true),
+        Job::Rounds {
+            worker: _,
+            rounds: _,
         } => made(stages::on(image, d), from, true),
         Job::Stores(_) => made(stages::on(image, d), from, true),
         Job::Next => next(image, d, input, from, more),

@@ -1,4 +1,5 @@
 pub mod Idling
 pub mod Rounds
+pub mod Next
 pub mod Staying
 pub mod Laps

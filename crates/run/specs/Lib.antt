@@ -1,2 +1,4 @@
 pub mod Run
+pub mod Round
+pub mod inner
 pub mod Codes

@@ -6,6 +6,7 @@ use working::Cursors;
 use working::Refusal;
 
 pub mod codes;
+pub mod round;
 
 ghost use mathlib.Core.Path.{_≡_};
 ghost use Prim.Native.Nat.{ℕ, _+_, _<_, _≤_};
@@ -17,11 +18,6 @@ ghost use Rattle.tally.specs.Tally.{none, Room};
 ghost use Rattle.working.specs.World.{world};
 ghost use Rattle.turn.specs.declared.Answer.the-variants.{Passed};
 ghost use Rattle.turn.specs.inner.Acting.{didAnswer};
-ghost use Rattle.image.specs.Image.{at};
-ghost use Rattle.image.specs.inner.Inside.{Inside};
-ghost use Rattle.plan.specs.Turn.{ready};
-ghost use mathlib.Core.Bool.{true};
-ghost use mathlib.Core.Logic.{_≢_};
 ghost use Rattle.run.specs.Run.{counted, counting, openTo, ran, roundsOf, runOf};
 
 // How a run ends.
@@ -35,19 +31,6 @@ pub struct Ran {
     pub end: End,
     pub cursors: Cursors,
     pub tally: Tally,
-}
-
-// The same in a round of a run: after the first round, a turn past the first of its step is known to be one.
-fn ready_in(image: &[u64], d: usize, own: usize, s: u8, t: u8, round: u16) -> bool
-    requires { ⌜ (Inside own (now image) d) × (t ≢ 0 → round ≢ 0 → ready own (at own (now image)) d s t ≡ true) ⌝ }
-    ensures { λ r. ⌜ r ≡ ready own (at own (now (image .entry))) d s t ⌝ }
-{
-    if t != 0 {
-        if round != 0 {
-            return true;
-        }
-    }
-    plan::ready(image, d, own, s, t)
 }
 
 // The workers up to the last open one, of n.
@@ -137,10 +120,11 @@ fn rounds_of(
                 d += 1;
                 continue;
             }
-            if !ready_in(image, d, own, s, t, round) {
+            let lap = round::turn(image, d, s, t, own, round, left);
+            if !lap.made {
                 break 'rounds End::Halted(Refusal::Cursor(d));
             }
-            let acted = turn::turn_on(image, d, s, t, own, left);
+            let acted = lap.acted;
             c.step[d] = acted.step;
             c.turn[d] = acted.turn;
             let did = acted.did;

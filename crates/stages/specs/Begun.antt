@@ -18,15 +18,15 @@ use Rattle.frames.specs.Line.{firstOf}
 use Rattle.frames.specs.Print.{malformed, refusal}
 use Rattle.lines.specs.declared.Job.the-variants.{Next, Stop}
 use Rattle.lines.specs.declared.Played.{Played}
-use Rattle.lines.specs.Play.{Stage, stage, played, begin}
+use Rattle.lines.specs.Play.{Stage, stage, played, noTurn, begin}
 
 -- with nothing printed, the next line follows
 unfoldable pub fresh : Played
-fresh = played allIdle Nothing Next noRepair
+fresh = played allIdle Nothing Next noRepair noTurn
 
 -- a refusal of the first line ends the day
 unfoldable pub ended : ℕ → Played
-ended cause = played allIdle (refusal cause) Stop noRepair
+ended cause = played allIdle (refusal cause) Stop noRepair noTurn
 
 -- the image is formatted for so many workers
 unfoldable pub formatStage : ℕ → Stage

@@ -31,6 +31,7 @@ fn fresh() -> Played
         printed: Printed::Nothing,
         job: Job::Next,
         repair: repair::no_repair(),
+        made: lines::no_turn(),
     }
 }
 
@@ -43,6 +44,7 @@ fn ended(cause: u64) -> Played
         printed: frames::refusal(cause),
         job: Job::Stop,
         repair: repair::no_repair(),
+        made: lines::no_turn(),
     }
 }
 

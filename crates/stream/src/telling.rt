@@ -61,6 +61,10 @@ pub fn tell(fd: i32, line: u64, job: Job, p: Printed) {
             worker: _,
             turns: _,
         } => {}
+        Job::Rounds {
+            worker: _,
+            rounds: _,
+        } => {}
         Job::Stores(_) => {}
         Job::Next => {}
         Job::Stop => {

@@ -145,6 +145,22 @@ fn answer_of(x: Did) -> Answer
     }
 }
 
+// What a turn of worker d answers by what it did, with the record behind it.
+pub fn told(c: Cursors, d: usize, acted: Acted) -> Turned
+    requires { ⌜ didLock (acted .did) ⌝ }
+    ensures answer { λ r. ⌜ ((n : ℕ) → r .answer ≡ didAnswer n (acted .did)) ⌝ }
+    ensures cursors { λ r. ⌜ r .cursors ≡ holding (didHeld (acted .did) (c .held)) (setAt c d (acted .step) (acted .turn)) ⌝ }
+{
+    let did = acted.did;
+    let held = held_after(did, c.held);
+    let mut next = working::place(c, d, acted.step, acted.turn);
+    next.held = held;
+    Turned {
+        answer: answer_of(did),
+        cursors: next,
+    }
+}
+
 // Whether a worker that the image has gets a turn: an idle one does not, nor one whose cursor is on no turn of its section.
 fn worker_tests(image: &[u64], c: Cursors, d: usize, own: usize) -> Gate
     requires { ⌜ Inside own (now image) d ⌝ }
@@ -181,14 +197,7 @@ fn open_turn(image: &mut [u64], c: Cursors, d: usize, own: usize, left: &mut u64
         ≡ leaves own (world (now (image .entry)) c (now (left .entry))) d (outcomeAt own (world (now (image .entry)) c (now (left .entry))) d) ⌝ }
 {
     let acted = turn_on(image, d, c.step[d], c.turn[d], own, left);
-    let did = acted.did;
-    let held = held_after(did, c.held);
-    let mut next = working::place(c, d, acted.step, acted.turn);
-    next.held = held;
-    Turned {
-        answer: answer_of(did),
-        cursors: next,
-    }
+    told(c, d, acted)
 }
 
 // One turn of worker d.

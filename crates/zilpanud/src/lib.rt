@@ -1,5 +1,5 @@
-// What C and Rust link: the engine's entry points, four questions about a worker, the turns that a section needs and the count of the locks held, over
-// slices, arrays and numbers. An answer crosses as a number and a detail (`codes` of the crates that answer, `cause` and `step` of section); the
+// What C and Rust link: the engine's entry points, four questions about a worker, the turns that a section needs, the count of the locks held and the sums of
+// a day, over slices, arrays and numbers. An answer crosses as a number and a detail (`codes` of the crates that answer, `cause` and `step` of section); the
 // working record as two arrays, a step and a turn for each worker, and the mask of the locks held.
 mod answers;
 mod cursors;
@@ -18,6 +18,8 @@ ghost use Rattle.needs.specs.Codes.{alongCode, alongStep, alongTurns, neededCod
 ghost use Rattle.zilpanud.specs.Lent.{cursors, lent, formatting, formatsTo, checking, giving, givesTo, following, needing, submitting, submitsTo};
 ghost use Rattle.zilpanud.specs.Lent.{turning, turnsTo, running, counts, recovering, recoversTo};
 ghost use Rattle.zilpanud.specs.Ask.{askCode, told, idleBit, finishedNo, stands, stillNeeding};
+ghost use Rattle.sums.specs.Sums.{sums};
+ghost use Rattle.sums.specs.Day.{dayReading, daySums};
 ghost use Rattle.zilpanud.specs.Version.{version};
 
 // Formats an image for so many workers: 0, or 10. All workers are idle and no lock is held, also where it is refused.
@@ -302,10 +304,30 @@ pub extern "C" fn zilpanud_turns_left(
     needs::codes::left_code(a)
 }
 
+// The sums of a recorded day, a whole one in memory, for any bytes: for each lock the turns that waited on it, for each worker its turns that waited and those
+// that did not. Where reading ends early, those up to there: 14, a malformed line; 10, no image has as many workers as the first line says; else 0. The detail:
+// the lines read, the one that ended it included.
+#[no_mangle]
+pub extern "C" fn zilpanud_day_sums(
+    bytes: &[u8],
+    locks: &mut [u64; 64],
+    waited: &mut [u64; 8],
+    moved: &mut [u64; 8],
+    detail: &mut u64,
+) -> u64
+    ensures code { λ r. ⌜ r ≡ dayReading (now (bytes .entry)) .ends ⌝ }
+    ensures sums { λ r. ⌜ sums (now (locks .exit)) (now (waited .exit)) (now (moved .exit)) ≡ daySums (now (bytes .entry)) ⌝ }
+    ensures detail { λ r. ⌜ now (detail .exit) ≡ dayReading (now (bytes .entry)) .read ⌝ }
+{
+    let r = sums::day_sums(bytes, locks, waited, moved);
+    *detail = r.lines;
+    r.ends
+}
+
 // Which library this is: 1,000,000 × its major version, 1,000 × its minor one, and its patch.
 #[no_mangle]
 pub extern "C" fn zilpanud_version() -> u64
     ensures { λ r. ⌜ r ≡ version ⌝ }
 {
-    7_000
+    8_000
 }

@@ -17,6 +17,8 @@ pub trait Engine {
     /// The turns made.
     fn run(image: &mut [u64], places: &mut Self::Places, rounds: u16) -> u64;
     fn recover(image: &mut [u64]) -> Self::Places;
+    /// The sums of a recorded day, all of which is read: locks, workers' waits, workers' moves.
+    fn day_sums(day: &[u8]) -> ([u64; 64], [u64; 8], [u64; 8]);
 }
 
 /// The arguments of every section: own words 512 to 519.
@@ -67,6 +69,12 @@ impl Engine for Ours {
 
     fn recover(image: &mut [u64]) -> Self::Places {
         zilpanud::recover(image).unwrap()
+    }
+
+    fn day_sums(day: &[u8]) -> ([u64; 64], [u64; 8], [u64; 8]) {
+        let sums = zilpanud::day_sums(day);
+        assert_eq!(sums.end, zilpanud::DayEnd::Read);
+        (sums.locks, sums.waited, sums.moved)
     }
 }
 
@@ -126,5 +134,11 @@ impl Engine for Twin {
         let (answer, places) = twin::recover(image, u64::MAX);
         answer.unwrap();
         places
+    }
+
+    fn day_sums(day: &[u8]) -> ([u64; 64], [u64; 8], [u64; 8]) {
+        let sums = twin::days::day_sums(day);
+        assert_eq!(sums.cause, 0);
+        (sums.bays, sums.waited, sums.moved)
     }
 }

@@ -1,6 +1,6 @@
 //! Instructions a unit of work, counted by valgrind: a number that does not change with the machine's other load.
 
-use crate::rows;
+use crate::rows::{self, Row};
 use std::env;
 use std::process::Command;
 
@@ -21,8 +21,9 @@ fn counted(name: &str, side: &str, times: u64) -> Option<(f64, f64)> {
 }
 
 /// Instructions a unit: the difference between few and many times, so that the start is left out.
-fn each(name: &str, side: &str) -> Option<f64> {
-    let (few, many) = (counted(name, side, 10)?, counted(name, side, 110)?);
+fn each(row: &Row, side: &str) -> Option<f64> {
+    let (few, many) = row.few_and_many();
+    let (few, many) = (counted(&row.name, side, few)?, counted(&row.name, side, many)?);
     Some((many.0 - few.0) / (many.1 - few.1))
 }
 
@@ -31,7 +32,7 @@ pub fn table() {
     println!("|---|---|---:|---:|---:|");
     for row in rows::all() {
         let name = &row.name;
-        let (Some(ours), Some(twin)) = (each(name, "ours"), each(name, "twin")) else {
+        let (Some(ours), Some(twin)) = (each(&row, "ours"), each(&row, "twin")) else {
             println!("valgrind did not run: Debian has it as valgrind");
             return;
         };

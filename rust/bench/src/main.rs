@@ -1,5 +1,6 @@
 //! Our engine, through the wrapper crate, against the twin and against stores that others have built. See usage().
 
+mod day;
 mod engine;
 mod instructions;
 mod measure;
@@ -9,12 +10,16 @@ mod stores;
 mod work;
 
 use engine::{Ours, Twin};
+use measure::Measured;
 use rows::Row;
 use std::env;
 use std::os::unix::process::CommandExt;
 use std::process::{exit, Command};
 
 const ROUNDS: usize = 201;
+
+/// A whole day takes long: it is measured in fewer rounds.
+const DAY_ROUNDS: usize = 21;
 
 fn usage() -> ! {
     eprintln!(
@@ -26,7 +31,7 @@ fn usage() -> ! {
 }
 
 /// Times a row on both engines and compares what they leave.
-fn compared(row: &Row, rounds: usize) -> measure::Measured {
+fn compared(row: &Row, rounds: usize) -> Measured {
     let (mut ours, mut twin) = (row.work.clone().on::<Ours>(), row.work.clone().on::<Twin>());
     let measured = measure::compared(&mut |n| ours.batch(n), &mut |n| twin.batch(n), rounds);
     let most = ours.times.max(twin.times);
@@ -39,14 +44,30 @@ fn compared(row: &Row, rounds: usize) -> measure::Measured {
     measured
 }
 
+const HEAD: &str = "| work | unit | ours, ns | twin, ns | twin time / our time |
+|---|---|---:|---:|---:|";
+
 fn table(title: &str, rows: Vec<Row>, rounds: usize) {
     println!("\n{title}\n");
-    println!("| work | unit | ours, ns | twin, ns | twin time / our time |");
-    println!("|---|---|---:|---:|---:|");
+    println!("{HEAD}");
     for row in rows {
+        line(&row, &compared(&row, rounds));
+    }
+}
+
+fn line(Row { name, unit, .. }: &Row, m: &Measured) {
+    println!("| {name} | {unit} | {:.2} | {:.2} | {:.2} |", m.first, m.second, m.ratio);
+}
+
+/// Whole days: in nanoseconds a frame, and in seconds.
+fn days(rounds: usize) {
+    println!("\nA recorded day, in {rounds} rounds\n");
+    println!("{HEAD}");
+    for row in rows::days() {
         let m = compared(&row, rounds);
-        let (name, unit) = (row.name, row.unit);
-        println!("| {name} | {unit} | {:.2} | {:.2} | {:.2} |", m.first, m.second, m.ratio);
+        line(&row, &m);
+        let [ours, twin] = [m.first, m.second].map(|frame| frame * rows::FRAMES as f64 / 1e9);
+        println!("\nThe whole day: ours {ours:.4} s, twin {twin:.4} s.");
     }
 }
 
@@ -59,6 +80,7 @@ fn tables(rounds: usize) {
     table("Ours against the twin", rows::against_twin(), rounds);
     let title = "The cost of a turn, and of a checked step, by workers and by length";
     table(title, rows::by_size(), rounds);
+    days(rounds.min(DAY_ROUNDS));
     stores::table(rounds);
 }
 

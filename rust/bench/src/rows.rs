@@ -127,8 +127,24 @@ pub fn by_size() -> Vec<Row> {
     rows
 }
 
+/// The frames of a recorded day.
+pub const FRAMES: u64 = 100_000;
+
+/// A whole recorded day: long work, which is done less often than the other rows.
+pub fn days() -> Vec<Row> {
+    vec![row("day sums, 8 workers, 100,000 frames", "frame", Work::Day { frames: FRAMES })]
+}
+
+impl Row {
+    /// How often its work is done to count its instructions: few times, and many.
+    pub fn few_and_many(&self) -> (u64, u64) {
+        match self.work {
+            Work::Day { .. } => (1, 2),
+            _ => (10, 110),
+        }
+    }
+}
+
 pub fn all() -> Vec<Row> {
-    let mut rows = against_twin();
-    rows.extend(by_size());
-    rows
+    [against_twin(), by_size(), days()].into_iter().flatten().collect()
 }

@@ -88,14 +88,20 @@ pub fn one_lock_move() -> Vec<u64> {
 
 /// Moves own word 512 from cell 24 to cell 40, under locks 3 and 5, and counts the move in cell 41: 39 turns.
 pub fn two_lock_move() -> Vec<u64> {
+    move_between(3, 5)
+}
+
+/// The same between the first cells of two locks, the second above the first.
+pub fn move_between(from: u16, to: u16) -> Vec<u64> {
+    let (giving, getting) = (8 * from, 8 * to);
     vec![
-        acquire(3),
-        acquire(5),
-        instruction(5, 24, 24, 512),
-        sum(40, 40, 512),
-        sum(41, 41, 512),
-        release(5),
-        release(3),
+        acquire(from),
+        acquire(to),
+        instruction(5, giving, giving, 512),
+        sum(getting, getting, 512),
+        sum(getting + 1, getting + 1, 512),
+        release(to),
+        release(from),
         FINISH,
     ]
 }

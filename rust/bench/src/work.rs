@@ -1,5 +1,6 @@
 //! What is repeated: each work leaves the image such that it can be done again.
 
+use crate::day;
 use crate::engine::Engine;
 use crate::stores::PLENTY;
 use std::hint::black_box;
@@ -64,6 +65,10 @@ pub enum Work {
     /// A submit and a run until idle, each with the next number.
     Move {
         section: Vec<u64>,
+    },
+    /// The sums of a recorded day of so many frames, which stand in the place of the image.
+    Day {
+        frames: u64,
     },
 }
 
@@ -213,6 +218,17 @@ where
     })
 }
 
+fn day_sums<E: Engine>(frames: u64) -> Side {
+    let day = day::drawn(frames);
+    side(vec![0; 64 + 8 + 8], move |words| {
+        let (locks, waited, moved) = E::day_sums(black_box(&day));
+        words[..64].copy_from_slice(&locks);
+        words[64..72].copy_from_slice(&waited);
+        words[72..].copy_from_slice(&moved);
+        frames
+    })
+}
+
 impl Work {
     pub fn on<E: Engine>(self) -> Side
     where
@@ -246,6 +262,7 @@ impl Work {
                 1
             }),
             Work::Move { section } => moves::<E>(section),
+            Work::Day { frames } => day_sums::<E>(frames),
         }
     }
 }

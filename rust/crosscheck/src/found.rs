@@ -16,7 +16,8 @@ pub struct Difference {
 }
 
 /// What differs: what a call gives, what a section's held sets are, or something that is told in words: what the check
-/// says of a section, how many turns it needs or took, what it logged, or what became of a board that changed over.
+/// says of a section, how many turns it needs or took, what it logged, what became of a board that changed over, or what
+/// a recorded day comes to.
 pub enum Found {
     Call(Box<Difference>),
     Pass(Box<passes::Difference>),

@@ -2,13 +2,17 @@
 //! answer, the cursors, the locks held, the stores left and the tally; of every section its check, with the sentence
 //! that says what is wrong, its held sets and its turns, of images the turns left; of every submit what it has to do
 //! with the check; and sections are followed to their end, their totals compared and their turns counted. Many lists
-//! start from a board that changes over. See usage().
+//! start from a board that changes over. With each list comes a recorded day, whose sums are compared. See usage().
 
 mod asking;
 mod call;
 mod checked;
 mod counts;
 mod damage;
+mod day_calls;
+mod day_counts;
+mod day_lines;
+mod days;
 mod draw;
 mod follow;
 mod found;
@@ -347,8 +351,18 @@ fn list(seed: u64, number: u64, met: &mut Met) -> Result<(), (u64, Found)> {
         played = settled.map_err(|d| (calls + 1, d.into()));
     }
     met.turns = play.asking.counted();
-    met.lists += played.is_ok() as u64;
-    played
+    played?;
+    recorded(seed, number, met).map_err(|d| (calls + 2, d.into()))?;
+    met.lists += 1;
+    Ok(())
+}
+
+/// The recorded day of a list, one with a byte changed, and bytes that are none.
+fn recorded(seed: u64, number: u64, met: &mut Met) -> Result<(), String> {
+    let mut r = Rng::of_list(seed ^ 7, number);
+    days::day(&mut r, &mut met.days)?;
+    days::damaged(&mut r, &mut met.days)?;
+    days::bytes(&mut r, &mut met.days)
 }
 
 fn main() {

@@ -3,6 +3,7 @@
 use crate::call::{Call, Given, SORTS};
 use crate::counts::Counts;
 use crate::damage::DAMAGES;
+use crate::day_counts::DayCounts;
 use crate::passes::Pass;
 use crate::verdicts::Verdicts;
 
@@ -64,6 +65,8 @@ pub struct Met {
     pub turns: Counts,
     /// What the check said of sections, alone and in submits.
     pub verdicts: Verdicts,
+    /// What was compared of recorded days.
+    pub days: DayCounts,
 }
 
 impl Met {
@@ -134,6 +137,7 @@ impl Met {
         lines.extend(given.map(|n| format!("no held sets were given where the check answers {n}")));
         lines.extend(self.turns.missing());
         lines.extend(self.verdicts.missing());
+        lines.extend(self.days.missing());
         lines
     }
 
@@ -189,6 +193,7 @@ impl Met {
         );
         self.turns.report();
         self.verdicts.report();
+        self.days.report();
     }
 
     fn sets(&self) {

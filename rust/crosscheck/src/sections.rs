@@ -90,6 +90,20 @@ pub fn passing(r: &mut Rng, locks: u64, totals: bool) -> Vec<u64> {
     section
 }
 
+/// Raises the locks of a section by so many, and its cells with them.
+pub fn raise(section: &mut [u64], by: u16) {
+    let cell = |field: u16| if field < 512 { field + 8 * by } else { field };
+    for word in section {
+        let [kind, a, b, c] = [48, 32, 16, 0].map(|shift| (*word >> shift) as u16);
+        *word = match kind {
+            1 | 2 => instruction(kind, a.wrapping_add(by), b, c),
+            3 | 7 => instruction(kind, cell(a), b, c),
+            4..=6 => instruction(kind, cell(a), cell(b), cell(c)),
+            _ => *word,
+        };
+    }
+}
+
 /// Changes a section in one place: a field, a kind, a whole word, a step more or less, two steps exchanged.
 pub fn spoil(r: &mut Rng, section: &mut Vec<u64>) {
     if section.is_empty() {

@@ -67,6 +67,9 @@
 //! turns it needs from a step on, [`turns_left`] how many after a recovery, and [`turns_of_path`] how many it takes
 //! where the steps that it goes through are known.
 //!
+//! For those who watch a board, [`day_sums`] says of a recorded day of frame lines how often each lock was waited for, and
+//! of each worker how many turns waited and how many did not.
+//!
 //! [`cut`] has the calls that store once more, with the number of stores that they may still make: so tests cut them.
 //!
 //! Document 01 is the paper that the engine follows; all that a user needs of it is in the repository's `docs/MANUAL.md`.
@@ -82,6 +85,7 @@ mod board;
 mod calls;
 pub mod code;
 pub mod cut;
+mod day;
 mod fault;
 mod raw;
 mod refusal;
@@ -93,6 +97,7 @@ pub use answers::{Cursors, End, Needs, Passing, Run, Standing, Tally, Turn};
 pub use board::{Board, BoardError};
 pub use calls::{check, finished, format, held_sets, is_idle, recover, run, standing, submit, turn};
 pub use code::instruction;
+pub use day::{day_sums, DayEnd, DaySums};
 pub use fault::Fault;
 pub use refusal::{Cause, Refusal, RefusedRun};
 pub use turns::{turns_from, turns_left, turns_of_path};
@@ -111,7 +116,7 @@ pub const LOCKS: usize = 64;
 pub const STEPS: usize = 64;
 
 /// The version of the library that this crate was written for, as [`version`] says it.
-pub const VERSION: u64 = 7_000;
+pub const VERSION: u64 = 8_000;
 
 /// The version of the library that is linked: 1,000,000 × major + 1,000 × minor + patch.
 pub fn version() -> u64 {

@@ -1,9 +1,10 @@
 //! The exported functions as C sees them. Nothing compares these lines with the library's source but the tests: keep
 //! them the same as `include/zilpanud.h`.
 //!
-//! What a caller owes: a pointer and its length name that many words, and no two pointers of a call name the same
-//! memory (only args, words and path, which are read alone, may). With a length of 0 the pointer is not read, and any
-//! pointer that is not null and is aligned to 8 will do; that of an empty slice is so.
+//! What a caller owes: a pointer and its length name that many words, or bytes, and no two pointers of a call name the
+//! same memory (only args, words and path, which are read alone, may). With a length of 0 the pointer is not read, and
+//! any pointer that is not null and is aligned to 8, which one to bytes need not be, will do; that of an empty slice is
+//! so.
 
 unsafe extern "C" {
     pub safe fn zilpanud_version() -> u64;
@@ -102,5 +103,13 @@ unsafe extern "C" {
         worker: usize,
         fewest: *mut u64,
         most: *mut u64,
+    ) -> u64;
+    pub fn zilpanud_day_sums(
+        bytes: *const u8,
+        len: usize,
+        locks: *mut [u64; 64],
+        waited: *mut [u64; 8],
+        moved: *mut [u64; 8],
+        detail: *mut u64,
     ) -> u64;
 }

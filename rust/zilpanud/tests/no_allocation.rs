@@ -1,7 +1,8 @@
-//! The check, what it finds and its sentence allocate nothing.
+//! The check, what it finds and its sentence allocate nothing; nor do the sums of a recorded day.
 
 mod common;
 
+use common::frames::{rounds, submit};
 use common::TICKET;
 use std::alloc::{GlobalAlloc, Layout, System};
 use std::cell::Cell;
@@ -56,7 +57,25 @@ fn a_check_allocates_nothing() {
         }
         assert_eq!(allocated(), before, "{section:x?}");
     }
-    // what counts does count
+    counting_counts();
+}
+
+#[test]
+fn a_day_allocates_nothing() {
+    let ticket = submit(0, 1, &TICKET);
+    let days = ["", "01\n03", "09", "01\n0z\n", &format!("08\n{ticket}{}", rounds(u16::MAX))];
+    let mut text = [0; 200];
+    for day in days {
+        let before = allocated();
+        let sums = zilpanud::day_sums(day.as_bytes());
+        write!(&mut text[..], "{}", sums.end).unwrap();
+        assert_eq!(allocated(), before, "{day}");
+    }
+    counting_counts();
+}
+
+/// What counts does count.
+fn counting_counts() {
     let before = allocated();
     drop(std::hint::black_box(Box::new(before)));
     assert!(allocated() > before);

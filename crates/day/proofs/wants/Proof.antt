@@ -25,6 +25,9 @@ enum-told-3 c = search needs
 enum-told-4 : tie.Need-enum-told-4
 enum-told-4 c = search needs
 
+enum-told-5 : tie.Need-enum-told-5
+enum-told-5 c = search needs
+
 returns-3 : tie.Need-returns-3
 unfolding wantOf
 returns-3 c =
@@ -53,6 +56,13 @@ returns-6 c =
     let b5 = b4 .before in
     rw (le-ltb _ 22 (b4 .if1 .left), not-false (b5 .args .more) (c .before .before .before .if2 .left), c .enum-told4 .given .1)
 
+returns-7 : tie.Need-returns-7
+unfolding wantOf
+returns-7 c =
+    let b4 = c .before .before .before .before in
+    let b5 = b4 .before in
+    rw (le-ltb _ 22 (b4 .if1 .left), not-false (b5 .args .more) (c .before .before .before .if2 .left), c .enum-told5 .given .1)
+
 pub wants-spec : {M : Type 1} → statement M
 wants-spec =
     tie.close
@@ -63,7 +73,9 @@ wants-spec =
     enum-told-2
     enum-told-3
     enum-told-4
+    enum-told-5
     returns-3
     returns-4
     returns-5
-    returns-6)
+    returns-6
+    returns-7)

@@ -30,6 +30,12 @@ enum-told c = search needs
 recover-requires : tie.Need-recover-requires
 recover-requires c κs = search needs
 
+enum-known-frame-3 : tie.Need-enum-known-frame-3
+enum-known-frame-3 c = search needs
+
+rounds-requires : tie.Need-rounds-requires
+rounds-requires c κs = search needs
+
 enum-told-2 : tie.Need-enum-told-2
 enum-told-2 c = search needs
 
@@ -41,7 +47,8 @@ same-length c = search needs
 
 returns : tie.Need-returns
 returns c =
-    let A = c .before .before .before .before .before .before .before .before .before .before .args in
+    let b8 = c .before .before .before .before .before .before .before .before in
+    let A = b8 .before .before .args in
     c .before .before .submit .ensures ∙ ap (beginFrame (now (A .image)) (A .c) (now (A .line)))
     (sym (c .before .before .before .before .before .frame .given .1) ∙ c .before .before .before .before .before .before .before .read .ensures)
 
@@ -62,6 +69,12 @@ returns-3 c =
 
 returns-4 : tie.Need-returns-4
 returns-4 c =
+    let A = c .before .before .before .before .before .before .before .args in
+    ap (stage (now (A .image))) (c .rounds .ensures) ∙ ap (beginFrame (now (A .image)) (A .c) (now (A .line)))
+    (sym (c .before .before .frame3 .given .1) ∙ c .before .before .before .before .read .ensures)
+
+returns-5 : tie.Need-returns-5
+returns-5 c =
     let A = c .before .before .before .before .before .before .args in
     ap (stage (now (A .image))) (c .malformed .ensures) ∙ ap (beginFrame (now (A .image)) (A .c) (now (A .line)))
     (sym (c .before .enum-told2 .given .1) ∙ c .before .before .before .read .ensures)
@@ -77,6 +90,8 @@ begin-spec =
     turns-requires
     enum-told
     recover-requires
+    enum-known-frame-3
+    rounds-requires
     enum-told-2
     malformed-requires
     same-length
@@ -84,4 +99,5 @@ begin-spec =
     returns-2
     same-length-2
     returns-3
-    returns-4)
+    returns-4
+    returns-5)

@@ -6,7 +6,7 @@ use mathlib.Core.Path.{_≡_, refl, sym, _∙_}
 use native.Mathlib.Omega.{arith}
 use lib.ListN.{length, length-set}
 use Rattle.base.proofs.Counting.{left-all}
-use Rattle.base.proofs.Bools.{denied, granted}
+use borrow.Author.Tests.{not-true, not-false}
 use Rattle.image.proofs.Header.{sized-inside}
 use Rattle.tally.specs.Tally.{none}
 use Rattle.working.specs.Cursor.{setAt, holding}
@@ -81,63 +81,46 @@ loop-again c =
     let idle = idle-turn (holding (L .held) (L .c)) (L .d) (rw (l .full .turns) (omega (arith, l .top, l .few))) (c .if3 .taken) in
     (L .inv .0, lap-idle _ _ _ _ _ _ _ _ l (c .before .before .before .loop-test .taken) idle)
 
-ready-in-requires : tie.Need-ready-in-requires Inv-loop μ-loop Inv-rounds μ-rounds
-ready-in-requires c κs =
-    let back = c .before .before .before .before .before .before .before .before .before in
-    let L = c .before .before .before .before .before .loop in
+turn-requires : tie.Need-turn-requires Inv-loop μ-loop Inv-rounds μ-rounds
+turn-requires c κs =
+    let b8 = c .before .before .before .before .before .before .before .before in
+    let L = c .before .before .before .before .before .before .loop in
     let l = L .inv .1 in
-    let p = back .before .before .before .pre in (
+    let p = b8 .before .before .before .before .before .pre in (
       sized-inside _ _ _ _ (p .0) (l .size) (l .few) (omega (arith, l .top)),
-      λ a o. l .known (L .d) (omega (arith, l .top)) (λ q. absurd (o q)) a
-          (c .before .if3 .left),
-    )
-
-turn-on-requires : tie.Need-turn-on-requires Inv-loop μ-loop Inv-rounds μ-rounds
-turn-on-requires c κs =
-    let back = c .before .before .before .before .before .before .before .before .before in
-    let l = back .loop .inv .1 in
-    let p = back .before .before .before .before .before .before .before .pre in (
-      sized-inside _ _ _ _ (p .0) (l .size) (l .few) (omega (arith, l .top)),
-      granted (c .before .before .before .ready-in .ensures)
-          (c .before .before .if4 .left),
+      λ a o. l .known (L .d) (omega (arith, l .top)) (λ q. absurd (o q)) a (c .before .before .if3 .left),
     )
 
 element-write-c : tie.Need-element-write-c Inv-loop μ-loop Inv-rounds μ-rounds
 element-write-c c =
-    let back = c .before .before .before .before .before .before .before .before .before in
-    let l = back .before .before .before .loop .inv .1 in omega (arith, l .top, l .few)
+    let b8 = c .before .before .before .before .before .before .before .before in
+    let l = b8 .before .before .before .before .loop .inv .1 in omega (arith, l .top, l .few)
 
 element-write-c-2 : tie.Need-element-write-c-2 Inv-loop μ-loop Inv-rounds μ-rounds
 element-write-c-2 c =
-    let back = c .before .before .before .before .before .before .before .before .before in
-    let l = back .before .before .before .loop .inv .1 in omega (arith, l .top, l .few)
+    let b8 = c .before .before .before .before .before .before .before .before in
+    let l = b8 .before .before .before .before .loop .inv .1 in omega (arith, l .top, l .few)
 
 held-after-requires : tie.Need-held-after-requires Inv-loop μ-loop Inv-rounds μ-rounds
-held-after-requires c κs = c .before .before .turn-on .ensures .0
+held-after-requires c κs = c .before .before .before .before .before .turn .ensures .lock
 
 counted-requires : tie.Need-counted-requires Inv-loop μ-loop Inv-rounds μ-rounds
 counted-requires c κs =
-    let back = c .before .before .before .before .before .before .before .before .before .before in
-    let l = back .before .before .before .loop .inv .1 in
-    let r = back .before .before .before .before .before .before .rounds .inv .1 in
-    most-room _ (l .most) (omega (
-      arith,
-      back .before .before .before .before .before .before .before .before .before .before .fits,
-      r .below,
-      l .below,
-      l .top,
-      l .few,
-    ))
+    let b8 = c .before .before .before .before .before .before .before .before in
+    let back = b8 .before .before .before .before .before in
+    let l = back .loop .inv .1 in
+    let r = back .before .before .before .rounds .inv .1 in
+    most-room _ (l .most) (omega (arith, back .before .before .before .before .before .before .before .fits, r .below, l .below, l .top, l .few))
 
 element-copy-out-open-with : tie.Need-element-copy-out-open-with Inv-loop μ-loop Inv-rounds μ-rounds
 element-copy-out-open-with c =
-    let back = c .before .before .before .before .before .before .before .before .before .before in
-    let l = back .before .before .before .before .loop .inv .1 in omega (arith, l .top, l .few)
+    let b8 = c .before .before .before .before .before .before .before .before in
+    let l = b8 .before .before .before .before .before .before .loop .inv .1 in omega (arith, l .top, l .few)
 
 open-with-requires : tie.Need-open-with-requires Inv-loop μ-loop Inv-rounds μ-rounds
 open-with-requires c κs =
-    let back = c .before .before .before .before .before .before .before .before .before .before in
-    let l = back .before .before .before .before .before .loop .inv .1 in omega (arith, l .top, l .few)
+    let b8 = c .before .before .before .before .before .before .before .before in
+    let l = b8 .before .before .before .before .before .before .before .loop .inv .1 in omega (arith, l .top, l .few)
 
 add-d-2 : tie.Need-add-d-2 Inv-loop μ-loop Inv-rounds μ-rounds
 add-d-2 c = search needs
@@ -148,21 +131,22 @@ loop-less-2 c = omega arith
 loop-again-2 : tie.Need-loop-again-2 Inv-loop μ-loop Inv-rounds μ-rounds
 unfolding setAt
 loop-again-2 c =
-    let T = c .before .before .before .before .before .before in
-    let u = T .turn-on in
-    let L = T .before .before .before .before .before .before .before .before .before .before .loop in
+    let T = c .before .before .before .before .before .before .before .before .before in
+    let u = T .turn in
+    let a = u .result .acted in
+    let L = T .before .before .before .before .before .before .before .loop in
     let l = L .inv .1 in
-    let inside : L .d < length (L .c .turn) = rw (l .full .turns)
-    (omega (arith, l .top, l .few, T .before .before .before .before .before .before .before .before .before .loop-test .taken)) in
-    let acts = u .ensures .1 (holding (L .held) (L .c)) (record { inside = inside; step = refl; turn = refl }) in
+    let test = T .before .before .before .before .before .before .loop-test .taken in
+    let inside : L .d < length (L .c .turn) = rw (l .full .turns) (omega (arith, l .top, l .few, test)) in
+    let yes = not-false _ (c .before .before .before .before .before .if4 .left) in
+    let acts = u .ensures .acts yes (holding (L .held) (L .c)) (record { inside = inside; step = refl; turn = refl }) in
     let h = c .before .before .before .held-after in
-    let full : Full (holding (h .result) (setAt (L .c) (L .d) (u .result .step) (u .result .turn))) = record
-    { steps = length-set (L .c .step) (L .d) (u .result .step) ∙ l .full .steps; turns = length-set (L .c .turn) (L .d) (u .result .turn) ∙ l .full .turns }
-    in
-    let test = granted (T .before .before .before .before .ready-in .ensures) (T .before .before .before .if4 .left) in (
+    let full : Full (holding (h .result) (setAt (L .c) (L .d) (a .step) (a .turn))) = record
+    { steps = length-set (L .c .step) (L .d) (a .step) ∙ l .full .steps; turns = length-set (L .c .turn) (L .d) (a .turn) ∙ l .full .turns }
+    in (
       u .kept .0 ∙ L .inv .0,
-      lap-turn _ _ _ _ _ _ _ _ l _ _ _ _ (T .before .before .before .before .before .before .before .before .before .loop-test .taken)
-          full test (acts .did) (rw (← h .ensures) at (acts .after)) (c .before .before .counted .ensures _) (c .open-with .ensures),
+      lap-turn _ _ _ _ _ _ _ _ l _ _ _ _ test full (sym (u .ensures .made) ∙ yes) (acts .did) (rw (← h .ensures) at (acts .after))
+          (c .before .before .counted .ensures _) (c .open-with .ensures),
     )
 
 add-round : tie.Need-add-round Inv-loop μ-loop Inv-rounds μ-rounds
@@ -191,16 +175,21 @@ returns-2 c = laps-spent _ _ _ _ _ _ _ (c .before .before .rounds .inv .1) (omeg
 
 same-length-3 : tie.Need-same-length-3 Inv-loop μ-loop Inv-rounds μ-rounds
 same-length-3 c =
-    c .before .before .before .before .before .before .before .loop .inv .0 ∙ c .before .before .before .before .before .before .before .before .before .before
-    .rounds .inv .0
+    let b8 = c .before .before .before .before .before .before .before .before in
+    let R = b8 .before .before .before .before .before .before .rounds in
+    c .before .before .before .before .turn .kept .0 ∙ b8 .before .before .before .loop .inv .0 ∙ R .inv .0
 
 returns-3 : tie.Need-returns-3 Inv-loop μ-loop Inv-rounds μ-rounds
 returns-3 c =
-    let halts = lap-halts _ _ _ _ _ _ _ _ (c .before .before .before .before .before .before .before .loop .inv .1)
-    (c .before .before .before .before .before .before .loop-test .taken) (c .before .before .before .if3 .left)
-    (denied (c .before .ready-in .ensures) (c .if4 .taken)) in
-    laps-halts _ _ _ _ _ _ _ (c .before .before .before .before .before .before .before .before .before .before .rounds .inv .1) _ _
-    (c .before .before .before .before .before .before .before .before .before .if1 .left) (omega arith) halts
+    let b8 = c .before .before .before .before .before .before .before .before in
+    let u = c .before .before .before .before .turn in
+    let no = not-true _ (c .if4 .taken) in
+    let still = u .ensures .stays no in
+    let l = b8 .before .before .before .loop .inv .1 in
+    let r = b8 .before .before .before .before .before .before .rounds .inv .1 in
+    let halts = lap-halts _ _ _ _ _ _ _ _ l (b8 .before .before .loop-test .taken) (c .before .before .before .before .before .before .before .if3 .left) (sym (u .ensures .made) ∙ no) in
+    rw (still .0, still .1)
+    (laps-halts _ _ _ _ _ _ _ r _ _ (b8 .before .before .before .before .before .if1 .left) (omega (arith, b8 .before .before .before .before .if2 .left, r .below)) halts)
 
 pub rounds-of-spec : {M : Type 1} → statement M
 rounds-of-spec =
@@ -219,8 +208,7 @@ rounds-of-spec =
     add-d
     loop-less
     loop-again
-    ready-in-requires
-    turn-on-requires
+    turn-requires
     element-write-c
     element-write-c-2
     held-after-requires

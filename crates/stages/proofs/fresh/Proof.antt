@@ -10,9 +10,12 @@ all-idle-requires c κs = search needs
 no-repair-requires : tie.Need-no-repair-requires
 no-repair-requires c κs = search needs
 
+no-turn-requires : tie.Need-no-turn-requires
+no-turn-requires c κs = search needs
+
 returns : tie.Need-returns
 unfolding fresh
-returns c = rw (c .no-repair .ensures, c .before .all-idle .ensures)
+returns c = rw (c .no-turn .ensures, c .before .no-repair .ensures, c .before .before .all-idle .ensures)
 
 pub fresh-spec : {M : Type 1} → statement M
-fresh-spec = tie.close (tie.spec all-idle-requires no-repair-requires returns)
+fresh-spec = tie.close (tie.spec all-idle-requires no-repair-requires no-turn-requires returns)

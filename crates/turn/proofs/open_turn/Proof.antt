@@ -22,21 +22,15 @@ element-copy-out-turn-on-2 c = search needs
 turn-on-requires : tie.Need-turn-on-requires
 turn-on-requires c κs = search needs
 
-held-after-requires : tie.Need-held-after-requires
-held-after-requires c κs = c .before .before .turn-on .ensures .0
-
-place-requires : tie.Need-place-requires
-place-requires c κs = search needs
-
-answer-of-requires : tie.Need-answer-of-requires
-answer-of-requires c κs = c .before .before .before .before .turn-on .ensures .0
+told-requires : tie.Need-told-requires
+told-requires c κs = c .before .before .turn-on .ensures .0
 
 same-length : tie.Need-same-length
 same-length c = search needs
 
 returns : tie.Need-returns
 returns c =
-    let T = c .before .before .before .before .before in
+    let T = c .before .before .before in
     let S = T .before .before .before .before .before .before in
     let A = S .args in
     let w = world (now (A .image)) (A .t2) (now (A .left)) in
@@ -47,9 +41,8 @@ returns c =
     let inside : A .d < length (A .t2 .turn) = rw q l in
     let acts = T .turn-on .ensures .1 (A .t2) (record { inside = inside; step = refl; turn = refl }) in
     let made = made-at (A .own) w (A .d) f l (S .pre .1) in (
-      c .answer-of .ensures (A .own) ∙ (ap (didAnswer (A .own)) (acts .did) ∙ did-answers (A .own) (outcomeAt (A .own) w (A .d)) made),
-      rw (← c .before .place .ensures, ← c .before .before .held-after .ensures) at
-          (acts .after),
+      c .told .ensures .0 (A .own) ∙ (ap (didAnswer (A .own)) (acts .did) ∙ did-answers (A .own) (outcomeAt (A .own) w (A .d)) made),
+      rw (← c .told .ensures .1) at (acts .after),
     )
 
 pub open-turn-spec : {M : Type 1} → statement M
@@ -59,8 +52,6 @@ open-turn-spec =
     element-copy-out-turn-on
     element-copy-out-turn-on-2
     turn-on-requires
-    held-after-requires
-    place-requires
-    answer-of-requires
+    told-requires
     same-length
     returns)

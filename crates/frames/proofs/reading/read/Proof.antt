@@ -39,6 +39,9 @@ turns-requires c κs = search needs
 recover-requires : tie.Need-recover-requires
 recover-requires c κs = search needs
 
+rounds-requires : tie.Need-rounds-requires
+rounds-requires c κs = search needs
+
 returns-4 : tie.Need-returns-4
 unfolding frameOf byKind
 returns-4 c =
@@ -81,6 +84,19 @@ returns-6 c =
 returns-7 : tie.Need-returns-7
 unfolding frameOf byKind
 returns-7 c =
+    rw (
+      le-ltb 4096 _ (c .before .before .before .before .before .before .if1 .left),
+      granted (c .before .before .before .before .before .all-digits .ensures)
+          (c .before .before .before .before .if2 .left),
+      le-ltb _ 2 (c .before .before .before .if3 .left),
+      ← c .before .before .number .ensures,
+      c .before
+          .match .keys4,
+    ) (c .rounds .ensures)
+
+returns-8 : tie.Need-returns-8
+unfolding frameOf byKind
+returns-8 c =
     let n = c .match .rest in
     rw (
       le-ltb 4096 _ (c .before .before .before .before .before .if1 .left),
@@ -88,10 +104,11 @@ returns-7 c =
           (c .before .before .before .if2 .left),
       le-ltb _ 2 (c .before .before .if3 .left),
       ← c .before .number .ensures,
-      ne-eqb _ 1 (n .0 .0 .1),
+      ne-eqb _ 1 (n .0 .0 .0 .1),
       ne-eqb _ 2
-          (n .0 .1),
-      ne-eqb _ 3 (n .1),
+          (n .0 .0 .1),
+      ne-eqb _ 3 (n .0 .1),
+      ne-eqb _ 4 (n .1),
     )
 
 pub read-spec : {M : Type 1} → statement M
@@ -106,7 +123,9 @@ read-spec =
     submit-requires
     turns-requires
     recover-requires
+    rounds-requires
     returns-4
     returns-5
     returns-6
-    returns-7)
+    returns-7
+    returns-8)

@@ -21,10 +21,15 @@ slot-requires c κs = search needs
 add-t9 : tie.Need-add-t9
 add-t9 c = search needs
 
+no-turn-requires : tie.Need-no-turn-requires
+no-turn-requires c κs = search needs
+
 returns-2 : tie.Need-returns-2
 unfolding slotStage
-returns-2 c = λ m. rw (lt-ltb _ 592 (c .before .before .before .before .if1 .left), c .slot .ensures, c .before .slot-at .ensures)
+returns-2 c =
+    let inside = lt-ltb _ 592 (c .before .before .before .before .before .if1 .left) in
+    λ m. rw (inside, c .no-turn .ensures, c .before .slot .ensures, c .before .before .slot-at .ensures)
 
 pub store-spec : {M : Type 1} → statement M
 store-spec =
-    tie.close (tie.spec over-requires returns slot-at-requires slot-requires add-t9 returns-2)
+    tie.close (tie.spec over-requires returns slot-at-requires slot-requires add-t9 no-turn-requires returns-2)

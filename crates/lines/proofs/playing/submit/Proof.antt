@@ -38,10 +38,11 @@ array-share-prefix-space c =
 
 slice-aggregate-submit : tie.Need-slice-aggregate-submit
 slice-aggregate-submit c =
+    let b8 = c .before .before .before .before .before .before .before .before in
     let k : length (c .before .before .before .before .before .words .last .1 .0) ≡ 246 = c .before .before .before .before .before .words .kept .1 .0 in
     sym (length-take-le _ _ (omega (
       arith,
-      length-drop 148 (now (c .before .before .before .before .before .before .before .before .before .before .args .line)),
+      length-drop 148 (now (b8 .before .before .args .line)),
       ap length
           (c .before .before .before .before .before .before .before .steps-part .ensures),
       c .before .before .before .before .before .words .ensures .0,
@@ -57,24 +58,27 @@ submitted-requires c κs = search needs
 no-repair-requires : tie.Need-no-repair-requires
 no-repair-requires c κs = search needs
 
+no-turn-requires : tie.Need-no-turn-requires
+no-turn-requires c κs = search needs
+
 same-length : tie.Need-same-length
 same-length c = search needs
 
 returns : tie.Need-returns
 returns c =
-    let back = c .before .before .before .before .before .before .before .before .before in
-    let s = c .before .before .before .before .before .submit in
-    let W = back .before .before .before .words in
-    let A = back .before .before .before .before .before .before .before .before .args in
+    let b8 = c .before .before .before .before .before .before .before .before in
+    let b16 = b8 .before .before .before .before .before .before .before .before in
+    let W = b8 .before .before .before .before .before .words in
+    let s = c .before .before .before .before .before .before .submit in
+    let A = b16 .before .before .args in
     let e : take (W .result) (W .last .1 .0) ≡ wordsOf (stepsPart (now (A .line))) = rw (W .ensures .0)
-    (W .ensures .1 ∙ ap wordsOf (back .before .before .before .before .before
-    .steps-part .ensures)) in
+    (W .ensures .1 ∙ ap wordsOf (b8 .before .before .before .before .before .before .before .steps-part .ensures)) in
     rw (
-      c .no-repair .ensures,
-      c .before .submitted .ensures,
+      c .no-turn .ensures,
+      c .before .no-repair .ensures,
+      c .before .before .submitted .ensures,
       ← e,
-      ← back .before
-          .arguments .ensures,
+      ← b8 .before .before .before .arguments .ensures,
       ← s .ensures .1,
       ← s .ensures .0,
     )
@@ -92,5 +96,6 @@ submit-spec =
     submit-requires
     submitted-requires
     no-repair-requires
+    no-turn-requires
     same-length
     returns)

@@ -3,7 +3,7 @@ use borrow.Author.Needs.{needs}
 use Prim.Native.Nat.{suc, _-_}
 use mathlib.Core.Path.{_≡_}
 use native.Mathlib.Omega.{arith}
-use Rattle.lines.specs.Play.{turned, turnStage}
+use Rattle.lines.specs.Play.{turnStage}
 use Rattle.lines.specs.Play.{turnStage}
 use Rattle.lines.proofs.playing.turn.Statement.{statement}
 use Rattle.lines.proofs.playing.turn.Tie as tie
@@ -15,8 +15,8 @@ returns : tie.Need-returns
 unfolding turnStage
 returns c = rw (c .before .if1 .taken, c .over .ensures)
 
-turn-requires : tie.Need-turn-requires
-turn-requires c κs = search needs
+line-turn-requires : tie.Need-line-turn-requires
+line-turn-requires c κs = search needs
 
 turned-requires : tie.Need-turned-requires
 turned-requires c κs = search needs
@@ -27,17 +27,20 @@ sub-turns-job c = search needs
 turns-job-requires : tie.Need-turns-job-requires
 turns-job-requires c κs = search needs
 
+turns-made-requires : tie.Need-turns-made-requires
+turns-made-requires c κs = search needs
+
 same-length : tie.Need-same-length
 same-length c = search needs
 
 returns-2 : tie.Need-returns-2
 unfolding turnStage
 returns-2 c =
-    let back = c .before .before .before .before .before .before .before .before .before in
-    let t = c .before .before .before .before .before .before .turn in
-    let A = back .before .before .before .before .args in
+    let b8 = c .before .before .before .before .before .before .before .before in
+    let t = c .before .before .before .before .before .before .before .line-turn in
+    let A = b8 .before .before .before .before .before .before .args in
     let k : A .turns ≡ suc (A .turns - 1) = omega arith in
-    rw (k, c .turns-job .ensures, c .before .turned .ensures, ← t .ensures .1, ← t .ensures .0)
+    rw (c .turns-made .ensures, k, c .before .turns-job .ensures, c .before .before .turned .ensures, ← t .ensures .1, ← t .ensures .0)
 
 pub turn-spec : {M : Type 1} → statement M
 turn-spec =
@@ -45,9 +48,10 @@ turn-spec =
     (tie.spec
     over-requires
     returns
-    turn-requires
+    line-turn-requires
     turned-requires
     sub-turns-job
     turns-job-requires
+    turns-made-requires
     same-length
     returns-2)

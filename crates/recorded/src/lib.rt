@@ -1,0 +1,1 @@
+// What holds of recorded days, as statements in specs/ and theorems in proofs/; no code.
