@@ -76,7 +76,7 @@ pub const fn instruction(kind: u16, a: u16, b: u16, c: u16) -> u64 {
 }
 
 /// The number of an instruction word's kind, and its fields a, b, c.
-pub(crate) const fn fields_of(word: u64) -> (u16, [u16; 3]) {
+pub const fn fields_of(word: u64) -> (u16, [u16; 3]) {
     ((word >> 48) as u16, [(word >> 32) as u16, (word >> 16) as u16, word as u16])
 }
 

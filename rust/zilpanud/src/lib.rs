@@ -70,6 +70,9 @@
 //! For those who watch a board, [`day_sums`] says of a recorded day of frame lines how often each lock was waited for, and
 //! of each worker how many turns waited and how many did not.
 //!
+//! For programs that show a board to people, [`Place`] says what stands at an index of an image, and [`Record`] has the
+//! words of a worker's record.
+//!
 //! [`cut`] has the calls that store once more, with the number of stores that they may still make: so tests cut them.
 //!
 //! Document 01 is the paper that the engine follows; all that a user needs of it is in the repository's `docs/MANUAL.md`.
@@ -87,6 +90,7 @@ pub mod code;
 pub mod cut;
 mod day;
 mod fault;
+mod look;
 mod raw;
 mod refusal;
 mod turns;
@@ -99,6 +103,7 @@ pub use calls::{check, finished, format, held_sets, is_idle, recover, run, stand
 pub use code::instruction;
 pub use day::{day_sums, DayEnd, DaySums};
 pub use fault::Fault;
+pub use look::{Entry, Place, Record, RecordWord};
 pub use refusal::{Cause, Refusal, RefusedRun};
 pub use turns::{turns_from, turns_left, turns_of_path};
 pub use why::{Field, Why};

@@ -103,6 +103,25 @@ fn opened_again_after_each_turn() {
     }
 }
 
+/// After each of the ticket's turns a recovery leaves what opening the board there does: the image and the cursors.
+#[test]
+fn recovered_while_it_is_open() {
+    let folder = Folder::new("recovered");
+    for turns in 0..=19 {
+        let (path, other) = (folder.path(&format!("board-{turns}")), folder.path(&format!("other-{turns}")));
+        left_after(&path, turns);
+        let opened = Board::open(&path).unwrap();
+
+        let mut board = Board::create(&other, 2).unwrap();
+        board.submit(0, 1, &NO_ARGS, &TICKET).unwrap();
+        for _ in 0..turns {
+            board.turn(0).unwrap();
+        }
+        assert_eq!(board.recover(), Ok(()));
+        assert_eq!((board.image(), board.cursors()), (opened.image(), opened.cursors()), "{turns} turns");
+    }
+}
+
 #[test]
 fn workers_that_the_board_has_not() {
     let folder = Folder::new("no-such-worker");

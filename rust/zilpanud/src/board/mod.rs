@@ -174,6 +174,15 @@ impl Board {
         crate::run(self.image.words_mut(), &mut self.cursors, rounds)
     }
 
+    /// Recovers once more, as opening does: a section that was begun goes on from its last store, one that was not begun
+    /// is withdrawn. It is what a cut at this moment would lead to. Refuses with causes 12 and 13, which it has only
+    /// where something else changes the file; the image is then left as it was, and all workers are idle.
+    pub fn recover(&mut self) -> Result<(), Refusal> {
+        self.cursors = Cursors::IDLE;
+        self.cursors = crate::recover(self.image.words_mut())?;
+        Ok(())
+    }
+
     /// A run of as many rounds as there can be. On a board that only this engine changed it ends with
     /// [`End::AllIdle`](crate::End::AllIdle): every section that was submitted is finished, and every lock is free.
     pub fn run_to_idle(&mut self) -> Result<Run, RefusedRun> {
@@ -210,6 +219,16 @@ impl Board {
     /// moment. Refuses with cause 1, then 12, which it has only where something else changes the file.
     pub fn turns_left(&self, worker: usize) -> Result<Needs, Refusal> {
         crate::turns_left(self.image.words(), worker)
+    }
+
+    /// The image, to look at: [`Place`](crate::Place) says what its words are for.
+    pub fn image(&self) -> &[u64] {
+        self.image.words()
+    }
+
+    /// Where all workers stand.
+    pub fn cursors(&self) -> &Cursors {
+        &self.cursors
     }
 
     /// The 512 cells.
