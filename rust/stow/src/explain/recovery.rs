@@ -1,0 +1,97 @@
+//! A cut and its recovery in words: what was lost, what is done again, what is withdrawn.
+
+use super::phrase::noted;
+use crate::language::names::Names;
+use crate::player::{Player, Store};
+use crate::say::{bays, counted, is_are, listed, step};
+use zilpanud::Place;
+
+/// What a cut takes: where the desks stood.
+pub fn cut(names: &Names, player: &Player) -> Vec<String> {
+    let open: Vec<String> = (0..player.desks).filter_map(|desk| stood(names, player, desk)).collect();
+    match open.is_empty() {
+        true => vec!["the power goes; all desks are idle, and nothing is lost".to_string()],
+        false => {
+            let mut said = vec!["the power goes; what the desks were about is lost:".to_string()];
+            said.extend(open.into_iter().map(|one| format!("  {one}")));
+            said
+        }
+    }
+}
+
+fn stood(names: &Names, player: &Player, desk: usize) -> Option<String> {
+    let (at, record) = (player.at(desk)?, player.record(desk)?);
+    let instruction = record.steps.get(at.step).copied().unwrap_or(0);
+    let begun = match (record.pc, record.number <= record.finished) {
+        (0, false) => "not begun",
+        (0, true) => "finished",
+        _ => "begun",
+    };
+    let (number, words) = (at.number, step(names, instruction));
+    Some(format!(
+        "desk {desk} was at step {} of ticket {number} ({words}), before turn {}; {begun}",
+        at.step,
+        at.turn + 1
+    ))
+}
+
+/// What a recovery did, desk by desk.
+pub fn recovered(names: &Names, before: &Player, after: &Player, stores: &[Store]) -> Vec<String> {
+    let mut said = vec![format!("the recovery makes {}:", counted(stores.len() as u64, "store"))];
+    let freed = stores.iter().filter_map(|store| match Place::of(store.index) {
+        Some(Place::Owner(bay)) if store.value == 0 => Some(1 << bay),
+        _ => None,
+    });
+    let freed: u64 = freed.fold(0, |all, bay| all | bay);
+    if freed != 0 {
+        said.push(format!(
+            "  {}, which desks meant to have, {} given free",
+            bays(names, freed),
+            is_are(freed)
+        ));
+    }
+    let mut idle = vec![];
+    for desk in 0..after.desks {
+        match on(names, before, after, desk) {
+            Some(one) => said.push(format!("  {one}")),
+            None => idle.push(desk.to_string()),
+        }
+    }
+    match idle.len() {
+        0 => {}
+        1 => said.push(format!("  desk {} had no ticket", idle[0])),
+        _ => said.push(format!("  desks {} had no ticket", listed(idle))),
+    }
+    said
+}
+
+/// How a desk goes on; none if it had no ticket.
+fn on(names: &Names, before: &Player, after: &Player, desk: usize) -> Option<String> {
+    let (was, is) = (before.record(desk)?, after.record(desk)?);
+    if was.count == 0 && was.pc == 0 {
+        return None;
+    }
+    let number = was.number;
+    let Some(at) = after.at(desk) else {
+        return Some(match was.number <= was.finished {
+            true => format!("desk {desk}: ticket {number} is finished, and its last store is made"),
+            false => format!(
+                "desk {desk}: ticket {number} was not begun and is withdrawn; hand it in again, under the same number"
+            ),
+        });
+    };
+    let owed = match is.intent {
+        0 => "is owed no bay".to_string(),
+        mask => format!(
+            "is owed {} and has {} again",
+            bays(names, mask),
+            if mask.is_power_of_two() { "it" } else { "them" }
+        ),
+    };
+    let (entry, words) = (is.active(), step(names, is.steps.get(at.step).copied().unwrap_or(0)));
+    let goes_on = format!("goes on at step {} ({words}) with the store that it noted", at.step);
+    Some(format!(
+        "desk {desk} {owed}; ticket {number} {goes_on}: {}",
+        noted(names, entry.address, entry.value)
+    ))
+}

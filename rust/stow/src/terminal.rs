@@ -1,0 +1,101 @@
+//! What a terminal is asked: its size, and to be redrawn.
+
+use std::ffi::{c_int, c_ulong};
+use std::io::{self, IsTerminal, Write};
+
+/// The rows and columns of the terminal that is standard output; none where there is none, or it does not say.
+pub fn size() -> Option<(usize, usize)> {
+    #[repr(C)]
+    #[derive(Default)]
+    struct Size {
+        rows: u16,
+        columns: u16,
+        width: u16,
+        height: u16,
+    }
+    unsafe extern "C" {
+        fn ioctl(file: c_int, request: c_ulong, ...) -> c_int;
+    }
+    const STANDARD_OUTPUT: c_int = 1;
+    #[cfg(target_os = "linux")]
+    const TIOCGWINSZ: c_ulong = 0x5413;
+    #[cfg(not(target_os = "linux"))]
+    const TIOCGWINSZ: c_ulong = 0x4008_7468;
+    let mut size = Size::default();
+    // SAFETY: the request writes the four numbers of `size`, a live reference of its own, or nothing.
+    let answer = unsafe { ioctl(STANDARD_OUTPUT, TIOCGWINSZ, &mut size) };
+    (answer == 0 && size.rows > 0 && size.columns > 0).then_some((size.rows as usize, size.columns as usize))
+}
+
+/// A text cut to a terminal's size, the last row left free; where rows are left out, the last one says how many.
+pub fn fitted(text: &str, (rows, columns): (usize, usize)) -> String {
+    let lines: Vec<&str> = text.lines().collect();
+    let room = rows.saturating_sub(1).max(1);
+    let shown = if lines.len() > room { room - 1 } else { lines.len() };
+    let mut fitted: Vec<String> =
+        lines[..shown].iter().map(|line| line.chars().take(columns).collect()).collect();
+    if shown < lines.len() {
+        let more = format!(".. {} lines more", lines.len() - shown);
+        fitted.push(more.chars().take(columns).collect());
+    }
+    fitted.join("\r\n")
+}
+
+/// Clears the screen and draws a text on it.
+pub fn redraw(text: &str) -> io::Result<()> {
+    let mut out = io::stdout().lock();
+    write!(out, "\x1b[H\x1b[2J{text}\r\n")?;
+    out.flush()
+}
+
+/// A bar on standard error, if that is a terminal: how much of a whole is done.
+pub struct Progress {
+    whole: usize,
+    shown: Option<usize>,
+}
+
+impl Progress {
+    const WIDTH: usize = 40;
+
+    pub fn new(whole: usize) -> Progress {
+        let shown = io::stderr().is_terminal().then_some(usize::MAX);
+        Progress { whole: whole.max(1), shown }
+    }
+
+    /// Draws the bar if it has moved since.
+    pub fn at(&mut self, done: usize) {
+        let Some(shown) = self.shown else {
+            return;
+        };
+        let thousandths = done.min(self.whole) as u128 * 1_000 / self.whole as u128;
+        if shown != thousandths as usize {
+            self.shown = Some(thousandths as usize);
+            let full = Self::WIDTH * thousandths as usize / 1_000;
+            let bar = format!("{}{}", "#".repeat(full), ".".repeat(Self::WIDTH - full));
+            let _ = write!(io::stderr(), "\r[{bar}] {done} of {} lines", self.whole);
+        }
+    }
+}
+
+/// Takes the bar away.
+impl Drop for Progress {
+    fn drop(&mut self) {
+        if self.shown.is_some_and(|shown| shown != usize::MAX) {
+            let _ = write!(io::stderr(), "\r\x1b[K");
+        }
+    }
+}
+
+#[cfg(test)]
+mod tests {
+    use super::*;
+
+    #[test]
+    fn a_text_fits_its_terminal() {
+        assert_eq!(fitted("one\ntwo\n", (24, 80)), "one\r\ntwo");
+        assert_eq!(fitted("one\ntwo\nthree\nfour", (4, 2)), "on\r\ntw\r\n..");
+        assert_eq!(fitted("a\nb\nc", (3, 80)), "a\r\n.. 2 lines more");
+        assert_eq!(fitted("a\nb\nc", (1, 80)), ".. 3 lines more");
+        assert_eq!(fitted("", (0, 0)), "");
+    }
+}
