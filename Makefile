@@ -1,8 +1,9 @@
 # What is outside rt: the library's header, its examples, the checks, and the install. GNU make.
 #
-#   make            the static library and the program board, proved by rt: target/staticlib, target/bin
+#   make            the static library and the program board, proved by rt: target/staticlib, target/bin; and the program
+#                   stow, over that library: target/outside/cargo/release
 #   make check      every check outside rt, on that library; needs gcc, g++ and cargo
-#   make install    library, header, zilpanud.pc, board and man pages, as `make` left them, to PREFIX
+#   make install    library, header, zilpanud.pc, board, stow and man pages, as `make` left them, to PREFIX
 #   make clean      removes what the checks built: target/outside
 #   make help       these lines
 #
@@ -29,12 +30,12 @@ WARNINGS = -Wall -Wextra -Wpedantic -Wconversion -Wsign-conversion -Wshadow -Wca
 C99 = $(CC) -std=c99 $(WARNINGS) -Wstrict-prototypes -Wmissing-prototypes $(CFLAGS) -Iinclude
 CXX17 = $(CXX) -std=c++17 $(WARNINGS) -Wold-style-cast $(CXXFLAGS) -Iinclude
 
-.PHONY: all library board help check tools header example rust_examples messages stores wrapper crosscheck powercut
-.PHONY: install clean
+.PHONY: all library board stow help check tools header example rust_examples messages stores wrapper planners crosscheck
+.PHONY: powercut install clean
 .NOTPARALLEL:
 .SUFFIXES:
 
-all: library board
+all: library board stow
 
 # ---- what rt makes. It decides itself what must be proved again.
 
@@ -60,12 +61,19 @@ endif
 ARCHIVE = $(LIB)/libzilpanud.a
 $(ARCHIVE): library ;
 
+# ---- the program for planners
+
+STOW = $(OUT)/cargo/release/stow
+
+stow: $(ARCHIVE) | $(OUT)
+	@$(RUST) build $(AS_IS) --quiet --release --manifest-path rust/stow/Cargo.toml
+
 help:
 	@sed -n 's/^#   //p' Makefile
 
 # ---- checks: each says one line when it passes
 
-CHECKS = header example messages stores wrapper crosscheck powercut
+CHECKS = header example messages stores wrapper planners crosscheck powercut
 
 check: tools $(CHECKS)
 	@if [ -e $(OUT)/stores.not-run ]; then \
@@ -117,7 +125,6 @@ RUST_EXAMPLES = $(OUT)/cargo/debug/examples
 
 example: $(EXAMPLES) rust_examples
 	@sh checks/example.sh $(EXAMPLES) $(RUST_EXAMPLES)/check
-	@sh checks/waits.sh $(RUST_EXAMPLES)/waits
 
 # what board says on standard error
 
@@ -143,6 +150,12 @@ RUST = env ZILPANUD_LIB="$$(cd '$(LIB)' && pwd)" CARGO_TARGET_DIR="$$(pwd)/$(OUT
 wrapper: $(ARCHIVE) | $(OUT)
 	@sh checks/quiet.sh wrapper tests rust/zilpanud $(RUST) test $(AS_IS)
 
+# stow: its tests, any bytes among them, the waits of days worked out by hand, and the examples of its manual
+planners: stow board
+	@sh checks/quiet.sh stow tests rust/stow $(RUST) test $(AS_IS)
+	@sh checks/waits.sh $(STOW)
+	@sh checks/manual.sh docs/STOW.md $(STOW) '$(BOARD)'
+
 crosscheck: $(ARCHIVE) | $(OUT)
 	@sh checks/quiet.sh crosscheck '20000 lists and recorded days' rust/crosscheck $(RUST) run $(AS_IS) --release -- 20000
 
@@ -153,7 +166,7 @@ powercut: $(ARCHIVE) | $(OUT)
 
 VERSION = $(shell sed -n 's/^.define ZILPANUD_VERSION_TEXT "\(.*\)"$$/\1/p' include/zilpanud.h)
 TO = $(DESTDIR)$(PREFIX)
-INSTALLED = $(ARCHIVE) $(BOARD) include/zilpanud.h zilpanud.pc.in man/board.1 man/zilpanud.3
+INSTALLED = $(ARCHIVE) $(BOARD) $(STOW) include/zilpanud.h zilpanud.pc.in man/board.1 man/stow.1 man/zilpanud.3
 
 install:
 	@for file in $(INSTALLED:%='%'); do \
@@ -165,7 +178,9 @@ install:
 	sed -e 's|@PREFIX@|$(PREFIX)|' -e 's|@VERSION@|$(VERSION)|' zilpanud.pc.in >'$(TO)/lib/pkgconfig/zilpanud.pc'
 	chmod 644 '$(TO)/lib/pkgconfig/zilpanud.pc'
 	$(INSTALL) -m 755 '$(BOARD)' '$(TO)/bin/board'
+	$(INSTALL) -m 755 '$(STOW)' '$(TO)/bin/stow'
 	$(INSTALL) -m 644 man/board.1 '$(TO)/share/man/man1/board.1'
+	$(INSTALL) -m 644 man/stow.1 '$(TO)/share/man/man1/stow.1'
 	$(INSTALL) -m 644 man/zilpanud.3 '$(TO)/share/man/man3/zilpanud.3'
 
 clean:

@@ -1,8 +1,8 @@
 #!/bin/sh
-# usage: waits.sh WAITS
-# Plays the wrapper's examples/waits.rs on days whose turns are worked out by hand.
+# usage: waits.sh STOW
+# `stow waits` on days whose turns are worked out by hand.
 set -u
-waits=$1
+stow=$1
 room=$(mktemp -d) || exit 1
 trap 'rm -rf "$room"' EXIT
 trap 'exit 1' HUP INT TERM
@@ -21,11 +21,12 @@ ticket() {
     echo
 }
 
-# ends_with STATUS PRINTED SAID: what ended with $? has printed this, and said this on standard error
+# ends_with STATUS PRINTED SAID: what ended with $? has printed this, and said this on standard error, where a file that
+# was given has its name before it
 ends_with() {
     status=$?
     printed=$(cat "$room/out")
-    said=$(cat "$room/error")
+    said=$(sed "s|^stow waits: $room/day: |stow waits: |" "$room/error")
     [ "$status" -eq "$1" ] || fail "'$day' ended with $status: $printed$said"
     [ "$printed" = "$2" ] || fail "'$day' prints: $printed"
     [ "$said" = "$3" ] || fail "'$day' says: $said"
@@ -34,9 +35,9 @@ ends_with() {
 # counts STATUS PRINTED SAID: of the day in $room/day, given as a file and on standard input
 counts() {
     day=$(tail -n 1 "$room/day")
-    "$waits" "$room/day" >"$room/out" 2>"$room/error"
+    "$stow" waits "$room/day" >"$room/out" 2>"$room/error"
     ends_with "$@"
-    "$waits" <"$room/day" >"$room/out" 2>"$room/error"
+    "$stow" waits <"$room/day" >"$room/out" 2>"$room/error"
     ends_with "$@"
 }
 
@@ -57,7 +58,7 @@ desk  turns that waited  turns that did not
 counts 0 "$whole" ''
 { two_desks; echo 04ffff; echo 0g; echo 0200ffff; } >"$room/day"
 behind='nothing behind it was read; the numbers are those up to there'
-counts 1 "$whole" "waits: line 5 is malformed (14), and $behind"
+counts 1 "$whole" "stow waits: line 5 is malformed (14), and $behind"
 
 # Desk 7 waits for bay 63, which desk 0 has, with all but its first turn of 65,535, and then with 65,535 more. Desk 3
 # takes bay 0 with six turns, and waits for bay 63 with its eighth.
@@ -88,21 +89,21 @@ counts 0 "$nothing" ''
 : >"$room/day"
 counts 0 "$nothing" ''
 echo 09 >"$room/day"
-counts 1 "$nothing" "waits: no board has as many desks as line 1 says (10), and $behind"
+counts 1 "$nothing" "stow waits: no board has as many desks as line 1 says (10), and $behind"
 
 day='two files'
-"$waits" "$room/day" "$room/day" >"$room/out" 2>"$room/error"
-ends_with 2 '' 'waits: usage: waits [DAY], a file of frame lines, or standard input'
-"$waits" "$room/none" >"$room/out" 2>"$room/error"
+"$stow" waits "$room/day" "$room/day" >"$room/out" 2>"$room/error"
+ends_with 2 '' 'stow waits: usage: stow waits [OPTION ..] DAY'
+"$stow" waits "$room/none" >"$room/out" 2>"$room/error"
 status=$?
-[ "$status" -eq 2 ] && [ ! -s "$room/out" ] && grep -q "^waits: $room/none: " "$room/error" || fail "no file: $status"
-"$waits" <"$room" >"$room/out" 2>"$room/error"
+[ "$status" -eq 2 ] && [ ! -s "$room/out" ] && grep -q "^stow waits: $room/none: " "$room/error" || fail "no file: $status"
+"$stow" waits <"$room" >"$room/out" 2>"$room/error"
 status=$?
-[ "$status" -eq 2 ] && [ ! -s "$room/out" ] && grep -q '^waits: standard input: ' "$room/error" ||
+[ "$status" -eq 2 ] && [ ! -s "$room/out" ] && grep -q '^stow waits: standard input: ' "$room/error" ||
     fail "a folder: $status"
 if [ -w /dev/full ]; then
-    "$waits" "$room/day" >/dev/full 2>"$room/error"
+    "$stow" waits "$room/day" >/dev/full 2>"$room/error"
     status=$?
-    [ "$status" -eq 2 ] && grep -q '^waits: standard output: ' "$room/error" || fail "no room to print: $status"
+    [ "$status" -eq 2 ] && grep -q '^stow waits: standard output: ' "$room/error" || fail "no room to print: $status"
 fi
-echo 'example: the waits of recorded days as worked out by hand'
+echo 'stow: the waits of recorded days as worked out by hand'

@@ -3,7 +3,7 @@
 use crate::arguments::{flag, value, Arguments, Known};
 use crate::explain::{self, End, How};
 use crate::language::names::Names;
-use crate::language::{did_you_mean, names_file};
+use crate::language::{self, did_you_mean, names_file};
 use crate::look::Look;
 use crate::refusal::of_image;
 use crate::trouble::{located, Trouble};
@@ -26,11 +26,11 @@ stow: tickets in words, days explained, boards as pictures
                                         what a board's file shows
   stow waits [--svg FILE] [DAY]         how long desks waited for bays
   stow run [--pause MS] IMAGE DAY       plays a day on a board's file
-  stow help, stow version
+  stow help [language], stow version    these lines, or the language of tickets on a card
 
 Without a FILE or DAY, or with '-' for it, standard input is read. All but run take --names FILE, with names for words
 and bays ('let shed = word 24'). The status is 0; 1 if what was given is wrong; 2 if it cannot be had.
-stow(1) and docs/STOW.md have the language and examples.
+stow(1) and docs/STOW.md have examples.
 ";
 
 /// A command and the options that it has.
@@ -100,7 +100,10 @@ fn command(arguments: impl IntoIterator<Item = OsString>) -> (String, Result<(),
     let name = arguments.next().unwrap_or_default().to_string_lossy().into_owned();
     let print = |text: &str| io::stdout().write_all(text.as_bytes()).map_err(Trouble::from);
     match name.as_str() {
-        "help" | "--help" | "-h" => return (name, print(USAGE)),
+        "help" | "--help" | "-h" => {
+            let is_language = arguments.next().is_some_and(|about| about == "language");
+            return (name, print(if is_language { language::CARD } else { USAGE }));
+        }
         "version" | "--version" | "-V" => {
             return (name, print(&format!("stow {}\n", env!("CARGO_PKG_VERSION"))))
         }

@@ -53,7 +53,7 @@ pub fn recovered(names: &Names, before: &Player, after: &Player, stores: &[Store
     let mut idle = vec![];
     for desk in 0..after.desks {
         match on(names, before, after, desk) {
-            Some(one) => said.push(format!("  {one}")),
+            Some(lines) => said.extend(lines.into_iter().map(|line| format!("  {line}"))),
             None => idle.push(desk.to_string()),
         }
     }
@@ -66,7 +66,7 @@ pub fn recovered(names: &Names, before: &Player, after: &Player, stores: &[Store
 }
 
 /// How a desk goes on; none if it had no ticket.
-fn on(names: &Names, before: &Player, after: &Player, desk: usize) -> Option<String> {
+fn on(names: &Names, before: &Player, after: &Player, desk: usize) -> Option<Vec<String>> {
     let (was, is) = (before.record(desk)?, after.record(desk)?);
     if was.count == 0 && was.pc == 0 {
         return None;
@@ -74,24 +74,25 @@ fn on(names: &Names, before: &Player, after: &Player, desk: usize) -> Option<Str
     let number = was.number;
     let Some(at) = after.at(desk) else {
         return Some(match was.number <= was.finished {
-            true => format!("desk {desk}: ticket {number} is finished, and its last store is made"),
-            false => format!(
-                "desk {desk}: ticket {number} was not begun and is withdrawn; hand it in again, under the same number"
-            ),
+            true => vec![format!("desk {desk}: ticket {number} is finished, and its last store is made")],
+            false => vec![
+                format!("desk {desk}: ticket {number} was not begun and is withdrawn"),
+                "  hand it in again, under the same number".to_string(),
+            ],
         });
     };
-    let owed = match is.intent {
-        0 => "is owed no bay".to_string(),
-        mask => format!(
-            "is owed {} and has {} again",
-            bays(names, mask),
-            if mask.is_power_of_two() { "it" } else { "them" }
-        ),
+    let owed = match (is.intent, is.intent.count_ones()) {
+        (_, 0) => "is owed no bay".to_string(),
+        (mask, 1) => format!("is owed {} and has it again", bays(names, mask)),
+        (mask, _) => format!("is owed {} and has them again", bays(names, mask)),
     };
     let (entry, words) = (is.active(), step(names, is.steps.get(at.step).copied().unwrap_or(0)));
-    let goes_on = format!("goes on at step {} ({words}) with the store that it noted", at.step);
-    Some(format!(
-        "desk {desk} {owed}; ticket {number} {goes_on}: {}",
-        noted(names, entry.address, entry.value)
-    ))
+    let noted = noted(names, entry.address, entry.value);
+    Some(vec![
+        format!("desk {desk} {owed}"),
+        format!(
+            "  ticket {number} goes on at step {} ({words}) with the store that it noted: {noted}",
+            at.step
+        ),
+    ])
 }

@@ -1,23 +1,8 @@
-//! The language of tickets: one statement a line, or several with `;` between them; `#` begins a comment.
+//! The language of tickets, and of days. Its card:
 //!
 //! ```text
-//! let shed = word 24              a name for a word; also: own 0, bay 3
-//! board of 2 desks                a day begins: a fresh board
-//! desk 0 number 7 with 40 1 ..    a ticket begins: desk, number, up to eight arguments, the rest 0
-//!   take 3                        bay 3, or a bay's name
-//!   shed := 5                     a number up to 4294967295
-//!   word 24 := word 24 + own 0    two words with + or -
-//!   own 1 := word 24 < word 25    1 if it is so, else 0
-//!   if own 1 is 0 go to done      a skip, forward to a label
-//! done: drop 3
-//!   end
-//! desk 0 turns 5                  turns of one desk
-//! rounds 30                       rounds, as in a run
-//! cut                             the power goes, and the board recovers
+#![doc = include_str!("card.txt")]
 //! ```
-//!
-//! Besides, `go to step 4` names a step by its number, and `code 0001000300000000` is any step by its digits: so every
-//! frame line has words, also one that is refused.
 
 mod assemble;
 mod meant;
@@ -52,6 +37,9 @@ impl fmt::Display for Mistake {
         }
     }
 }
+
+/// The language on a card.
+pub const CARD: &str = include_str!("card.txt");
 
 /// The words that are no names.
 pub const KEYWORDS: [&str; 26] = [
