@@ -38,13 +38,13 @@ pub fn fitted(text: &str, (rows, columns): (usize, usize)) -> String {
         let more = format!(".. {} lines more", lines.len() - shown);
         fitted.push(more.chars().take(columns).collect());
     }
-    fitted.join("\r\n")
+    fitted.join("\n")
 }
 
 /// Clears the screen and draws a text on it.
 pub fn redraw(text: &str) -> io::Result<()> {
     let mut out = io::stdout().lock();
-    write!(out, "\x1b[H\x1b[2J{text}\r\n")?;
+    writeln!(out, "\x1b[H\x1b[2J{text}")?;
     out.flush()
 }
 
@@ -92,9 +92,9 @@ mod tests {
 
     #[test]
     fn a_text_fits_its_terminal() {
-        assert_eq!(fitted("one\ntwo\n", (24, 80)), "one\r\ntwo");
-        assert_eq!(fitted("one\ntwo\nthree\nfour", (4, 2)), "on\r\ntw\r\n..");
-        assert_eq!(fitted("a\nb\nc", (3, 80)), "a\r\n.. 2 lines more");
+        assert_eq!(fitted("one\ntwo\n", (24, 80)), "one\ntwo");
+        assert_eq!(fitted("one\ntwo\nthree\nfour", (4, 2)), "on\ntw\n..");
+        assert_eq!(fitted("a\nb\nc", (3, 80)), "a\n.. 2 lines more");
         assert_eq!(fitted("a\nb\nc", (1, 80)), ".. 3 lines more");
         assert_eq!(fitted("", (0, 0)), "");
     }

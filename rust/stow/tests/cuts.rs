@@ -98,7 +98,7 @@ fn used(draw: &mut Draw, desks: u8) -> Player {
 #[test]
 fn random_days_cut_after_every_store() {
     let (mut draw, mut stores) = (Draw(22), 0);
-    for round in 0..60 {
+    for round in 0..24 {
         let desks = 1 + draw.below(8) as u8;
         let start =
             if round % 2 == 0 { Player::fresh(desks as usize).unwrap() } else { used(&mut draw, desks) };
@@ -109,5 +109,5 @@ fn random_days_cut_after_every_store() {
         let further = draw.below(60);
         stores += cut_everywhere(&start, &frames, |left| (left * 7 + further) % 90);
     }
-    assert!(stores > 10_000, "{stores}");
+    assert!(stores > 5_000, "{stores}");
 }
