@@ -11,7 +11,7 @@ const MARK: &[u8; 8] = b"stowday1";
 
 /// A day that was begun on a board.
 #[derive(Clone, PartialEq, Eq, Debug)]
-pub struct Begun {
+pub struct Underway {
     /// The board as the day found it.
     pub start: Vec<u64>,
     pub day: Vec<u8>,
@@ -24,7 +24,7 @@ pub fn path(board: &Path) -> PathBuf {
     name.into()
 }
 
-impl Begun {
+impl Underway {
     fn bytes(&self) -> Vec<u8> {
         let mut bytes = MARK.to_vec();
         bytes.extend((self.start.len() as u64).to_ne_bytes());
@@ -33,21 +33,21 @@ impl Begun {
         bytes
     }
 
-    fn of(bytes: &[u8]) -> Option<Begun> {
+    fn of(bytes: &[u8]) -> Option<Underway> {
         let (len, rest) = bytes.strip_prefix(MARK)?.split_first_chunk()?;
         let len = usize::try_from(u64::from_ne_bytes(*len)).ok()?;
         let (words, day) = rest.split_at_checked(len.checked_mul(8)?)?;
         let start = words.as_chunks().0.iter().map(|word| u64::from_ne_bytes(*word)).collect();
-        Some(Begun { start, day: day.to_vec() })
+        Some(Underway { start, day: day.to_vec() })
     }
 
     /// The day under way on a board; none if there is none.
-    pub fn read(board: &Path) -> Result<Option<Begun>, Trouble> {
+    pub fn read(board: &Path) -> Result<Option<Underway>, Trouble> {
         let path = path(board);
         match fs::read(&path) {
             Err(error) if error.kind() == ErrorKind::NotFound => Ok(None),
             Err(error) => Err(Trouble::file(&path, &error)),
-            Ok(bytes) => match Begun::of(&bytes) {
+            Ok(bytes) => match Underway::of(&bytes) {
                 Some(begun) => Ok(Some(begun)),
                 None => Err(Trouble::cannot(format!("{}: this is no day under way", path.display()))),
             },
@@ -83,16 +83,16 @@ mod tests {
     #[test]
     fn bytes_there_and_back() {
         for begun in [
-            Begun { start: vec![], day: vec![] },
-            Begun { start: vec![1, u64::MAX], day: b"01\n03\n".to_vec() },
+            Underway { start: vec![], day: vec![] },
+            Underway { start: vec![1, u64::MAX], day: b"01\n03\n".to_vec() },
         ] {
             let bytes = begun.bytes();
-            assert_eq!(Begun::of(&bytes), Some(begun.clone()));
+            assert_eq!(Underway::of(&bytes), Some(begun.clone()));
             for short in 0..16 + 8 * begun.start.len() {
-                assert_eq!(Begun::of(&bytes[..short]), None);
+                assert_eq!(Underway::of(&bytes[..short]), None);
             }
         }
         let huge = [&MARK[..], &[0xff; 8], &[0; 64]].concat();
-        assert_eq!(Begun::of(&huge), None);
+        assert_eq!(Underway::of(&huge), None);
     }
 }

@@ -7,11 +7,10 @@
 //! is made twice, and they come in the order of the uninterrupted day. At the end the words of both boards are compared.
 //! (The tests cut a day after each of its stores, and the second time after each of those that were left.)
 
-use crate::explain::refusal;
 use crate::frame::{Frame, Ticket};
 use crate::language::names::Names;
 use crate::player::{at, At, Event, Player, Watch};
-use crate::refusal::{by_board, Met};
+use crate::refusal::{of_ticket, of_turn};
 use crate::trouble::Trouble;
 use zilpanud::{cell_index, Board, Cause, Cursors, Record, Refusal, Turn, CELLS};
 
@@ -97,9 +96,8 @@ impl<K: Kept> Following<'_, K> {
             self.report.finished_before += 1;
             return;
         }
-        let (told, at) = refusal(&Names::default(), cause, desk, number, &ticket.steps, player);
-        let (no, what, remedy) = (cause.number(), told.what, told.remedy);
-        self.tell(format!("desk {desk}, ticket {number}: refused with {no}: {at}{what}; {remedy}"));
+        let words = of_ticket(cause, ticket, player, &Names::default());
+        self.tell(format!("desk {desk}, ticket {number}: {words}"));
     }
 
     fn tell(&mut self, what: String) {
@@ -126,11 +124,7 @@ impl<K: Kept> Watch for Following<'_, K> {
             Event::HandedIn { ticket, refused: Some(cause) } => self.leave_out(ticket, cause, player),
             Event::Turned { answer: Turn::Waiting(_) | Turn::Idle, .. } | Event::Cut => {}
             Event::Turned { at, .. } => self.turn(at)?,
-            Event::TurnRefused { desk, cause } => {
-                let told =
-                    by_board(cause, &Met { desk, desks: player.desks, number: 0, finished: 0, has: 0 });
-                self.tell(format!("refused with {}: {}; {}", cause.number(), told.what, told.remedy));
-            }
+            Event::TurnRefused { desk, cause } => self.tell(of_turn(cause, desk, player)),
             Event::Recovered { .. } => {
                 self.board.recover().map_err(|Refusal(cause)| refused("a recovery", cause))?;
             }

@@ -32,7 +32,7 @@ pub struct Bay {
 
 #[derive(Clone, PartialEq, Eq, Debug)]
 pub struct Desk {
-    pub ticket: Option<Ticket>,
+    pub ticket: Option<OpenTicket>,
     pub finished: u64,
     pub intent: u64,
     pub owned: u64,
@@ -41,7 +41,7 @@ pub struct Desk {
 
 /// A ticket that a desk has.
 #[derive(Clone, PartialEq, Eq, Debug)]
-pub struct Ticket {
+pub struct OpenTicket {
     pub number: u64,
     pub steps: Vec<u64>,
     /// None: handed in, and not begun.
@@ -100,7 +100,7 @@ impl Desk {
     fn of(image: &[u64], desk: usize, record: &Record) -> Desk {
         let left = turns_left(image, desk).ok();
         let begun = record.recorded().map(|step| Begun { step, noted: record.active(), left });
-        let ticket = (record.count != 0 || begun.is_some()).then(|| Ticket {
+        let ticket = (record.count != 0 || begun.is_some()).then(|| OpenTicket {
             number: record.number,
             steps: record.section().unwrap_or(&[]).to_vec(),
             begun,

@@ -1,7 +1,9 @@
 //! Refusals in words, with what can be done about them. Which cause it is, and at which step, is the library's answer.
 
+use crate::frame::Ticket;
 use crate::language::names::Names;
-use crate::say::{bay, bays, is_are, words_of_bay};
+use crate::player::Player;
+use crate::say::{bay, bays, is_are, step, words_of_bay};
 use zilpanud::{Cause, Fault, Why};
 
 /// What is wrong, and a remedy: each a sentence without its full stop.
@@ -124,24 +126,35 @@ fn unguarded(names: &Names, lock: u16, held: u64) -> String {
     }
 }
 
-/// What a hand-in or a turn met.
-pub struct Met {
-    pub desk: usize,
-    /// Of the board.
-    pub desks: usize,
-    /// The ticket's number; of a turn 0.
-    pub number: u64,
-    /// The desk's last finished number, and the number of the ticket that it has.
-    pub finished: u64,
-    pub has: u64,
+/// `refused with 8: at step 1 (word 32 := 5), word 32 belongs to ..; take ..`
+fn sentence(cause: Cause, at: &str, told: &Told) -> String {
+    let Told { what, remedy } = told;
+    format!("refused with {}: {at}{what}; {remedy}", cause.number())
 }
 
-/// A refusal by the board and not by the ticket.
-pub fn by_board(cause: Cause, met: &Met) -> Told {
-    let Met { desk, desks, number, finished, has } = *met;
+/// The refusal of a ticket that was handed in to a board: by its own steps, or by the board.
+pub fn of_ticket(cause: Cause, ticket: &Ticket, player: &Player, names: &Names) -> String {
+    let found = zilpanud::check(&ticket.steps).err().filter(|found| found.cause() == cause);
+    let Some(found) = found else {
+        return sentence(cause, "", &by_board(cause, ticket.desk as usize, ticket.number, player));
+    };
+    let words =
+        found.step().and_then(|at| Some(format!("at step {at} ({}), ", step(names, *ticket.steps.get(at)?))));
+    let told = fault(&found, names, &|step| format!("step {step}"));
+    sentence(cause, &words.unwrap_or_default(), &told)
+}
+
+/// The refusal of a turn.
+pub fn of_turn(cause: Cause, desk: usize, player: &Player) -> String {
+    sentence(cause, "", &by_board(cause, desk, 0, player))
+}
+
+fn by_board(cause: Cause, desk: usize, number: u64, player: &Player) -> Told {
+    let record = player.record(desk);
+    let (finished, has) = record.map_or((0, 0), |record| (record.finished, record.number));
     match cause {
         Cause::Worker => {
-            let last = desks.saturating_sub(1);
+            let last = player.desks.saturating_sub(1);
             told(format!("the board has no desk {desk}"), format!("its desks are 0 to {last}"))
         }
         Cause::Busy => told(
@@ -156,7 +169,6 @@ pub fn by_board(cause: Cause, met: &Met) -> Told {
                 None => "the desk has had its last number".to_string(),
             },
         ),
-        Cause::Image => told("this is no board", "a board has 1 to 8 desks"),
         _ => told(cause.to_string(), cause.advice()),
     }
 }

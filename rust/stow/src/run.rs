@@ -1,7 +1,7 @@
 //! `stow run`: a day played on a board in a file. A kill anywhere and the same command again leave what one
 //! uninterrupted day leaves ([`follow`](crate::follow)).
 
-use crate::day_file::{self, Begun};
+use crate::day_file::{self, Underway};
 use crate::follow::{follow, Report};
 use crate::frame::{self, Frame};
 use crate::language::names::Names;
@@ -59,9 +59,9 @@ fn no_board(error: BoardError) -> Trouble {
 }
 
 /// The board, recovered, and the day's start: that of a day that was cut, or the board as it is now.
-fn start(path: &Path, day: &[u8], desks: usize) -> Result<(Board, Begun, bool), Trouble> {
+fn start(path: &Path, day: &[u8], desks: usize) -> Result<(Board, Underway, bool), Trouble> {
     let board = Board::open_or_create(path, desks).map_err(no_board)?;
-    match Begun::read(path)? {
+    match Underway::read(path)? {
         Some(begun) if begun.day == day && begun.start.len() == board.image().len() => {
             Ok((board, begun, true))
         }
@@ -73,7 +73,7 @@ fn start(path: &Path, day: &[u8], desks: usize) -> Result<(Board, Begun, bool), 
             Err(Trouble::Wrong(vec![what, remedy]))
         }
         None => {
-            let begun = Begun { start: board.image().to_vec(), day: day.to_vec() };
+            let begun = Underway { start: board.image().to_vec(), day: day.to_vec() };
             begun.keep(path)?;
             Ok((board, begun, false))
         }

@@ -2,7 +2,7 @@
 
 use crate::explain::noted;
 use crate::language::names::Names;
-use crate::look::{Bay, Begun, Desk, Holder, Look, Ticket};
+use crate::look::{Bay, Begun, Desk, Holder, Look, OpenTicket};
 use crate::refusal::of_image;
 use crate::say::{arguments, bay, bays, counted, desks, step, word};
 use zilpanud::Needs;
@@ -70,8 +70,8 @@ fn desk_line(names: &Names, number: usize, desk: &Desk) -> String {
     }
 }
 
-fn ticket_line(ticket: &Ticket) -> String {
-    let Ticket { number, steps, begun } = ticket;
+fn ticket_line(ticket: &OpenTicket) -> String {
+    let OpenTicket { number, steps, begun } = ticket;
     match begun {
         None => format!("ticket {number} of {} steps is handed in and not begun", steps.len()),
         Some(Begun { step, .. }) => {
@@ -80,7 +80,7 @@ fn ticket_line(ticket: &Ticket) -> String {
     }
 }
 
-fn ticket_lines(names: &Names, desk: &Desk, ticket: &Ticket) -> String {
+fn ticket_lines(names: &Names, desk: &Desk, ticket: &OpenTicket) -> String {
     let mut lines = vec![];
     if let Some(Begun { step: at, noted: entry, left }) = &ticket.begun {
         let instruction = usize::try_from(*at).ok().and_then(|at| ticket.steps.get(at));

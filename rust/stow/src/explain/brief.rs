@@ -1,9 +1,10 @@
 //! A day told in a line for each ticket: what became of it, and in which line of the day.
 
-use super::{open, refusal, End};
+use super::{open, End};
 use crate::frame::{self, Ticket};
 use crate::language::names::Names;
 use crate::player::{Event, Player, Watch};
+use crate::refusal::of_ticket;
 use crate::say::{bay, counted, listed};
 use std::collections::BTreeMap;
 use std::convert::Infallible;
@@ -38,10 +39,7 @@ impl Brief<'_> {
 
     fn handed_in(&mut self, ticket: &Ticket, refused: Option<Cause>, player: &Player) {
         let (desk, number) = (ticket.desk as usize, ticket.number);
-        let came = refused.map(|cause| {
-            let (told, at) = refusal(self.names, cause, desk, number, &ticket.steps, player);
-            format!("refused with {}: {at}{}; {}", cause.number(), told.what, told.remedy)
-        });
+        let came = refused.map(|cause| of_ticket(cause, ticket, player, self.names));
         let (is_open, came) = (came.is_none(), came.into_iter().collect());
         let (line, turns, waits) = (self.line, 0, BTreeMap::new());
         self.rows.push(Row { line, desk, number, came, is_begun: false, is_open, turns, waits });

@@ -13,11 +13,10 @@ use crate::language::frame_words;
 use crate::language::names::Names;
 use crate::look::Look;
 use crate::player::{At, Event, Player, Watch};
-use crate::refusal::{by_board, fault, Met};
-use crate::say::step;
+use crate::refusal::{of_ticket, of_turn};
 use crate::show;
 use std::io::{self, Write};
-use zilpanud::{Cause, Turn};
+use zilpanud::Turn;
 
 /// How much is told.
 #[derive(Clone, Copy, PartialEq, Eq, Debug)]
@@ -39,28 +38,28 @@ pub enum End {
 trait Manner<W: Write> {
     fn turned(
         &mut self,
-        told: &mut Told<'_, W>,
+        told: &mut Teller<'_, W>,
         at: At,
         answer: Turn,
         times: u64,
         player: &Player,
     ) -> io::Result<()>;
-    fn other(&mut self, told: &mut Told<'_, W>, event: &Event<'_>, player: &Player) -> io::Result<()>;
+    fn other(&mut self, told: &mut Teller<'_, W>, event: &Event<'_>, player: &Player) -> io::Result<()>;
     /// The line is over.
-    fn ended(&mut self, _: &mut Told<'_, W>) -> io::Result<()> {
+    fn ended(&mut self, _: &mut Teller<'_, W>) -> io::Result<()> {
         Ok(())
     }
 }
 
 /// What is known while a day is told, and where it is told to.
-pub struct Told<'a, W> {
+pub struct Teller<'a, W> {
     out: W,
     names: &'a Names,
     /// The board before the last turn.
     before: Player,
 }
 
-impl<W: Write> Told<'_, W> {
+impl<W: Write> Teller<'_, W> {
     fn say(&mut self, words: &str) -> io::Result<()> {
         writeln!(self.out, "    {words}")
     }
@@ -84,9 +83,9 @@ impl<W: Write> Told<'_, W> {
                 self.say(&format!("desk {} has ticket {}: {steps} steps{turns}", ticket.desk, ticket.number))
             }
             Event::HandedIn { ticket, refused: Some(cause) } => {
-                self.refused(*cause, ticket.desk as usize, ticket.number, &ticket.steps, player)
+                self.say(&of_ticket(*cause, ticket, player, self.names))
             }
-            Event::TurnRefused { desk, cause } => self.refused(*cause, *desk, 0, &[], player),
+            Event::TurnRefused { desk, cause } => self.say(&of_turn(*cause, *desk, player)),
             Event::Cut => recovery::cut(self.names, player).iter().try_for_each(|line| self.say(line)),
             Event::Recovered { stores, refused: None } => {
                 let said = recovery::recovered(self.names, &self.before, player, stores);
@@ -97,48 +96,11 @@ impl<W: Write> Told<'_, W> {
             }
         }
     }
-
-    fn refused(
-        &mut self,
-        cause: Cause,
-        desk: usize,
-        number: u64,
-        steps: &[u64],
-        player: &Player,
-    ) -> io::Result<()> {
-        let (told, at) = refusal(self.names, cause, desk, number, steps, player);
-        self.say(&format!("refused with {}: {at}{}; {}", cause.number(), told.what, told.remedy))
-    }
-}
-
-/// A refusal in words, and the step that it is about.
-pub fn refusal(
-    names: &Names,
-    cause: Cause,
-    desk: usize,
-    number: u64,
-    steps: &[u64],
-    player: &Player,
-) -> (crate::refusal::Told, String) {
-    let (Some(at), Err(found)) = (cause.detail(), zilpanud::check(steps)) else {
-        let record = player.record(desk);
-        let (finished, has) = record.map_or((0, 0), |record| (record.finished, record.number));
-        let met = Met { desk, desks: player.desks, number, finished, has };
-        return match zilpanud::check(steps) {
-            Err(found) if cause == Cause::Length => {
-                (fault(&found, names, &|step| format!("step {step}")), String::new())
-            }
-            _ => (by_board(cause, &met), String::new()),
-        };
-    };
-    let instruction = steps.get(at as usize).copied().unwrap_or(0);
-    let told = fault(&found, names, &|step| format!("step {step}"));
-    (told, format!("at step {at} ({}), ", step(names, instruction)))
 }
 
 /// A manner at work.
 struct Telling<'a, 'n, W, M> {
-    told: &'a mut Told<'n, W>,
+    told: &'a mut Teller<'n, W>,
     manner: &'a mut M,
 }
 
@@ -193,7 +155,7 @@ fn told<W: Write, M: Manner<W>>(day: &[u8], names: &Names, mut out: W, manner: &
         Err(end) => return Ok(end),
     };
     writeln!(out, "line 1: a fresh board of {}", crate::say::counted(player.desks as u64, "desk"))?;
-    let mut told = Told { out, names, before: player.clone() };
+    let mut told = Teller { out, names, before: player.clone() };
     for (number, line) in (2..).zip(lines) {
         let frame = match frame::frame(line) {
             Ok(frame) => frame,
@@ -214,7 +176,7 @@ fn heading(frame: &Frame, names: &Names) -> String {
     lines.join("; ").replacen("; ", ": ", 1)
 }
 
-fn at_the_end<W: Write>(told: &mut Told<'_, W>, player: &Player) -> io::Result<()> {
+fn at_the_end<W: Write>(told: &mut Teller<'_, W>, player: &Player) -> io::Result<()> {
     let Ok(look) = Look::of(&player.image) else {
         return Ok(());
     };

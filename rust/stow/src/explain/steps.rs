@@ -2,7 +2,7 @@
 //! that was made from its first turn to its last the bookkeeping is left out.
 
 use super::phrase::{is_aside, stored, unstored};
-use super::{Manner, Told};
+use super::{Manner, Teller};
 use crate::player::{At, Event, Player};
 use crate::say::{counted, step};
 use std::io::{self, Write};
@@ -58,7 +58,7 @@ impl Row {
 impl<W: Write> Manner<W> for Steps {
     fn turned(
         &mut self,
-        told: &mut Told<'_, W>,
+        told: &mut Teller<'_, W>,
         at: At,
         answer: Turn,
         times: u64,
@@ -82,7 +82,7 @@ impl<W: Write> Manner<W> for Steps {
         Ok(())
     }
 
-    fn ended(&mut self, told: &mut Told<'_, W>) -> io::Result<()> {
+    fn ended(&mut self, told: &mut Teller<'_, W>) -> io::Result<()> {
         for Row { at, instruction, did, is_done } in self.rows.drain(..) {
             let words = step(told.names, instruction);
             let whole = is_done && at.turn == 0;
@@ -98,7 +98,7 @@ impl<W: Write> Manner<W> for Steps {
         Ok(())
     }
 
-    fn other(&mut self, told: &mut Told<'_, W>, event: &Event<'_>, player: &Player) -> io::Result<()> {
+    fn other(&mut self, told: &mut Teller<'_, W>, event: &Event<'_>, player: &Player) -> io::Result<()> {
         Manner::<W>::ended(self, told)?;
         told.tell(event, player)
     }

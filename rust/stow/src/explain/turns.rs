@@ -1,7 +1,7 @@
 //! A day told turn by turn: each store as the program `board` prints it, with its words behind it.
 
 use super::phrase::{stored, unstored};
-use super::{Manner, Told};
+use super::{Manner, Teller};
 use crate::player::{At, Event, Player, Store};
 use crate::say::counted;
 use std::io::{self, Write};
@@ -24,7 +24,7 @@ fn printed(line: Option<(usize, u64)>) -> String {
 impl<W: Write> Manner<W> for Turns {
     fn turned(
         &mut self,
-        told: &mut Told<'_, W>,
+        told: &mut Teller<'_, W>,
         at: At,
         answer: Turn,
         times: u64,
@@ -45,7 +45,7 @@ impl<W: Write> Manner<W> for Turns {
         told.raw(&format!("{}  desk {}, step {}: {words}{times}", printed(line), at.desk, at.step))
     }
 
-    fn other(&mut self, told: &mut Told<'_, W>, event: &Event<'_>, player: &Player) -> io::Result<()> {
+    fn other(&mut self, told: &mut Teller<'_, W>, event: &Event<'_>, player: &Player) -> io::Result<()> {
         if let Event::Recovered { stores, refused: None } = event {
             for store in stores {
                 told.raw(&format!(
@@ -71,7 +71,7 @@ fn refused(event: &Event<'_>) -> Option<Cause> {
 }
 
 /// What a store of a recovery does.
-fn recovery<W: Write>(told: &Told<'_, W>, store: &Store) -> String {
+fn recovery<W: Write>(told: &Teller<'_, W>, store: &Store) -> String {
     let bays = |mask| crate::say::bays(told.names, mask);
     let doing = match Place::of(store.index) {
         Some(Place::Owner(bay)) if store.value == 0 => format!("{} is given free", bays(1 << bay)),

@@ -11,7 +11,7 @@ use zilpanud::code;
 
 /// Where something stands in a text: lines and columns count from 1.
 #[derive(Clone, Copy, PartialEq, Eq, Debug)]
-pub struct Place {
+pub struct Position {
     pub line: usize,
     pub column: usize,
 }
@@ -20,26 +20,26 @@ pub struct Place {
 #[derive(Clone, PartialEq, Eq, Debug)]
 pub struct Item {
     pub frame: Frame,
-    pub place: Place,
+    pub place: Position,
     /// Of each step of a ticket.
-    pub steps: Vec<Place>,
+    pub steps: Vec<Position>,
 }
 
 /// A skip whose label's step is not known yet, or a label.
 struct Mark<'a> {
     label: &'a str,
-    place: Place,
+    place: Position,
     step: usize,
 }
 
 /// A ticket whose steps are still coming.
 struct Open<'a> {
-    place: Place,
+    place: Position,
     desk: u8,
     number: u64,
     args: [u64; 8],
     steps: Vec<u64>,
-    places: Vec<Place>,
+    places: Vec<Position>,
     labels: Vec<Mark<'a>>,
     skips: Vec<Mark<'a>>,
 }
@@ -50,7 +50,7 @@ struct Assembler<'a> {
     mistakes: Vec<Mistake>,
 }
 
-fn mistake(place: Place, what: String, meant: Option<String>) -> Mistake {
+fn mistake(place: Position, what: String, meant: Option<String>) -> Mistake {
     Mistake { line: place.line, column: place.column, what, meant }
 }
 
@@ -86,7 +86,7 @@ pub fn names_file(bytes: &[u8], names: &mut Names) -> Result<(), Vec<Mistake>> {
     Ok(())
 }
 
-fn give(names: &mut Names, name: &str, thing: Thing, place: Place) -> Result<(), Mistake> {
+fn give(names: &mut Names, name: &str, thing: Thing, place: Position) -> Result<(), Mistake> {
     names.give(name, thing).map_err(|other| {
         let is = match other {
             Thing::Word(word) => plain_word(word),
@@ -98,14 +98,14 @@ fn give(names: &mut Names, name: &str, thing: Thing, place: Place) -> Result<(),
 
 impl<'t> Assembler<'t> {
     fn add(&mut self, line: usize, labelled: Labelled<'t>, names: &mut Names) {
-        let place = Place { line, column: labelled.column };
+        let place = Position { line, column: labelled.column };
         if let Some(label) = labelled.label {
-            self.label(label.text, Place { line, column: label.column });
+            self.label(label.text, Position { line, column: label.column });
         }
         match labelled.said {
             None => {}
             Some(Said::Let { name, thing }) => {
-                let given = give(names, name.text, thing, Place { line, column: name.column });
+                let given = give(names, name.text, thing, Position { line, column: name.column });
                 self.mistakes.extend(given.err());
             }
             Some(Said::Step(step)) => self.step(step, place),
@@ -121,7 +121,7 @@ impl<'t> Assembler<'t> {
         }
     }
 
-    fn label(&mut self, label: &'t str, place: Place) {
+    fn label(&mut self, label: &'t str, place: Position) {
         let Some(open) = &mut self.open else {
             self.mistakes.push(outside(place, "a label"));
             return;
@@ -133,7 +133,7 @@ impl<'t> Assembler<'t> {
         open.labels.push(Mark { label, place, step: open.steps.len() });
     }
 
-    fn step(&mut self, step: Step<'t>, place: Place) {
+    fn step(&mut self, step: Step<'t>, place: Position) {
         let Some(open) = &mut self.open else {
             self.mistakes.push(outside(place, "a step"));
             return;
@@ -141,7 +141,7 @@ impl<'t> Assembler<'t> {
         let word = match step {
             Step::Whole(word) => word,
             Step::Skip { word, label } => {
-                let place = Place { line: place.line, column: label.column };
+                let place = Position { line: place.line, column: label.column };
                 open.skips.push(Mark { label: label.text, place, step: open.steps.len() });
                 code::jump_if_zero(word, 0)
             }
@@ -151,7 +151,7 @@ impl<'t> Assembler<'t> {
     }
 
     /// A line of a day that is no ticket.
-    fn line(&mut self, frame: Frame, place: Place) {
+    fn line(&mut self, frame: Frame, place: Position) {
         self.close();
         let wrong = match (&frame, self.items.is_empty()) {
             (Frame::Board { .. }, false) => Some("a day has one board, and it stands first"),
@@ -182,7 +182,7 @@ impl<'t> Assembler<'t> {
     }
 }
 
-fn outside(place: Place, what: &str) -> Mistake {
+fn outside(place: Position, what: &str) -> Mistake {
     let meant = "'desk 0 number 1', say, begins one".to_string();
     mistake(place, format!("{what} stands in a ticket, and none is begun here"), Some(meant))
 }

@@ -12,7 +12,7 @@ mod scan;
 mod statement;
 mod write;
 
-pub use assemble::{day, names_file, Item, Place};
+pub use assemble::{day, names_file, Item, Position};
 pub use meant::did_you_mean;
 pub use write::{frame_words, is_day};
 

@@ -4,7 +4,7 @@ use super::desks::{panel, runs, standing, step_bar, PANEL};
 use super::svg::{group, Area, Element, Side};
 use super::{mark, word_cell, Mark, Page, FAINT, FIGURE, HEAD, INNER, ON_LIGHT, SMALL, SMALL_STRONG, WORD};
 use crate::language::names::{Names, Thing};
-use crate::look::{Bay, Holder, Look, Ticket};
+use crate::look::{Bay, Holder, Look, OpenTicket};
 use crate::refusal::of_image;
 use crate::say;
 use zilpanud::Cause;
@@ -58,7 +58,7 @@ pub fn board(look: &Look, names: &Names, title: &str) -> String {
 
 /// `2 desks, 1 with a ticket begun; 3 bays held; 5 words other than 0`
 fn summary(look: &Look) -> String {
-    let begun = |ticket: &Ticket| ticket.begun.is_some();
+    let begun = |ticket: &OpenTicket| ticket.begun.is_some();
     let begun = look.desks.iter().filter(|desk| desk.ticket.as_ref().is_some_and(begun)).count();
     let held = look.bays.iter().filter(|bay| matches!(bay.holder, Holder::Desk(_))).count();
     let words = look.bays.iter().flat_map(|bay| bay.words).filter(|word| *word != 0).count();
@@ -311,7 +311,7 @@ mod tests {
         let most = Needs { fewest: 0, most: u64::MAX };
         let odd = [(0, None), (1, begun(0, None)), (0, begun(u64::MAX, None)), (64, begun(63, Some(most)))];
         let desk = |(steps, begun)| Desk {
-            ticket: Some(Ticket { number: u64::MAX, steps: vec![u64::MAX; steps], begun }),
+            ticket: Some(OpenTicket { number: u64::MAX, steps: vec![u64::MAX; steps], begun }),
             finished: u64::MAX,
             intent: u64::MAX,
             owned: u64::MAX / 3,

@@ -3,7 +3,7 @@
 use super::svg::{group, Area, Element, Side};
 use super::{word_cell, DAMAGE_STRIP, FIGURE, HEAD, ON_DAMAGE, SMALL, SMALL_STRONG, STRONG, WORD};
 use crate::language::names::Names;
-use crate::look::{Begun, Desk, Ticket};
+use crate::look::{Begun, Desk, OpenTicket};
 use crate::say;
 use zilpanud::code::own;
 
@@ -119,7 +119,7 @@ fn numbers(labels: Area, values: Area, desk: &Desk) -> Element {
 }
 
 /// `step 3 of 8: word 24 := 5`
-fn progress(ticket: &Ticket, recorded: Option<u64>, names: &Names) -> String {
+fn progress(ticket: &OpenTicket, recorded: Option<u64>, names: &Names) -> String {
     let count = ticket.steps.len();
     let recorded = recorded.map(|step| (step, step_at(ticket, step)));
     match (recorded, ticket.steps.first()) {
@@ -135,7 +135,7 @@ fn progress(ticket: &Ticket, recorded: Option<u64>, names: &Names) -> String {
     }
 }
 
-fn step_at(ticket: &Ticket, step: u64) -> Option<u64> {
+fn step_at(ticket: &OpenTicket, step: u64) -> Option<u64> {
     usize::try_from(step).ok().and_then(|step| ticket.steps.get(step).copied())
 }
 
@@ -143,9 +143,9 @@ fn step_at(ticket: &Ticket, step: u64) -> Option<u64> {
 pub fn standing(desk: &Desk) -> String {
     match &desk.ticket {
         None => "no ticket".to_string(),
-        Some(Ticket { number, .. }) if desk.is_ending() => format!("ticket {number} is finished"),
-        Some(Ticket { number, begun: None, .. }) => format!("ticket {number} is handed in and not begun"),
-        Some(Ticket { number, begun: Some(begun), steps }) => {
+        Some(OpenTicket { number, .. }) if desk.is_ending() => format!("ticket {number} is finished"),
+        Some(OpenTicket { number, begun: None, .. }) => format!("ticket {number} is handed in and not begun"),
+        Some(OpenTicket { number, begun: Some(begun), steps }) => {
             format!("ticket {number} is begun, at step {} of {}", begun.step, steps.len())
         }
     }
