@@ -30,8 +30,8 @@ WARNINGS = -Wall -Wextra -Wpedantic -Wconversion -Wsign-conversion -Wshadow -Wca
 C99 = $(CC) -std=c99 $(WARNINGS) -Wstrict-prototypes -Wmissing-prototypes $(CFLAGS) -Iinclude
 CXX17 = $(CXX) -std=c++17 $(WARNINGS) -Wold-style-cast $(CXXFLAGS) -Iinclude
 
-.PHONY: all library board stow help check tools header example rust_examples messages stores wrapper planners crosscheck
-.PHONY: powercut install clean
+.PHONY: all library board stow help check tools header example rust_examples messages stores wrapper planners manuals
+.PHONY: crosscheck powercut install clean
 .NOTPARALLEL:
 .SUFFIXES:
 
@@ -73,7 +73,7 @@ help:
 
 # ---- checks: each says one line when it passes
 
-CHECKS = header example messages stores wrapper planners crosscheck powercut
+CHECKS = header example messages stores wrapper planners manuals crosscheck powercut
 
 check: tools $(CHECKS)
 	@if [ -e $(OUT)/stores.not-run ]; then \
@@ -150,10 +150,14 @@ RUST = env ZILPANUD_LIB="$$(cd '$(LIB)' && pwd)" CARGO_TARGET_DIR="$$(pwd)/$(OUT
 wrapper: $(ARCHIVE) | $(OUT)
 	@sh checks/quiet.sh wrapper tests rust/zilpanud $(RUST) test $(AS_IS)
 
-# stow: its tests, any bytes among them, the waits of days worked out by hand, and the examples of its manual
-planners: stow board
+# stow: its tests, any bytes among them, and the waits of days worked out by hand
+planners: stow
 	@sh checks/quiet.sh stow tests rust/stow $(RUST) test $(AS_IS)
 	@sh checks/waits.sh $(STOW)
+
+# the examples of the manuals, as they stand there
+manuals: stow board rust_examples
+	@sh checks/manual.sh docs/MANUAL.md $(STOW) '$(BOARD)' $(RUST_EXAMPLES)/check
 	@sh checks/manual.sh docs/STOW.md $(STOW) '$(BOARD)'
 
 crosscheck: $(ARCHIVE) | $(OUT)

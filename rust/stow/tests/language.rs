@@ -72,61 +72,58 @@ fn names_and_labels() {
     assert_eq!(steps("first: take 3\nsecond:\n\ndrop 3; end").len(), 3);
 }
 
-/// What is wrong, by its line, its column and a part of what is told.
+/// Texts, and of the first mistake its line, its column and a part of what is told.
+const MISTAKES: &[(&str, usize, usize, &str)] = &[
+    ("tkae 3", 1, 1, "no statement begins with 'tkae'; did you mean 'take'?"),
+    ("desk 0 number 1\n  Take 3", 2, 3, "no statement begins with 'Take'; did you mean 'take'?"),
+    ("desk 0 number 1\ntake", 2, 5, "the statement ends here, and the number of a bay is expected"),
+    ("desk 0 number 1\ntake 70000", 2, 6, "'70000' is no number of a bay; the bays are 0 to 63"),
+    (
+        "desk 0 number 1\ntake 3 4",
+        2,
+        8,
+        "'4' stands behind the 'take' statement, where nothing more is expected",
+    ),
+    ("desk 0 number 1\nword 24 = 5", 2, 9, "here is '=', and ':=' is expected; write ':='"),
+    ("desk 0 number 1\nword 24 := word 25", 2, 19, "to copy a word, add one that is 0"),
+    ("desk 0 number 1\nword 24 := word 24 + 1", 2, 22, "give it as an argument and write 'own'"),
+    ("desk 0 number 1\nword 24 := 4294967296", 2, 12, "give a larger number as an argument"),
+    ("desk 0 number 1\nown 8 := 5", 2, 5, "'8' is no number of an own word; a desk has own 0 to 7"),
+    ("desk 0 number 1\nword 24x := 5", 2, 6, "'24x' is no number of a word; numbers are decimal"),
+    ("desk 0 number 1\nif own 1 is 1 go to x", 2, 13, "a skip asks whether a word is 0, and nothing else"),
+    ("desk 0 number 1\nif own 1 is 0 go to x", 2, 21, "no step of this ticket has the label 'x'"),
+    ("desk 0 number 1\ndone: end\nif own 1 is 0 go to dne", 3, 21, "did you mean 'done'?"),
+    ("desk 0 number 1\nif own 1 is 0 go to 4", 2, 21, "write 'go to step 4'"),
+    ("desk 0 number 1\nif own 1 is 0 go to x\nx:", 3, 1, "no step follows the label 'x'"),
+    ("desk 0 number 1\nx: end\nx: end", 3, 1, "the label 'x' stands in line 2 already"),
+    ("desk 0 number 1\nword: end", 2, 1, "'word' is a word of the language, and names nothing"),
+    ("let shed = word 24\ndesk 0 number 1\nshet := 5", 3, 1, "did you mean 'shed'?"),
+    ("let shed = word 24\nlet shed = word 25", 2, 5, "'shed' is word 24 already"),
+    (
+        "let shed = word 24\ndesk 0 number 1\ntake shed",
+        3,
+        6,
+        "'shed' is word 24, and a bay is expected; it belongs to bay 3",
+    ),
+    ("let shed = 24", 1, 12, "'word', 'own' or 'bay' and its number is expected"),
+    ("take 3", 1, 1, "a step stands in a ticket, and none is begun here"),
+    ("board of 1 desk\nboard of 1 desk", 2, 1, "a day has one board, and it stands first"),
+    ("cut", 1, 1, "a cut is no beginning"),
+    ("board of 300 desks", 1, 10, "'300' is no number of desks; a board has 1 to 8 desks"),
+    ("desk 0 tuns 5", 1, 8, "did you mean 'turns'?"),
+    ("desk 0 turns 65536", 1, 14, "a line has 0 to 65535 turns"),
+    ("desk 0 number 1 with 1 2 3 4 5 6 7 8 9", 1, 38, "a ticket has eight arguments; this is the ninth"),
+    ("desk 0 number 1 with 1, 2", 1, 23, "with blanks between them and no commas"),
+    ("desk 0 number 1\ncode 00", 2, 6, "16 digits, 0 to 9 and a to f, are expected"),
+    ("desk 0 number 1\nword 24 := word 24 \u{2212} own 0", 2, 20, "write '-' for a difference"),
+    ("desk 0 number 1\nKõrge := 5", 2, 1, "no statement begins with 'Kõrge'"),
+];
+
 #[test]
 fn mistakes_say_where_and_what_was_meant() {
-    for (text, line, column, told) in [
-        ("tkae 3", 1, 1, "no statement begins with 'tkae'; did you mean 'take'?"),
-        ("desk 0 number 1\n  Take 3", 2, 3, "no statement begins with 'Take'; did you mean 'take'?"),
-        ("desk 0 number 1\ntake", 2, 5, "the statement ends here, and the number of a bay is expected"),
-        ("desk 0 number 1\ntake 70000", 2, 6, "'70000' is no number of a bay; the bays are 0 to 63"),
-        (
-            "desk 0 number 1\ntake 3 4",
-            2,
-            8,
-            "'4' stands behind the 'take' statement, where nothing more is expected",
-        ),
-        ("desk 0 number 1\nword 24 = 5", 2, 9, "here is '=', and ':=' is expected; write ':='"),
-        ("desk 0 number 1\nword 24 := word 25", 2, 19, "to copy a word, add one that is 0"),
-        ("desk 0 number 1\nword 24 := word 24 + 1", 2, 22, "give it as an argument and write 'own'"),
-        ("desk 0 number 1\nword 24 := 4294967296", 2, 12, "give a larger number as an argument"),
-        ("desk 0 number 1\nown 8 := 5", 2, 5, "'8' is no number of an own word; a desk has own 0 to 7"),
-        ("desk 0 number 1\nword 24x := 5", 2, 6, "'24x' is no number of a word; numbers are decimal"),
-        (
-            "desk 0 number 1\nif own 1 is 1 go to x",
-            2,
-            13,
-            "a skip asks whether a word is 0, and nothing else",
-        ),
-        ("desk 0 number 1\nif own 1 is 0 go to x", 2, 21, "no step of this ticket has the label 'x'"),
-        ("desk 0 number 1\ndone: end\nif own 1 is 0 go to dne", 3, 21, "did you mean 'done'?"),
-        ("desk 0 number 1\nif own 1 is 0 go to 4", 2, 21, "write 'go to step 4'"),
-        ("desk 0 number 1\nif own 1 is 0 go to x\nx:", 3, 1, "no step follows the label 'x'"),
-        ("desk 0 number 1\nx: end\nx: end", 3, 1, "the label 'x' stands in line 2 already"),
-        ("desk 0 number 1\nword: end", 2, 1, "'word' is a word of the language, and names nothing"),
-        ("let shed = word 24\ndesk 0 number 1\nshet := 5", 3, 1, "did you mean 'shed'?"),
-        ("let shed = word 24\nlet shed = word 25", 2, 5, "'shed' is word 24 already"),
-        (
-            "let shed = word 24\ndesk 0 number 1\ntake shed",
-            3,
-            6,
-            "'shed' is word 24, and a bay is expected; it belongs to bay 3",
-        ),
-        ("let shed = 24", 1, 12, "'word', 'own' or 'bay' and its number is expected"),
-        ("take 3", 1, 1, "a step stands in a ticket, and none is begun here"),
-        ("board of 1 desk\nboard of 1 desk", 2, 1, "a day has one board, and it stands first"),
-        ("cut", 1, 1, "a cut is no beginning"),
-        ("board of 300 desks", 1, 10, "'300' is no number of desks; a board has 1 to 8 desks"),
-        ("desk 0 tuns 5", 1, 8, "did you mean 'turns'?"),
-        ("desk 0 turns 65536", 1, 14, "a line has 0 to 65535 turns"),
-        ("desk 0 number 1 with 1 2 3 4 5 6 7 8 9", 1, 38, "a ticket has eight arguments; this is the ninth"),
-        ("desk 0 number 1 with 1, 2", 1, 23, "with blanks between them and no commas"),
-        ("desk 0 number 1\ncode 00", 2, 6, "16 digits, 0 to 9 and a to f, are expected"),
-        ("desk 0 number 1\nword 24 := word 24 \u{2212} own 0", 2, 20, "write '-' for a difference"),
-        ("desk 0 number 1\nKõrge := 5", 2, 1, "no statement begins with 'Kõrge'"),
-    ] {
+    for (text, line, column, told) in MISTAKES {
         let found = day(text.as_bytes(), &mut Names::default()).expect_err(text);
-        assert_eq!((found[0].line, found[0].column), (line, column), "{text}: {}", found[0]);
+        assert_eq!((&found[0].line, &found[0].column), (line, column), "{text}: {}", found[0]);
         assert!(found[0].to_string().contains(told), "{text}: {}", found[0]);
     }
 }
@@ -146,50 +143,50 @@ fn refusals(text: &str) -> Vec<String> {
     }
 }
 
-/// Each of causes 4 to 9 with its line; the sentence of cause 8 is the one that was asked for.
+/// Steps that fail each of causes 4 to 9, and what is told of them: the ticket begins in line 2, its steps in line 3. The
+/// sentence of cause 8 is the one that was asked for.
+const REFUSED: &[(&str, &str)] = &[
+    ("take 3\ndrop 3", "line 2: a ticket has 3 to 64 steps, and this one has 2 (cause 4)"),
+    ("take 64\ndrop 64\nend", "line 3: there is no bay 64 (cause 5)"),
+    ("take 3\nword 600 := 5\ndrop 3\nend", "line 4: there is no word 600 (cause 5)"),
+    (
+        "take 3\nback: word 24 := 5\nif own 0 is 0 go to back\ndrop 3\nend",
+        "line 5: the skip goes to line 4, and no later",
+    ),
+    ("take 3\nif own 0 is 0 go to step 9\ndrop 3\nend", "line 4: the skip goes to step 9, and no later"),
+    ("take 3\nend\ndrop 3\nend", "line 4: the ticket ends here, and steps follow (cause 5)"),
+    ("take 3\nword 24 := 5\ndrop 3", "line 5: this is the ticket's last step, and it is no 'end' (cause 5)"),
+    ("code 0009000000000000\ndrop 3\nend", "line 3: a step of kind 9: the kinds are 1 to 8 (cause 5)"),
+    (
+        "code 0001000300010000\ndrop 3\nend",
+        "line 3: field b of this step is 1, and for kind 1 it is 0 (cause 5)",
+    ),
+    (
+        "own 0 := 5\ntake 3\ndrop 3\nend",
+        "line 3: a ticket starts by taking a bay, and this is no 'take' (cause 6)",
+    ),
+    ("take 3\nword 24 := 5\nend", "line 5: the ticket ends with bay 3 held (cause 6)"),
+    ("take 3\ndrop 3\nown 0 := 5\nend", "line 5: no bay is held here, and this is not the end (cause 6)"),
+    ("take 3\ntake 3\ndrop 3\nend", "line 4: bay 3 is held here already; held: bay 3 (cause 7)"),
+    (
+        "take 5\ntake 3\ndrop 5\nend",
+        "line 4: bay 3 is below bay 5, which is held here; held: bay 5 (cause 7)",
+    ),
+    ("take 3\ndrop 4\ndrop 3\nend", "line 4: bay 4 is not held here; held: bay 3 (cause 7)"),
+    (
+        "take 3\nown 1 := 1\nown 1 := 1\nword 32 := 5\ndrop 3\nend",
+        "line 6: word 32 belongs to bay 4, which is not held here; held: bay 3 (cause 8)",
+    ),
+    (
+        "take 3\nif own 0 is 0 go to over\ndrop 3\nover: end",
+        "line 4: the skip leaves with bay 3 held and goes to line 6, where no bay is held (cause 9)",
+    ),
+];
+
 #[test]
 fn refusals_say_the_line() {
     let ticket = |steps: &str| format!("# a ticket\ndesk 0 number 1\n{steps}");
-    for (steps, told) in [
-        ("take 3\ndrop 3", "line 2: a ticket has 3 to 64 steps, and this one has 2 (cause 4)"),
-        ("take 64\ndrop 64\nend", "line 3: there is no bay 64 (cause 5)"),
-        ("take 3\nword 600 := 5\ndrop 3\nend", "line 4: there is no word 600 (cause 5)"),
-        (
-            "take 3\nback: word 24 := 5\nif own 0 is 0 go to back\ndrop 3\nend",
-            "line 5: the skip goes to line 4, and no later",
-        ),
-        ("take 3\nif own 0 is 0 go to step 9\ndrop 3\nend", "line 4: the skip goes to step 9, and no later"),
-        ("take 3\nend\ndrop 3\nend", "line 4: the ticket ends here, and steps follow (cause 5)"),
-        (
-            "take 3\nword 24 := 5\ndrop 3",
-            "line 5: this is the ticket's last step, and it is no 'end' (cause 5)",
-        ),
-        ("code 0009000000000000\ndrop 3\nend", "line 3: a step of kind 9: the kinds are 1 to 8 (cause 5)"),
-        (
-            "code 0001000300010000\ndrop 3\nend",
-            "line 3: field b of this step is 1, and for kind 1 it is 0 (cause 5)",
-        ),
-        (
-            "own 0 := 5\ntake 3\ndrop 3\nend",
-            "line 3: a ticket starts by taking a bay, and this is no 'take' (cause 6)",
-        ),
-        ("take 3\nword 24 := 5\nend", "line 5: the ticket ends with bay 3 held (cause 6)"),
-        ("take 3\ndrop 3\nown 0 := 5\nend", "line 5: no bay is held here, and this is not the end (cause 6)"),
-        ("take 3\ntake 3\ndrop 3\nend", "line 4: bay 3 is held here already; held: bay 3 (cause 7)"),
-        (
-            "take 5\ntake 3\ndrop 5\nend",
-            "line 4: bay 3 is below bay 5, which is held here; held: bay 5 (cause 7)",
-        ),
-        ("take 3\ndrop 4\ndrop 3\nend", "line 4: bay 4 is not held here; held: bay 3 (cause 7)"),
-        (
-            "take 3\nown 1 := 1\nown 1 := 1\nword 32 := 5\ndrop 3\nend",
-            "line 6: word 32 belongs to bay 4, which is not held here; held: bay 3 (cause 8)",
-        ),
-        (
-            "take 3\nif own 0 is 0 go to over\ndrop 3\nover: end",
-            "line 4: the skip leaves with bay 3 held and goes to line 6, where no bay is held (cause 9)",
-        ),
-    ] {
+    for (steps, told) in REFUSED {
         let refusals = refusals(&ticket(steps));
         assert!(refusals[0].starts_with(told), "{steps}:\n{refusals:?}");
         assert!(refusals[1].starts_with("  "), "{refusals:?}");

@@ -258,6 +258,7 @@ fn a_killed_run_and_the_same_command_again() {
                 break;
             }
             kills += 1;
+            assert!(kills < 300, "the day does not come to its end");
         }
         assert!(fs::read(&killed).unwrap() == fs::read(&whole).unwrap(), "{round}: the board is another");
     }
