@@ -7,7 +7,7 @@
 #   make clean      removes what the checks built: target/outside
 #   make help       these lines
 #
-#   CC, CXX         compilers of the checks (gcc, g++), with CFLAGS and CXXFLAGS
+#   CC, CXX         compilers of the checks (gcc, g++), with CFLAGS and CXXFLAGS; CARGO, RUSTC
 #   LIB, BOARD      on the command line: the folder of another libzilpanud.a, and another board; rt is then not asked
 #   PREFIX, DESTDIR where to install (/usr/local), and a folder before it
 
@@ -16,6 +16,7 @@ PREFIX = /usr/local
 DESTDIR =
 INSTALL = install
 CARGO = cargo
+RUSTC = rustc
 CFLAGS = -O2 -g
 CXXFLAGS = -O2 -g
 
@@ -83,7 +84,7 @@ check: tools $(CHECKS)
 	fi
 
 tools:
-	@sh checks/tools.sh '$(CC)' '$(CXX)' nm size '$(CARGO)' $(RT)
+	@sh checks/tools.sh '$(CC)' '$(CXX)' nm size '$(CARGO)' '$(RUSTC)' $(RT)
 
 $(OUT):
 	@mkdir -p $(OUT)
@@ -118,7 +119,7 @@ $(OUT)/held_sets $(OUT)/turns: $(OUT)/%: examples/%.c include/zilpanud.h $(ARCHI
 
 # those in Rust; cargo decides itself what must be built again
 rust_examples: $(ARCHIVE) | $(OUT)
-	@$(RUST) build $(AS_IS) --quiet --manifest-path rust/zilpanud/Cargo.toml --examples
+	@$(RUST) build $(AS_IS) --quiet --manifest-path rust/zilpanud/Cargo.toml --lib --examples
 
 EXAMPLES = $(OUT)/example $(OUT)/example_cut $(OUT)/held_sets $(OUT)/turns
 RUST_EXAMPLES = $(OUT)/cargo/debug/examples
@@ -156,9 +157,12 @@ planners: stow
 	@sh checks/waits.sh $(STOW)
 
 # the examples of the manuals, as they stand there
+WITH = CC='$(CC)' INCLUDE="$$(pwd)/include" ARCHIVE="$$(cd '$(LIB)' && pwd)/libzilpanud.a" RUSTC='$(RUSTC)' \
+	RLIB="$$(pwd)/$(OUT)/cargo/debug/libzilpanud.rlib"
+
 manuals: stow board rust_examples
-	@sh checks/manual.sh docs/MANUAL.md $(STOW) '$(BOARD)' $(RUST_EXAMPLES)/check
-	@sh checks/manual.sh docs/STOW.md $(STOW) '$(BOARD)'
+	@$(WITH) sh checks/manual.sh docs/MANUAL.md $(STOW) '$(BOARD)' $(RUST_EXAMPLES)/check
+	@$(WITH) sh checks/manual.sh docs/STOW.md $(STOW) '$(BOARD)'
 
 crosscheck: $(ARCHIVE) | $(OUT)
 	@sh checks/quiet.sh crosscheck '20000 lists and recorded days' rust/crosscheck $(RUST) run $(AS_IS) --release -- 20000

@@ -4,8 +4,9 @@
 #   ```text NAME       a file of that name, with a dot in it
 #   ```console         a line with '$ ' before it is a command, and the lines below it are what it prints, standard error
 #                      included
-#   ```sh              a script; the block ```text printed behind it has the last lines that it prints. What stands behind
-#                      an index and a value is the manual's own
+#   ```sh ```c ```rust a script or a program; the block ```text printed behind it has the last lines that it prints. What
+#                      stands behind an index and a value there is the manual's own
+# Programs are compiled by CC with INCLUDE and ARCHIVE, and by RUSTC with RLIB, which the environment gives.
 set -u
 manual=$1
 shift
@@ -28,10 +29,21 @@ awk -v steps="$room/steps" -v here="$room/here" '
     /^```text printed$/ { inside = "printed"; next }
     /^```text [^ ]+[.][^ ]+$/ { inside = "file"; file = here "/" $2; printf "" > file; next }
     /^```sh$/ { inside = "script"; step(); printf "" > (at ".last"); next }
+    /^```(c|rust)$/ {
+        inside = "program"
+        step()
+        printf "" > (at ".last")
+        source = at "." ($0 == "```c" ? "c" : "rs")
+        compile = "\"$RUSTC\" --edition 2021 --extern zilpanud=\"$RLIB\" %s -o %s && %s\n"
+        if ($0 == "```c") compile = "$CC -std=c99 -I\"$INCLUDE\" %s \"$ARCHIVE\" -o %s && %s\n"
+        printf compile, source, at ".program", at ".program" > (at ".command")
+        next
+    }
     /^```console$/ { inside = "console"; next }
     /^```/ { inside = "other"; next }
     inside == "file" { print > file }
     inside == "script" { print > (at ".command") }
+    inside == "program" { print > source }
     inside == "printed" { print > (at ".wanted") }
     inside == "console" && /^\$ / { step(); print substr($0, 3) > (at ".command"); next }
     inside == "console" { print > (at ".wanted") }
@@ -48,7 +60,7 @@ for command in "$room"/steps/*.command; do
     (cd "$room/here" && sh "$command" >"$step.printed" 2>&1 </dev/null)
     if [ -e "$step.last" ]; then
         stores "$step.wanted" >"$step.stores"
-        [ -s "$step.stores" ] || { echo "manual: $manual does not say what '$(head -n 1 "$command")' prints" >&2; exit 1; }
+        [ -s "$step.stores" ] || { echo "manual: what '$(head -n 1 "$command")' prints is not said" >&2; exit 1; }
         tail -n "$(wc -l <"$step.stores")" "$step.printed" >"$step.last"
         mv "$step.stores" "$step.wanted" && mv "$step.last" "$step.printed"
     fi

@@ -13,7 +13,7 @@ use stow::frame::{Frame, Ticket};
 use stow::player::Player;
 use stow::trouble::Trouble;
 use zilpanud::cut::{self, ENOUGH};
-use zilpanud::{Cursors, Place, RecordWord, Refusal};
+use zilpanud::{code, Cursors, Place, RecordWord, Refusal};
 
 /// A board in memory whose power goes when no store is left: from then on no call changes it.
 #[derive(Clone)]
@@ -110,4 +110,17 @@ fn random_days_cut_after_every_store() {
         stores += cut_everywhere(&start, &frames, |left| (left * 7 + further) % 90);
     }
     assert!(stores > 5_000, "{stores}");
+}
+
+/// Document 01's ticket, left under way after each of its turns, also between the last two of its end.
+#[test]
+fn a_day_that_leaves_its_ticket_under_way() {
+    let steps = vec![code::acquire(3), code::set(24, 5), code::release(3), code::finish()];
+    let ticket = Frame::HandIn(Ticket { desk: 0, number: 1, args: [0; 8], steps });
+    let start = Player::fresh(1).unwrap();
+    for turns in 0..=19 {
+        let day = [ticket.clone(), Frame::Turns { desk: 0, turns }];
+        // the recovery of a board at rest, the hand-in's ten words and four steps, and a store a turn
+        assert_eq!(cut_everywhere(&start, &day, |left| left / 2), 1 + 14 + turns as u64);
+    }
 }
