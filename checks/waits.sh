@@ -93,7 +93,7 @@ counts 1 "$nothing" "stow waits: no board has as many desks as line 1 says (10),
 
 day='two files'
 "$stow" waits "$room/day" "$room/day" >"$room/out" 2>"$room/error"
-ends_with 2 '' 'stow waits: usage: stow waits [OPTION ..] DAY'
+ends_with 2 '' 'stow waits: usage: stow waits [OPTION ..] [DAY]'
 "$stow" waits "$room/none" >"$room/out" 2>"$room/error"
 status=$?
 [ "$status" -eq 2 ] && [ ! -s "$room/out" ] && grep -q "^stow waits: $room/none: " "$room/error" || fail "no file: $status"

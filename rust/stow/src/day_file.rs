@@ -49,7 +49,11 @@ impl Underway {
             Err(error) => Err(Trouble::file(&path, &error)),
             Ok(bytes) => match Underway::of(&bytes) {
                 Some(begun) => Ok(Some(begun)),
-                None => Err(Trouble::cannot(format!("{}: this is no day under way", path.display()))),
+                None => {
+                    let what = format!("{}: this is no day under way, or a damaged one", path.display());
+                    let remedy = "  look at the board, and remove that file when it is right".to_string();
+                    Err(Trouble::Wrong(vec![what, remedy]))
+                }
             },
         }
     }

@@ -12,6 +12,7 @@ use crate::language::names::Names;
 use crate::player::{at, At, Event, Player, Watch};
 use crate::refusal::{of_ticket, of_turn};
 use crate::trouble::Trouble;
+use std::collections::BTreeMap;
 use zilpanud::{cell_index, Board, Cause, Cursors, Record, Refusal, Turn, CELLS};
 
 /// The board that a day is played on: what is asked of it, and the three calls that are made.
@@ -46,24 +47,63 @@ impl Kept for Board {
     }
 }
 
+/// A board in memory: for trying whether a day that was cut can be gone on with, before any store.
+impl Kept for Player {
+    fn image(&self) -> &[u64] {
+        &self.image
+    }
+
+    fn cursors(&self) -> &Cursors {
+        &self.cursors
+    }
+
+    fn submit(&mut self, ticket: &Ticket) -> Result<(), Refusal> {
+        Player::submit(self, ticket)
+    }
+
+    fn turn(&mut self, desk: usize) -> Result<(), Refusal> {
+        zilpanud::turn(&mut self.image, &mut self.cursors, desk).map(|_| ())
+    }
+
+    fn recover(&mut self) -> Result<(), Refusal> {
+        self.cursors = zilpanud::recover(&mut self.image)?;
+        Ok(())
+    }
+}
+
 /// What a day came to.
 #[derive(Clone, PartialEq, Eq, Debug, Default)]
 pub struct Report {
     pub taken: u64,
-    /// Tickets that the board had finished before the day.
+    /// Of those taken.
+    pub finished: u64,
+    /// Hand-ins of tickets that were finished before.
     pub finished_before: u64,
+    /// Tickets that a cut of the day withdrew, a line each.
+    pub withdrawn: Vec<String>,
     /// Refused tickets and turns, a line each.
     pub refused: Vec<String>,
     /// What the desks still have at the day's end.
     pub open: Vec<String>,
 }
 
+/// What is heard of a day while it is followed.
+#[derive(Clone, Copy, PartialEq, Eq, Debug)]
+pub enum Heard {
+    /// A line of this number comes next.
+    Line(usize),
+    /// A turn was made on the board.
+    Turn,
+}
+
 /// A board at its day.
 struct Following<'a, K> {
     board: &'a mut K,
-    /// Told of each turn that is made on the board.
-    made: &'a mut dyn FnMut(),
+    names: &'a Names,
+    hear: &'a mut dyn FnMut(Heard),
     line: usize,
+    /// The tickets that the day has taken and not ended, by desk.
+    open: BTreeMap<usize, u64>,
     report: Report,
 }
 
@@ -81,6 +121,7 @@ impl<K: Kept> Following<'_, K> {
     fn hand_in(&mut self, ticket: &Ticket) -> Result<(), Trouble> {
         let (desk, number) = (ticket.desk as usize, ticket.number);
         self.report.taken += 1;
+        self.open.insert(desk, number);
         let finished = Record::of(self.board.image(), desk).map_or(0, |record| record.finished);
         if number <= finished || self.at(desk).is_some() {
             return Ok(());
@@ -96,12 +137,27 @@ impl<K: Kept> Following<'_, K> {
             self.report.finished_before += 1;
             return;
         }
-        let words = of_ticket(cause, ticket, player, &Names::default());
+        let words = of_ticket(cause, ticket, player, self.names);
         self.tell(format!("desk {desk}, ticket {number}: {words}"));
     }
 
     fn tell(&mut self, what: String) {
         self.report.refused.push(format!("line {}: {what}", self.line));
+    }
+
+    /// A desk of the day that is idle has ended its ticket, or a cut has withdrawn it.
+    fn ended(&mut self, desk: usize, player: &Player) {
+        let Some(number) = self.open.get(&desk).copied().filter(|_| player.at(desk).is_none()) else {
+            return;
+        };
+        self.open.remove(&desk);
+        match player.record(desk).is_some_and(|record| number <= record.finished) {
+            true => self.report.finished += 1,
+            false => self.report.withdrawn.push(format!(
+                "line {}: the cut withdrew ticket {number} of desk {desk}, which was not begun; hand it in again",
+                self.line
+            )),
+        }
     }
 
     /// A turn that went on in the day is made, if it is this one that the board is at.
@@ -110,7 +166,7 @@ impl<K: Kept> Following<'_, K> {
             return Ok(());
         }
         self.board.turn(made.desk).map_err(|Refusal(cause)| refused("a turn", cause))?;
-        (self.made)();
+        (self.hear)(Heard::Turn);
         Ok(())
     }
 }
@@ -123,10 +179,14 @@ impl<K: Kept> Watch for Following<'_, K> {
             Event::HandedIn { ticket, refused: None } => self.hand_in(ticket)?,
             Event::HandedIn { ticket, refused: Some(cause) } => self.leave_out(ticket, cause, player),
             Event::Turned { answer: Turn::Waiting(_) | Turn::Idle, .. } | Event::Cut => {}
-            Event::Turned { at, .. } => self.turn(at)?,
+            Event::Turned { at, .. } => {
+                self.turn(at)?;
+                self.ended(at.desk, player);
+            }
             Event::TurnRefused { desk, cause } => self.tell(of_turn(cause, desk, player)),
             Event::Recovered { .. } => {
                 self.board.recover().map_err(|Refusal(cause)| refused("a recovery", cause))?;
+                (0..player.desks).for_each(|desk| self.ended(desk, player));
             }
         }
         Ok(())
@@ -153,20 +213,20 @@ fn differs(board: &impl Kept, player: &Player) -> Option<String> {
     Some(format!("desk {desk} does not stand where the day leaves it"))
 }
 
-/// Plays the lines of a day behind the first on a board, from the start that the day had; `line` is told of each before
-/// it is played, and `made` of each turn that is made on the board. Where the board is then not the day's, that is wrong.
+/// Plays the lines of a day behind the first on a board, from the start that the day had. Where the board is then not the
+/// day's, that is wrong.
 pub fn follow<K: Kept>(
     start: Player,
     frames: &[Frame],
+    names: &Names,
     board: &mut K,
-    line: &mut dyn FnMut(usize),
-    made: &mut dyn FnMut(),
+    hear: &mut dyn FnMut(Heard),
 ) -> Result<Report, Trouble> {
-    let mut player = start;
-    let mut following = Following { board, made, line: 1, report: Report::default() };
+    let (mut player, open, report) = (start, BTreeMap::new(), Report::default());
+    let mut following = Following { board, names, hear, line: 1, open, report };
     for (number, frame) in (2..).zip(frames) {
         following.line = number;
-        line(number);
+        (following.hear)(Heard::Line(number));
         player.play(frame, &mut following)?;
     }
     let mut report = following.report;

@@ -121,6 +121,16 @@ fn hand_in(rest: &[u8], digits: usize) -> Result<Frame, Malformed> {
     Ok(Frame::HandIn(Ticket { desk: number(desk) as u8, number: number_of, args, steps: words.collect() }))
 }
 
+/// What to do where a text in words is read as frame lines.
+pub fn hint(line: u64, why: Malformed) -> &'static str {
+    match why {
+        Malformed::Character { byte: b' '..=b'~' | b'\t', .. } if line == 1 => {
+            "; a day in words is made to frame lines by 'stow ticket'"
+        }
+        _ => "",
+    }
+}
+
 /// The bytes of a line, if they are digits and not too many.
 fn digits(line: &[u8]) -> Result<&[u8], Malformed> {
     let is_digit = |byte: &u8| matches!(byte, b'0'..=b'9' | b'a'..=b'f');

@@ -5,6 +5,7 @@
 
 mod arguments;
 pub mod cli;
+mod commands;
 pub mod day_file;
 pub mod explain;
 pub mod follow;

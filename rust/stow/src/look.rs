@@ -92,9 +92,9 @@ impl Bay {
 }
 
 impl Desk {
-    /// Whether its ticket is finished, and only the last store of its end is to be made.
+    /// Whether its ticket is finished, and only the last turns of its end are to be made.
     pub fn is_ending(&self) -> bool {
-        self.ticket.as_ref().is_some_and(|ticket| ticket.begun.is_none() && ticket.number == self.finished)
+        self.ticket.as_ref().is_some_and(|ticket| ticket.number == self.finished)
     }
 
     fn of(image: &[u64], desk: usize, record: &Record) -> Desk {

@@ -87,10 +87,14 @@ impl Player {
         }
     }
 
-    fn hand_in<W: Watch>(&mut self, ticket: &Ticket, watch: &mut W) -> Result<(), W::Error> {
+    pub fn submit(&mut self, ticket: &Ticket) -> Result<(), Refusal> {
         let Ticket { desk, number, args, steps } = ticket;
-        let done = zilpanud::submit(&mut self.image, &mut self.cursors, *desk as usize, *number, args, steps);
-        watch.see(Event::HandedIn { ticket, refused: done.err().map(|Refusal(cause)| cause) }, self)
+        zilpanud::submit(&mut self.image, &mut self.cursors, *desk as usize, *number, args, steps)
+    }
+
+    fn hand_in<W: Watch>(&mut self, ticket: &Ticket, watch: &mut W) -> Result<(), W::Error> {
+        let refused = self.submit(ticket).err().map(|Refusal(cause)| cause);
+        watch.see(Event::HandedIn { ticket, refused }, self)
     }
 
     /// One turn. One that waits is told as `times` turns.

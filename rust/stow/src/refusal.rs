@@ -18,7 +18,7 @@ fn told(what: impl Into<String>, remedy: impl Into<String>) -> Told {
 }
 
 /// What the check finds wrong at a step. `place` says where another step is: by its line, or by its number.
-pub fn fault(fault: &Fault, names: &Names, place: &dyn Fn(usize) -> String) -> Told {
+fn fault(fault: &Fault, names: &Names, place: &dyn Fn(usize) -> String) -> Told {
     match fault.cause() {
         Cause::Length => length(fault),
         Cause::Malformed { .. } => malformed(fault, place),
@@ -132,16 +132,26 @@ fn sentence(cause: Cause, at: &str, told: &Told) -> String {
     format!("refused with {}: {at}{what}; {remedy}", cause.number())
 }
 
-/// The refusal of a ticket that was handed in to a board: by its own steps, or by the board.
+/// Why a hand-in is refused: by the ticket's own steps, or by the board.
+pub fn of_hand_in(
+    cause: Cause,
+    ticket: &Ticket,
+    player: &Player,
+    names: &Names,
+    place: &dyn Fn(usize) -> String,
+) -> Told {
+    match zilpanud::check(&ticket.steps) {
+        Err(found) if found.cause() == cause => fault(&found, names, place),
+        _ => by_board(cause, ticket.desk as usize, ticket.number, player),
+    }
+}
+
+/// The refusal of a ticket in a day, where steps go by their numbers.
 pub fn of_ticket(cause: Cause, ticket: &Ticket, player: &Player, names: &Names) -> String {
-    let found = zilpanud::check(&ticket.steps).err().filter(|found| found.cause() == cause);
-    let Some(found) = found else {
-        return sentence(cause, "", &by_board(cause, ticket.desk as usize, ticket.number, player));
-    };
-    let words =
-        found.step().and_then(|at| Some(format!("at step {at} ({}), ", step(names, *ticket.steps.get(at)?))));
-    let told = fault(&found, names, &|step| format!("step {step}"));
-    sentence(cause, &words.unwrap_or_default(), &told)
+    let told = of_hand_in(cause, ticket, player, names, &|step| format!("step {step}"));
+    let at = cause.detail().and_then(|at| Some((at, *ticket.steps.get(at as usize)?)));
+    let at = at.map(|(at, instruction)| format!("at step {at} ({}), ", step(names, instruction)));
+    sentence(cause, &at.unwrap_or_default(), &told)
 }
 
 /// The refusal of a turn.
@@ -149,7 +159,8 @@ pub fn of_turn(cause: Cause, desk: usize, player: &Player) -> String {
     sentence(cause, "", &by_board(cause, desk, 0, player))
 }
 
-fn by_board(cause: Cause, desk: usize, number: u64, player: &Player) -> Told {
+/// Why a board refuses a hand-in or a turn of a desk, whatever the steps are.
+pub fn by_board(cause: Cause, desk: usize, number: u64, player: &Player) -> Told {
     let record = player.record(desk);
     let (finished, has) = record.map_or((0, 0), |record| (record.finished, record.number));
     match cause {

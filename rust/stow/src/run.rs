@@ -2,40 +2,33 @@
 //! uninterrupted day leaves ([`follow`](crate::follow)).
 
 use crate::day_file::{self, Underway};
-use crate::follow::{follow, Report};
-use crate::frame::{self, Frame};
+use crate::follow::{follow, Heard, Report};
+use crate::frame::{self, Frame, Malformed};
 use crate::language::names::Names;
 use crate::player::Player;
 use crate::refusal::of_image;
 use crate::say::counted;
 use crate::terminal::Progress;
-use crate::trouble::Trouble;
-use std::fmt::Display;
+use crate::trouble::{located, Trouble};
 use std::path::Path;
 use std::thread;
 use std::time::Duration;
 use zilpanud::{Board, BoardError, Refusal, WORKERS};
 
 /// The frames of a whole day behind its first line, and its number of desks.
-fn read(day: &[u8]) -> Result<(usize, Vec<Frame>), Trouble> {
-    let wrong = |line: usize, why: &dyn Display| {
-        Trouble::wrong(format!("line {line} {why} (cause 14); nothing was played"))
-    };
+fn read(day: &[u8]) -> Result<(usize, Vec<Frame>), String> {
+    let wrong = |line: u64, why: Malformed| format!("line {line} {why} (cause 14){}", frame::hint(line, why));
     let mut lines = frame::lines(day);
-    let Some(first) = lines.next() else {
-        return Err(Trouble::wrong("the day has no line; nothing was played"));
-    };
+    let first = lines.next().ok_or("there is no line in it")?;
     let desks = match frame::first_line(first) {
         Ok(Frame::Board { desks }) => desks as usize,
         Ok(_) => 0,
-        Err(why) => return Err(wrong(1, &why)),
+        Err(why) => return Err(wrong(1, why)),
     };
     if !(1..=WORKERS).contains(&desks) {
-        return Err(Trouble::wrong(format!(
-            "line 1: no board has {desks} desks (cause 10); nothing was played"
-        )));
+        return Err(format!("line 1: no board has {desks} desks (cause 10)"));
     }
-    let frames = (2..).zip(lines).map(|(number, line)| frame::frame(line).map_err(|why| wrong(number, &why)));
+    let frames = (2..).zip(lines).map(|(number, line)| frame::frame(line).map_err(|why| wrong(number, why)));
     Ok((desks, frames.collect::<Result<_, _>>()?))
 }
 
@@ -60,17 +53,17 @@ fn no_board(error: BoardError) -> Trouble {
 
 /// The board, recovered, and the day's start: that of a day that was cut, or the board as it is now.
 fn start(path: &Path, day: &[u8], desks: usize) -> Result<(Board, Underway, bool), Trouble> {
+    let kept = Underway::read(path)?;
+    if kept.is_some() && !path.exists() {
+        let what = format!("{}: the board is gone, and a day is under way on it", path.display());
+        return Err(Trouble::Wrong(vec![what, given_up(path, "bring the board back")]));
+    }
     let board = Board::open_or_create(path, desks).map_err(no_board)?;
-    match Underway::read(path)? {
-        Some(begun) if begun.day == day && begun.start.len() == board.image().len() => {
-            Ok((board, begun, true))
-        }
+    match kept {
+        Some(kept) if kept.day == day && kept.start.len() == board.image().len() => Ok((board, kept, true)),
         Some(_) => {
-            let kept = day_file::path(path);
-            let kept = kept.display();
             let what = format!("{}: another day was cut on this board, and is not over", path.display());
-            let remedy = format!("  run that day again first; where it is given up, remove {kept}");
-            Err(Trouble::Wrong(vec![what, remedy]))
+            Err(Trouble::Wrong(vec![what, given_up(path, "run that day again first")]))
         }
         None => {
             let begun = Underway { start: board.image().to_vec(), day: day.to_vec() };
@@ -78,6 +71,11 @@ fn start(path: &Path, day: &[u8], desks: usize) -> Result<(Board, Underway, bool
             Ok((board, begun, false))
         }
     }
+}
+
+/// What can be done where a day cannot be gone on with.
+fn given_up(path: &Path, remedy: &str) -> String {
+    format!("  {remedy}; or remove {}, and the day is given up", day_file::path(path).display())
 }
 
 /// A day that was played to its end.
@@ -89,60 +87,81 @@ pub struct Played {
     pub report: Report,
 }
 
-/// Plays a day on the board in a file; where it was cut before, it is played on. A pause follows each turn. When it is
-/// over that is told, and only then is it forgotten: whoever has not heard of it may give the command again.
-pub fn run(
-    path: &Path,
-    day: &[u8],
-    pause: Duration,
-    tell: impl FnOnce(&Played) -> Result<(), Trouble>,
-) -> Result<Played, Trouble> {
-    let (desks, frames) = read(day)?;
-    let (mut board, begun, went_on) = start(path, day, desks)?;
-    let start = Player::recovered(begun.start, desks);
-    let start =
-        start.map_err(|cause| Trouble::wrong(format!("{}: {cause}", day_file::path(path).display())))?;
-    let lines = frames.len() + 1;
-    let mut progress = Progress::new(lines);
-    let mut made = || {
-        if !pause.is_zero() {
-            thread::sleep(pause);
-        }
-    };
-    let followed = follow(start, &frames, &mut board, &mut |line| progress.at(line - 1), &mut made);
-    drop(progress);
-    let report = followed.map_err(|trouble| given_up(path, &trouble))?;
-    let played = Played { lines, went_on, report };
-    tell(&played)?;
-    day_file::remove(path)?;
-    Ok(played)
+/// A day to be played on the board in a file.
+pub struct Run<'a> {
+    pub path: &'a Path,
+    pub day: &'a [u8],
+    /// The name that the day is told by.
+    pub source: &'a str,
+    pub names: &'a Names,
+    /// Behind each turn.
+    pub pause: Duration,
 }
 
-/// What to do where a day cannot be played to its end.
-fn given_up(path: &Path, trouble: &Trouble) -> Trouble {
-    let mut lines: Vec<String> =
-        trouble.lines().iter().map(|line| format!("{}: {line}", path.display())).collect();
-    let kept = day_file::path(path);
-    lines.push(format!("  look at the board, and remove {} when the day is to be given up", kept.display()));
-    Trouble::Wrong(lines)
+impl Run<'_> {
+    /// Plays the day; where it was cut before, it is played on. When it is over that is told, and only then is it
+    /// forgotten: whoever has not heard of it may give the command again.
+    pub fn play(&self, tell: impl FnOnce(&Played) -> Result<(), Trouble>) -> Result<Played, Trouble> {
+        let (desks, frames) = read(self.day).map_err(|what| {
+            Trouble::wrong(located(self.source, format_args!("{what}; nothing was played")))
+        })?;
+        let (mut board, begun, went_on) = start(self.path, self.day, desks)?;
+        let start =
+            Player::recovered(begun.start, desks).map_err(|cause| self.stopped(&cause.to_string()))?;
+        if went_on {
+            self.try_out(&start, &frames, &board)?;
+        }
+        let lines = frames.len() + 1;
+        let mut progress = Progress::new(lines);
+        let mut hear = |heard: Heard| match heard {
+            Heard::Line(line) => progress.at(line - 1),
+            Heard::Turn if self.pause.is_zero() => {}
+            Heard::Turn => thread::sleep(self.pause),
+        };
+        let followed = follow(start, &frames, self.names, &mut board, &mut hear);
+        drop(progress);
+        let report = followed.map_err(|trouble| self.stopped(&trouble.lines().join("; ")))?;
+        let played = Played { lines, went_on, report };
+        tell(&played)?;
+        day_file::remove(self.path)?;
+        Ok(played)
+    }
+
+    /// Whether a day that was cut can be gone on with on this board: tried in memory, before any store.
+    fn try_out(&self, start: &Player, frames: &[Frame], board: &Board) -> Result<(), Trouble> {
+        let (image, cursors) = (board.image().to_vec(), *board.cursors());
+        let mut copy = Player { image, cursors, desks: start.desks };
+        let tried = follow(start.clone(), frames, self.names, &mut copy, &mut |_| {});
+        tried.map(|_| ()).map_err(|trouble| self.stopped(&trouble.lines().join("; ")))
+    }
+
+    /// A day that does not come to its end.
+    fn stopped(&self, what: &str) -> Trouble {
+        let what = format!("{}: the day cannot be gone on with: {what}", self.path.display());
+        Trouble::Wrong(vec![what, given_up(self.path, "look at the board")])
+    }
 }
 
 /// What a run came to, in words.
 pub fn text(path: &Path, played: &Played) -> String {
     let (path, Played { lines, went_on, report }) = (path.display(), played);
-    let Report { taken, finished_before, refused, open } = report;
+    let Report { taken, finished, finished_before, withdrawn, refused, open } = report;
     let lines = counted(*lines as u64, "line");
     let cut = if *went_on { ", going on where the day was cut" } else { "" };
-    let mut text = format!("{path}: {lines} played{cut}; {} taken", counted(*taken, "ticket"));
-    if *finished_before > 0 {
-        text += &format!(", {finished_before} finished before");
-    }
-    if !refused.is_empty() {
-        text += &format!(", {} refused", counted(refused.len() as u64, "line"));
+    let mut text =
+        format!("{path}: {lines} played{cut}; {} taken, {finished} finished", counted(*taken, "ticket"));
+    for (number, what) in [
+        (withdrawn.len() as u64, "withdrawn"),
+        (*finished_before, "left out, since finished before"),
+        (refused.len() as u64, "refused"),
+    ] {
+        if number > 0 {
+            text += &format!(", {number} {what}");
+        }
     }
     text += match open.is_empty() {
         true => "; all desks are idle\n",
         false => "; the day ends with tickets under way:\n",
     };
-    text + &open.iter().map(|one| format!("  {one}\n")).collect::<String>()
+    text + &open.iter().chain(withdrawn).map(|one| format!("  {one}\n")).collect::<String>()
 }

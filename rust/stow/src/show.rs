@@ -61,7 +61,7 @@ fn desk_line(names: &Names, number: usize, desk: &Desk) -> String {
     match &desk.ticket {
         None => format!("  desk {number}: idle; {finished}\n"),
         Some(_) if desk.is_ending() => {
-            format!("  desk {number}: {finished}, and the last store of its end is to be made\n")
+            format!("  desk {number}: {finished}, and the last turns of its end are to be made\n")
         }
         Some(ticket) => {
             format!("  desk {number}: {}; {finished}\n", ticket_line(ticket))

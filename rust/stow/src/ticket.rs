@@ -4,8 +4,9 @@ use crate::frame::{self, Frame};
 use crate::language::names::Names;
 use crate::language::{self, frame_words, is_day, Item, Mistake};
 use crate::player::Player;
-use crate::refusal::{fault, Told};
+use crate::refusal::{by_board, of_hand_in, Told};
 use crate::trouble::{located, Trouble};
+use zilpanud::{Refusal, WORKERS};
 
 /// How many mistakes are told at once.
 const TOLD: usize = 20;
@@ -25,26 +26,41 @@ fn refused(source: &str, line: usize, told: &Told, cause: u64) -> [String; 2] {
     [located(source, format_args!("line {line}: {what} (cause {cause})")), format!("  {remedy}")]
 }
 
-/// What the library says of a line in words.
-fn check(source: &str, item: &Item, names: &Names) -> Option<[String; 2]> {
+/// What the library says of a line in words, on a fresh board of so many desks: what it refuses there it refuses
+/// everywhere, but for a desk that is busy and a number that is finished.
+fn check(source: &str, item: &Item, desks: usize, names: &Names) -> Option<[String; 2]> {
+    let mut board = Player::fresh(desks).ok()?;
     match &item.frame {
-        Frame::HandIn(ticket) => {
-            let found = zilpanud::check(&ticket.steps).err()?;
-            let place = |step: usize| {
-                item.steps.get(step).map_or(format!("step {step}"), |at| format!("line {}", at.line))
-            };
-            let told = fault(&found, names, &place);
-            let line =
-                found.step().and_then(|step| item.steps.get(step)).map_or(item.place.line, |at| at.line);
-            Some(refused(source, line, &told, found.cause().number()))
-        }
         Frame::Board { desks } => {
             let cause = Player::fresh(*desks as usize).err()?;
             let (what, remedy) =
                 (format!("no board has {desks} desks"), "a board has 1 to 8 desks".to_string());
             Some(refused(source, item.place.line, &Told { what, remedy }, cause.number()))
         }
+        Frame::HandIn(ticket) => {
+            let Refusal(cause) = board.submit(ticket).err()?;
+            let place = |step: usize| {
+                item.steps.get(step).map_or(format!("step {step}"), |at| format!("line {}", at.line))
+            };
+            let told = of_hand_in(cause, ticket, &board, names, &place);
+            let step = cause.detail().and_then(|step| item.steps.get(step as usize));
+            Some(refused(source, step.map_or(item.place.line, |at| at.line), &told, cause.number()))
+        }
+        Frame::Turns { desk, turns: 1.. } => {
+            let Refusal(cause) =
+                zilpanud::turn(&mut board.image, &mut board.cursors, *desk as usize).err()?;
+            let told = by_board(cause, *desk as usize, 0, &board);
+            Some(refused(source, item.place.line, &told, cause.number()))
+        }
         Frame::Turns { .. } | Frame::Rounds { .. } | Frame::Cut => None,
+    }
+}
+
+/// The desks of the board that a text begins with; where it has none, all that there can be.
+fn desks(items: &[Item]) -> usize {
+    match items.first().map(|item| &item.frame) {
+        Some(Frame::Board { desks }) if Player::fresh(*desks as usize).is_ok() => *desks as usize,
+        _ => WORKERS,
     }
 }
 
@@ -58,7 +74,8 @@ pub fn ticket(source: &str, bytes: &[u8], names: &mut Names) -> Result<(String, 
         )));
     }
     let lines = items.iter().map(|item| format!("{}\n", item.frame)).collect();
-    let refusals = items.iter().filter_map(|item| check(source, item, names)).flatten().collect();
+    let desks = desks(&items);
+    let refusals = items.iter().filter_map(|item| check(source, item, desks, names)).flatten().collect();
     Ok((lines, refusals))
 }
 
@@ -71,10 +88,11 @@ pub fn words(source: &str, bytes: &[u8], names: &Names) -> (String, Option<Troub
         match read {
             Ok(frame) => text += &frame_words(&frame, names),
             Err(why) => {
-                let what = format_args!("line {number} {why} (cause 14)");
+                let what = format_args!("line {number} {why} (cause 14){}", frame::hint(number, why));
                 return (text, Some(Trouble::wrong(located(source, what))));
             }
         }
     }
-    (text, None)
+    let none = bytes.is_empty().then(|| Trouble::wrong(located(source, "there is no line in it")));
+    (text, none)
 }

@@ -10,6 +10,7 @@ mod common;
 use common::Draw;
 use stow::follow::{follow, Kept};
 use stow::frame::{Frame, Ticket};
+use stow::language::names::Names;
 use stow::player::Player;
 use stow::trouble::Trouble;
 use zilpanud::cut::{self, ENOUGH};
@@ -56,7 +57,7 @@ impl Cuttable {
 
     /// Plays a day, or as much of it as there are stores. Whoever is cut does not see how it ended.
     fn play(&mut self, start: &Player, frames: &[Frame]) -> Result<(), Trouble> {
-        follow(start.clone(), frames, self, &mut |_| {}, &mut || {}).map(|_| ())
+        follow(start.clone(), frames, &Names::default(), self, &mut |_| {}).map(|_| ())
     }
 }
 

@@ -12,8 +12,9 @@ use stow::language::names::Names;
 use stow::language::{day, names_file};
 use stow::look::Look;
 use stow::player::Player;
+use stow::run::Run;
 use stow::ticket::{ticket, words};
-use stow::{picture, run, show, waits};
+use stow::{picture, show, waits};
 use zilpanud::{day_sums, image_len, Cause, DayEnd, WORKERS};
 
 const INPUTS: u64 = 3_000;
@@ -219,7 +220,9 @@ fn runs_of_any_bytes() {
             fs::write(day_file::path(&board), any_bytes(&mut draw)).unwrap();
         }
         let before = fs::read(&board).ok();
-        match run::run(&board, &bytes, Duration::ZERO, |_| Ok(())) {
+        let run =
+            Run { path: &board, day: &bytes, source: "", names: &Names::default(), pause: Duration::ZERO };
+        match run.play(|_| Ok(())) {
             Ok(_) => {
                 assert!(!no_board && !no_day && !day_file::path(&board).exists());
                 played += 1;

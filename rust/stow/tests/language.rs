@@ -73,24 +73,26 @@ fn names_and_labels() {
 }
 
 /// Texts, and of the first mistake its line, its column and a part of what is told.
+#[rustfmt::skip]
 const MISTAKES: &[(&str, usize, usize, &str)] = &[
     ("tkae 3", 1, 1, "no statement begins with 'tkae'; did you mean 'take'?"),
     ("desk 0 number 1\n  Take 3", 2, 3, "no statement begins with 'Take'; did you mean 'take'?"),
     ("desk 0 number 1\ntake", 2, 5, "the statement ends here, and the number of a bay is expected"),
-    ("desk 0 number 1\ntake 70000", 2, 6, "'70000' is no number of a bay; the bays are 0 to 63"),
-    (
-        "desk 0 number 1\ntake 3 4",
-        2,
-        8,
-        "'4' stands behind the 'take' statement, where nothing more is expected",
-    ),
+    ("desk 0 number 1\ntake 70000", 2, 6, "'70000' is too large for a bay; the bays are 0 to 63"),
+    ("desk 0 number 1\ntake 3 4", 2, 8, "'4' stands behind the 'take' statement, where nothing more is expected"),
+    ("desk 0 number 1\ntake yard", 2, 6, "'yard' is no name here; names are given by '--names FILE', or by 'let'"),
+    ("desk 0 number 1\ntoo_few := 5", 2, 1, "'too_few' is no name here; names are given by '--names FILE', or by 'let'"),
     ("desk 0 number 1\nword 24 = 5", 2, 9, "here is '=', and ':=' is expected; write ':='"),
+    ("desk 0 number 1\nword 24 += own 0", 2, 9, "write 'word 24 := word 24 + own 0'"),
     ("desk 0 number 1\nword 24 := word 25", 2, 19, "to copy a word, add one that is 0"),
     ("desk 0 number 1\nword 24 := word 24 + 1", 2, 22, "give it as an argument and write 'own'"),
+    ("desk 0 number 1\nown 1 := word 24 <= own 0", 2, 19, "there is '<' alone"),
+    ("desk 0 number 1\nword 24 := -5", 2, 12, "there are no numbers below 0"),
     ("desk 0 number 1\nword 24 := 4294967296", 2, 12, "give a larger number as an argument"),
-    ("desk 0 number 1\nown 8 := 5", 2, 5, "'8' is no number of an own word; a desk has own 0 to 7"),
-    ("desk 0 number 1\nword 24x := 5", 2, 6, "'24x' is no number of a word; numbers are decimal"),
-    ("desk 0 number 1\nif own 1 is 1 go to x", 2, 13, "a skip asks whether a word is 0, and nothing else"),
+    ("desk 0 number 1\nown 8 := 5", 2, 5, "'8' is too large for an own word; a desk has own 0 to 7"),
+    ("desk 0 number 1\nword 24x := 5", 2, 6, "'24x' is not a number; numbers are decimal"),
+    ("desk 0 number 1\nif own 1 is 1 go to x", 2, 10, "a skip asks whether a word 'is 0', and nothing else; compare first"),
+    ("desk 0 number 1\nif word 24 < own 0 go to x", 2, 12, "a skip asks whether a word 'is 0', and nothing else; compare first"),
     ("desk 0 number 1\nif own 1 is 0 go to x", 2, 21, "no step of this ticket has the label 'x'"),
     ("desk 0 number 1\ndone: end\nif own 1 is 0 go to dne", 3, 21, "did you mean 'done'?"),
     ("desk 0 number 1\nif own 1 is 0 go to 4", 2, 21, "write 'go to step 4'"),
@@ -99,24 +101,22 @@ const MISTAKES: &[(&str, usize, usize, &str)] = &[
     ("desk 0 number 1\nword: end", 2, 1, "'word' is a word of the language, and names nothing"),
     ("let shed = word 24\ndesk 0 number 1\nshet := 5", 3, 1, "did you mean 'shed'?"),
     ("let shed = word 24\nlet shed = word 25", 2, 5, "'shed' is word 24 already"),
-    (
-        "let shed = word 24\ndesk 0 number 1\ntake shed",
-        3,
-        6,
-        "'shed' is word 24, and a bay is expected; it belongs to bay 3",
-    ),
+    ("let shed = word 24\ndesk 0 number 1\ntake shed", 3, 6, "'shed' is word 24, and a bay is expected; it belongs to bay 3"),
     ("let shed = 24", 1, 12, "'word', 'own' or 'bay' and its number is expected"),
+    ("let shed-two = word 24", 1, 9, "a name has letters, digits and '_'"),
+    ("let shed = bay 64", 1, 5, "there is no such bay to be named; the bays are 0 to 63"),
+    ("let shed = word 520", 1, 5, "there is no such word to be named"),
     ("take 3", 1, 1, "a step stands in a ticket, and none is begun here"),
     ("board of 1 desk\nboard of 1 desk", 2, 1, "a day has one board, and it stands first"),
     ("cut", 1, 1, "a cut is no beginning"),
-    ("board of 300 desks", 1, 10, "'300' is no number of desks; a board has 1 to 8 desks"),
+    ("board of 300 desks", 1, 10, "'300' is too large for desks; a board has 1 to 8 desks"),
     ("desk 0 tuns 5", 1, 8, "did you mean 'turns'?"),
     ("desk 0 turns 65536", 1, 14, "a line has 0 to 65535 turns"),
     ("desk 0 number 1 with 1 2 3 4 5 6 7 8 9", 1, 38, "a ticket has eight arguments; this is the ninth"),
     ("desk 0 number 1 with 1, 2", 1, 23, "with blanks between them and no commas"),
     ("desk 0 number 1\ncode 00", 2, 6, "16 digits, 0 to 9 and a to f, are expected"),
     ("desk 0 number 1\nword 24 := word 24 \u{2212} own 0", 2, 20, "write '-' for a difference"),
-    ("desk 0 number 1\nKõrge := 5", 2, 1, "no statement begins with 'Kõrge'"),
+    ("desk 0 number 1\nKõrge 5", 2, 1, "no statement begins with 'Kõrge'"),
 ];
 
 #[test]
@@ -126,6 +126,19 @@ fn mistakes_say_where_and_what_was_meant() {
         assert_eq!((&found[0].line, &found[0].column), (line, column), "{text}: {}", found[0]);
         assert!(found[0].to_string().contains(told), "{text}: {}", found[0]);
     }
+}
+
+/// A line that was to begin a ticket is told, and not each step below it; and of a long number only its beginning.
+#[test]
+fn one_mistake_is_told_once() {
+    for header in ["dsk 0 number 1", "desk 0 nmber 1", "desk 300 number 1", "desk 0 number x"] {
+        let text = format!("{header}\ntake 3\nagain: word 24 := 5\ndrop 3\nend\ndesk 0 number 2\ntke 4\n");
+        let found = day(text.as_bytes(), &mut Names::default()).unwrap_err();
+        assert_eq!(found.iter().map(|mistake| mistake.line).collect::<Vec<_>>(), [1, 7], "{header}");
+    }
+    let found =
+        day(format!("desk 0 number {}", "9".repeat(5_000)).as_bytes(), &mut Names::default()).unwrap_err();
+    assert!(found[0].to_string().len() < 200, "{}", found[0]);
 }
 
 /// All mistakes of a text are told, in their order.
@@ -192,6 +205,15 @@ fn refusals_say_the_line() {
         assert!(refusals[1].starts_with("  "), "{refusals:?}");
     }
     assert_eq!(refusals("board of 9 desks")[0], "line 1: no board has 9 desks (cause 10)");
+    let steps = "take 3; word 24 := 5; drop 3; end";
+    for (text, told) in [
+        (format!("desk 0 number 0; {steps}"), "line 1: 0 is no ticket's number (cause 3)"),
+        (format!("desk 8 number 1; {steps}"), "line 1: the board has no desk 8 (cause 1)"),
+        (format!("board of 2 desks\ndesk 2 number 1; {steps}"), "line 2: the board has no desk 2 (cause 1)"),
+        ("board of 2 desks\ndesk 5 turns 3".to_string(), "line 2: the board has no desk 5 (cause 1)"),
+    ] {
+        assert_eq!(refusals(&text)[0], told);
+    }
     assert_eq!(refusals(&ticket("take 3\nword 24 := 5\ndrop 3\nend")), Vec::<String>::new());
 }
 

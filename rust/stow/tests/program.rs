@@ -9,8 +9,10 @@ use std::path::PathBuf;
 use std::process::{Command, Output, Stdio};
 use std::thread;
 use std::time::Duration;
+use stow::day_file::Underway;
 use stow::frame::Frame;
-use zilpanud::{Board, Cause};
+use stow::player::Player;
+use zilpanud::{code, Board, Cause};
 
 /// The papers' ticket, five turns, a cut.
 const PAPERS: &str =
@@ -113,7 +115,7 @@ fn the_papers_day_explained() {
         "024e 0000000000000008  desk 0, step 0: means to have bay 3",
         "020b 0000000000000001  desk 0, step 0: has bay 3",
         "0249 8000000000000001  desk 0, step 0: the ticket is begun",
-        "020b 0000000000000000  recovery: bay 3 is given free",
+        "020b 0000000000000000  recovery: bay 3 is freed",
         "024e 0000000000000008  recovery: desk 0 means to have what it is owed: bay 3",
         "020b 0000000000000001  recovery: desk 0 has bay 3",
     ] {
@@ -128,12 +130,15 @@ fn the_papers_day_explained() {
 fn what_is_wrong_is_told_with_a_status() {
     let folder = Folder::new("wrong");
     let (no_day, empty) = (folder.file("day", "01\n0x\n"), folder.file("empty", ""));
+    let words = folder.file("words", PAPERS);
     let missing = folder.path("missing");
     for (arguments, status, told) in [
         (&[][..], 2, "what is to be done?"),
+        (&["help", "nothing"], 2, "there is no help on 'nothing'"),
         (&["tickte"], 2, "there is no command 'tickte'; did you mean 'ticket'?"),
         (&["show"], 2, "usage: stow show [OPTION ..] IMAGE"),
-        (&["explain", "a", "b"], 2, "usage: stow explain [OPTION ..] DAY"),
+        (&["run"], 2, "usage: stow run [OPTION ..] IMAGE [DAY]"),
+        (&["explain", "a", "b"], 2, "usage: stow explain [OPTION ..] [DAY]"),
         (&["explain", "--breif"], 2, "there is no option '--breif' here; did you mean '--brief'?"),
         (&["explain", "--brief", "--turns"], 2, "--brief and --turns are two different things"),
         (&["explain", &missing], 2, "missing: No such file"),
@@ -141,15 +146,18 @@ fn what_is_wrong_is_told_with_a_status() {
         (&["waits", &no_day], 1, "line 2 is malformed (14)"),
         (&["words", &no_day], 1, "line 2 has 'x' at column 2"),
         (&["ticket", &empty], 1, "there is no ticket in it"),
+        (&["explain", &empty], 1, "empty: there is no line in it"),
+        (&["words", &empty], 1, "empty: there is no line in it"),
+        (&["explain", &words], 1, "a day in words is made to frame lines by 'stow ticket'"),
         (&["show", &empty], 1, "0 bytes are no board; one of 1 to 8 desks has 5328, 5984"),
         (&["show", "--watch", &empty], 2, "--watch draws on a terminal, and standard output is none"),
         (&["run", &missing, &no_day], 1, "line 2 has 'x' at column 2"),
-        (&["run", &missing, &empty], 1, "the day has no line; nothing was played"),
+        (&["run", &missing, &empty], 1, "empty: there is no line in it; nothing was played"),
         (&["run", "--pause", "soon", &missing, &no_day], 2, "--pause wants a number of milliseconds"),
     ] {
         let (_, said, ended) = given(arguments);
         assert!(
-            ended == status && said.starts_with("stow ") && said.contains(told),
+            ended == status && said.starts_with("stow") && said.contains(told),
             "{arguments:?}: {ended}, {said}"
         );
     }
@@ -186,9 +194,8 @@ fn a_board_is_shown_and_not_touched() {
     let day = folder.file("day", day);
     let (played, said, status) = given(&["run", &board, &day]);
     assert_eq!((said.as_str(), status), ("", 0));
-    assert!(played.ends_with(
-        "1 ticket taken; the day ends with tickets under way:\n  desk 0 is at step 0 of ticket 1\n"
-    ));
+    let under_way = "the day ends with tickets under way:\n  desk 0 is at step 0 of ticket 1\n";
+    assert!(played.ends_with(&format!("1 ticket taken, 0 finished; {under_way}")), "{played}");
     let before = fs::read(&board).unwrap();
     let (shown, said, status) = given(&["show", &board, "--svg", &picture]);
     assert_eq!((said.as_str(), status), ("", 0));
@@ -265,6 +272,76 @@ fn a_killed_run_and_the_same_command_again() {
     assert!(kills > 5, "{kills}");
 }
 
+/// A picture is written over nothing but a picture.
+#[test]
+fn a_picture_is_written_over_nothing_else() {
+    let folder = Folder::new("picture");
+    let day = folder.file("day", "01\n04ffff\n");
+    let (board, picture) = (folder.path("board"), folder.path("picture"));
+    assert_eq!(given(&["run", &board, &day]).2, 0);
+    let before = fs::read(&board).unwrap();
+    for arguments in
+        [["show", "--svg", &board, &board], ["waits", "--svg", &board, &day], ["waits", "--svg", &day, &day]]
+    {
+        let (_, said, status) = given(&arguments);
+        assert!(said.contains("this is no picture, and is not written over") && status == 2, "{said}");
+    }
+    assert!(fs::read(&board).unwrap() == before && fs::read_to_string(&day).unwrap() == "01\n04ffff\n");
+    for _ in 0..2 {
+        assert_eq!(given(&["show", "--svg", &picture, &board]).2, 0);
+    }
+    assert!(fs::read(&picture).unwrap().starts_with(b"<svg "));
+}
+
+/// A cut of the day's own withdraws a ticket: that is told. A board that is damaged is shown, with status 1.
+#[test]
+fn what_became_of_the_tickets_is_told() {
+    let folder = Folder::new("became");
+    let (day, ..) = given_input(&["ticket"], &PAPERS.replace("turns 5", "turns 4"));
+    let (board, day) = (folder.path("board"), folder.file("day", day));
+    let (played, said, status) = given(&["run", &board, &day]);
+    assert_eq!((said.as_str(), status), ("", 0));
+    let told = "1 ticket taken, 0 finished, 1 withdrawn; all desks are idle\n  \
+                line 4: the cut withdrew ticket 1 of desk 0, which was not begun; hand it in again\n";
+    assert!(played.ends_with(told), "{played}");
+
+    let mut bytes = fs::read(&board).unwrap();
+    bytes[8 * 584] = 1; // the first desk has a ticket of one step
+    fs::write(&board, &bytes).unwrap();
+    let (shown, said, status) = given(&["show", &board]);
+    assert!(shown.contains("a recovery is refused with 12: desk 0's record is not sound") && status == 1);
+    assert!(said.ends_with(": a recovery is refused with 12\n"), "{said}");
+}
+
+/// A board that something else put in the place of the one that the day is under way on: nothing is stored on it.
+#[test]
+fn a_cut_day_is_gone_on_with_on_its_own_board_alone() {
+    let folder = Folder::new("own-board");
+    let (board, path) = (folder.path("board"), folder.0.join("board"));
+    let (day, ..) = given_input(&["ticket"], &PAPERS.replace("turns 5; cut", "turns 65535"));
+    let kept = Underway { start: Player::fresh(1).unwrap().image, day: day.clone().into_bytes() };
+    let day = folder.file("day", day);
+    kept.keep(&path).unwrap();
+    let (_, said, status) = given(&["run", &board, &day]);
+    assert!(said.contains("the board is gone, and a day is under way on it") && status == 1, "{said}");
+    assert!(!path.exists());
+
+    let mut other = Board::create(&path, 1).unwrap();
+    other
+        .submit(0, 1, &[0; 8], &[code::acquire(0), code::set(0, 9), code::release(0), code::finish()])
+        .unwrap();
+    other.run_to_idle().unwrap();
+    drop(other);
+    let before = fs::read(&board).unwrap();
+    let (_, said, status) = given(&["run", &board, &day]);
+    assert!(
+        said.contains("cannot be gone on with: word 0 is 9, and the day leaves 0") && status == 1,
+        "{said}"
+    );
+    assert!(said.contains(&format!("remove {board}.day")) && fs::read(&board).unwrap() == before);
+    assert!(given(&["show", &board]).0.starts_with("a day is under way on this board: "));
+}
+
 /// A day that was cut is not forgotten: another is refused, and by its file it is given up.
 #[test]
 fn another_day_is_refused_while_one_is_under_way() {
@@ -283,11 +360,13 @@ fn another_day_is_refused_while_one_is_under_way() {
     assert!(said.contains(&format!("remove {board}.day")), "{said}");
     let (played, _, status) = given(&["run", &board, &day]);
     assert!(
-        played.contains("going on where the day was cut; 1 ticket taken; all desks are idle") && status == 0
+        played.contains("going on where the day was cut; 1 ticket taken, 1 finished; all desks are idle")
+            && status == 0
     );
     let (played, _, status) = given(&["run", &board, &day]);
     assert!(
-        played.contains("0 tickets taken, 1 finished before; all desks are idle") && status == 0,
+        played.contains("0 tickets taken, 0 finished, 1 left out, since finished before; all desks are idle")
+            && status == 0,
         "{played}"
     );
     assert_eq!(Board::open(&board).unwrap().cell(24), Some(5));

@@ -13,6 +13,8 @@ use std::process::{Command, Stdio};
 use std::sync::mpsc::{self, Receiver};
 use std::thread;
 use std::time::{Duration, Instant};
+use stow::language::names::Names;
+use stow::run::Run;
 
 const ROWS: usize = 12;
 const COLUMNS: usize = 60;
@@ -90,7 +92,8 @@ fn board(name: &str) -> (PathBuf, String) {
         stow::ticket::ticket("", format!("board of 8 desks\n{tickets}").as_bytes(), &mut Default::default())
             .unwrap();
     let path = folder.join("board");
-    stow::run::run(&path, lines.as_bytes(), Duration::ZERO, |_| Ok(())).unwrap();
+    let (day, names) = (lines.as_bytes(), Names::default());
+    Run { path: &path, day, source: "", names: &names, pause: Duration::ZERO }.play(|_| Ok(())).unwrap();
     (folder, path.to_str().unwrap().to_string())
 }
 

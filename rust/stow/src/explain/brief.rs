@@ -19,6 +19,8 @@ struct Row {
     /// Refused, begun, cut, finished: in which lines.
     came: Vec<String>,
     is_begun: bool,
+    /// Its number is the last finished one.
+    is_finished: bool,
     /// Its desk still has it.
     is_open: bool,
     turns: u64,
@@ -42,7 +44,8 @@ impl Brief<'_> {
         let came = refused.map(|cause| of_ticket(cause, ticket, player, self.names));
         let (is_open, came) = (came.is_none(), came.into_iter().collect());
         let (line, turns, waits) = (self.line, 0, BTreeMap::new());
-        self.rows.push(Row { line, desk, number, came, is_begun: false, is_open, turns, waits });
+        let (is_begun, is_finished) = (false, false);
+        self.rows.push(Row { line, desk, number, came, is_begun, is_finished, is_open, turns, waits });
     }
 
     fn turned(&mut self, desk: usize, answer: Turn, times: u64) {
@@ -65,6 +68,7 @@ impl Brief<'_> {
                 row.is_begun = true;
                 row.came.push(format!("begun in line {line}"));
             }
+            Some(Place::Record { word: RecordWord::Finished, .. }) => row.is_finished = true,
             Some(Place::Record { word: RecordWord::Count, .. }) => {
                 row.is_open = false;
                 row.came.push(format!("finished in line {line}"));
@@ -91,12 +95,15 @@ impl Brief<'_> {
     }
 
     fn say(&self, row: &Row) -> String {
-        let Row { line, desk, number, came, is_begun, is_open, turns, waits } = row;
+        let Row { line, desk, number, came, is_begun, is_finished, is_open, turns, waits } = row;
         let mut came = came.clone();
-        match (is_open, is_begun) {
-            (true, false) => came.push("not begun at the end of the day".to_string()),
-            (true, true) => came.push("under way at the end of the day".to_string()),
-            (false, _) => {}
+        match (is_open, is_begun, is_finished) {
+            (false, ..) => {}
+            (true, false, _) => came.push("not begun at the end of the day".to_string()),
+            (true, true, false) => came.push("under way at the end of the day".to_string()),
+            (true, true, true) => {
+                came.push("finished but for its last turns at the end of the day".to_string())
+            }
         }
         let waits =
             waits.iter().map(|(lock, times)| format!("{times} that waited for {}", bay(self.names, *lock)));

@@ -57,6 +57,8 @@ pub struct Teller<'a, W> {
     names: &'a Names,
     /// The board before the last turn.
     before: Player,
+    /// Nothing has happened in this line.
+    is_silent: bool,
 }
 
 impl<W: Write> Teller<'_, W> {
@@ -108,6 +110,7 @@ impl<W: Write, M: Manner<W>> Watch for Telling<'_, '_, W, M> {
     type Error = io::Error;
 
     fn see(&mut self, event: Event<'_>, player: &Player) -> io::Result<()> {
+        self.told.is_silent = false;
         match event {
             Event::Turned { at, answer, times } => {
                 self.manner.turned(self.told, at, answer, times, player)?;
@@ -155,18 +158,31 @@ fn told<W: Write, M: Manner<W>>(day: &[u8], names: &Names, mut out: W, manner: &
         Err(end) => return Ok(end),
     };
     writeln!(out, "line 1: a fresh board of {}", crate::say::counted(player.desks as u64, "desk"))?;
-    let mut told = Teller { out, names, before: player.clone() };
+    let mut told = Teller { out, names, before: player.clone(), is_silent: false };
     for (number, line) in (2..).zip(lines) {
         let frame = match frame::frame(line) {
             Ok(frame) => frame,
             Err(why) => return Ok(End::Malformed { line: number, why }),
         };
         told.raw(&format!("line {number}: {}", heading(&frame, names)))?;
+        told.is_silent = true;
         player.play(&frame, &mut Telling { told: &mut told, manner })?;
         manner.ended(&mut told)?;
+        if told.is_silent {
+            told.say(idle(&frame))?;
+        }
     }
     at_the_end(&mut told, &player)?;
     Ok(End::Read)
+}
+
+/// Why nothing happens in a line.
+fn idle(frame: &Frame) -> &'static str {
+    match frame {
+        Frame::Turns { turns: 0, .. } | Frame::Rounds { rounds: 0 } => "nothing is to be done",
+        Frame::Turns { .. } => "the desk is idle, and nothing is done",
+        _ => "all desks are idle, and nothing is done",
+    }
 }
 
 /// A frame in one line; a ticket with its steps side by side.

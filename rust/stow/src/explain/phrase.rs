@@ -2,7 +2,7 @@
 
 use crate::language::names::Names;
 use crate::player::{At, Player};
-use crate::say::{bay, bays, plain_word, word};
+use crate::say::{bay, bays, word};
 use zilpanud::code::{fields_of, own};
 use zilpanud::{Passing, Place, RecordWord, Turn};
 
@@ -119,9 +119,11 @@ pub fn unstored(names: &Names, player: &Player, at: At, answer: Turn) -> String 
         }
         Turn::Passed(Passing::Jump) => {
             let now = player.at(at.desk).map_or(at.step, |now| now.step);
-            match now == target as usize && target as usize != at.step + 1 {
-                true => format!("{} is 0: goes on at step {now}", plain_word(a)),
-                false => format!("goes on at step {now}"),
+            let (word, next) = (word(names, a), at.step + 1);
+            match (now == target as usize, now == next) {
+                (true, true) => format!("goes on at step {now}, whatever {word} is"),
+                (true, false) => format!("{word} is 0: goes on at step {now}"),
+                (false, _) => format!("{word} is not 0: goes on at step {now}"),
             }
         }
         Turn::Idle | Turn::Stored(_) => String::new(),

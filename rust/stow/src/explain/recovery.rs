@@ -23,8 +23,8 @@ fn stood(names: &Names, player: &Player, desk: usize) -> Option<String> {
     let (at, record) = (player.at(desk)?, player.record(desk)?);
     let instruction = record.steps.get(at.step).copied().unwrap_or(0);
     let begun = match (record.pc, record.number <= record.finished) {
+        (_, true) => "finished, but for its last turns",
         (0, false) => "not begun",
-        (0, true) => "finished",
         _ => "begun",
     };
     let (number, words) = (at.number, step(names, instruction));
@@ -44,11 +44,7 @@ pub fn recovered(names: &Names, before: &Player, after: &Player, stores: &[Store
     });
     let freed: u64 = freed.fold(0, |all, bay| all | bay);
     if freed != 0 {
-        said.push(format!(
-            "  {}, which desks meant to have, {} given free",
-            bays(names, freed),
-            is_are(freed)
-        ));
+        said.push(format!("  {}, which desks meant to have, {} freed", bays(names, freed), is_are(freed)));
     }
     let mut idle = vec![];
     for desk in 0..after.desks {

@@ -1,5 +1,5 @@
-//! A day told step by step: for each line, what each desk did in it, a row for each step that it worked on. Of a step
-//! that was made from its first turn to its last the bookkeeping is left out.
+//! A day told step by step: for each line, what each desk did in it, a row for each step that it worked on, by its first
+//! turn in the line. Of a step that was made from its first turn to its last the bookkeeping is left out.
 
 use super::phrase::{is_aside, stored, unstored};
 use super::{Manner, Teller};
@@ -13,6 +13,8 @@ struct Row {
     at: At,
     instruction: u64,
     did: Vec<Did>,
+    /// Told from its first turn on, here or in a row above.
+    is_from_start: bool,
     /// Made to its last turn.
     is_done: bool,
 }
@@ -21,6 +23,7 @@ struct Did {
     words: String,
     times: u64,
     is_aside: bool,
+    is_wait: bool,
     /// The address of a note, which the value's words say again.
     is_address: bool,
 }
@@ -31,14 +34,17 @@ pub struct Steps {
 }
 
 impl Steps {
-    fn row(&mut self, at: At, player: &Player) -> &mut Row {
+    /// The row that a desk's turn belongs to. Where a wait ends a new one begins, behind what ended it.
+    fn row(&mut self, at: At, is_wait: bool, player: &Player) -> &mut Row {
         let same = |row: &Row| (row.at.number, row.at.step) == (at.number, at.step);
-        let last =
-            self.rows.iter().rposition(|row| row.at.desk == at.desk).filter(|last| same(&self.rows[*last]));
-        let place = last.unwrap_or_else(|| {
+        let last = self.rows.iter().rposition(|row| row.at.desk == at.desk);
+        let last = last.filter(|last| same(&self.rows[*last]));
+        let ends_wait = |row: &Row| !is_wait && row.did.last().is_some_and(|did| did.is_wait);
+        let place = last.filter(|last| !ends_wait(&self.rows[*last])).unwrap_or_else(|| {
             let record = player.record(at.desk);
             let instruction = record.and_then(|record| record.steps.get(at.step).copied()).unwrap_or(0);
-            self.rows.push(Row { at, instruction, did: vec![], is_done: false });
+            let is_from_start = at.turn == 0 || last.is_some_and(|last| self.rows[last].is_from_start);
+            self.rows.push(Row { at, instruction, did: vec![], is_from_start, is_done: false });
             self.rows.len() - 1
         });
         &mut self.rows[place]
@@ -69,23 +75,24 @@ impl<W: Write> Manner<W> for Steps {
                 let (place, old) = (Place::of(index), told.old(index));
                 let is_address = matches!(place, Some(Place::Record { word: RecordWord::Address(_), .. }));
                 let words = stored(told.names, player, index, old);
-                Did { words, times, is_aside: is_aside(index, old), is_address }
+                Did { words, times, is_aside: is_aside(index, old), is_wait: false, is_address }
             }
             _ => {
                 let words = unstored(told.names, player, at, answer);
-                Did { words, times, is_aside: false, is_address: false }
+                let is_wait = matches!(answer, Turn::Waiting(_));
+                Did { words, times, is_aside: false, is_wait, is_address: false }
             }
         };
-        let row = self.row(at, player);
+        let row = self.row(at, did.is_wait, player);
         row.add(did);
         row.is_done = player.at(at.desk).map(|now| (now.number, now.step)) != Some((at.number, at.step));
         Ok(())
     }
 
     fn ended(&mut self, told: &mut Teller<'_, W>) -> io::Result<()> {
-        for Row { at, instruction, did, is_done } in self.rows.drain(..) {
+        for Row { at, instruction, did, is_from_start, is_done } in self.rows.drain(..) {
             let words = step(told.names, instruction);
-            let whole = is_done && at.turn == 0;
+            let whole = is_done && is_from_start;
             let did: Vec<String> = did.iter().filter(|did| !whole || !did.is_aside).map(said).collect();
             told.say(&format!(
                 "desk {}, ticket {}, step {} ({words}): {}",

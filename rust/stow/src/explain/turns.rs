@@ -74,7 +74,7 @@ fn refused(event: &Event<'_>) -> Option<Cause> {
 fn recovery<W: Write>(told: &Teller<'_, W>, store: &Store) -> String {
     let bays = |mask| crate::say::bays(told.names, mask);
     let doing = match Place::of(store.index) {
-        Some(Place::Owner(bay)) if store.value == 0 => format!("{} is given free", bays(1 << bay)),
+        Some(Place::Owner(bay)) if store.value == 0 => format!("{} is freed", bays(1 << bay)),
         Some(Place::Owner(bay)) => format!("desk {} has {}", store.value - 1, bays(1 << bay)),
         Some(Place::Record { worker, word: RecordWord::Intent }) => {
             format!("desk {worker} means to have what it is owed: {}", bays(store.value))

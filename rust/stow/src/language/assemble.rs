@@ -2,7 +2,7 @@
 
 use super::meant::did_you_mean;
 use super::names::{Names, Thing};
-use super::scan;
+use super::scan::{self, Statement};
 use super::statement::{read, Labelled, Said, Step};
 use super::Mistake;
 use crate::frame::{Frame, Ticket};
@@ -47,6 +47,8 @@ struct Open<'a> {
 struct Assembler<'a> {
     items: Vec<Item>,
     open: Option<Open<'a>>,
+    /// What stands outside a ticket has been told, or stands below a line that was to begin one.
+    is_told: bool,
     mistakes: Vec<Mistake>,
 }
 
@@ -58,11 +60,17 @@ fn mistake(place: Position, what: String, meant: Option<String>) -> Mistake {
 pub fn day(bytes: &[u8], names: &mut Names) -> Result<Vec<Item>, Vec<Mistake>> {
     let text = scan::text(bytes).map_err(|mistake| vec![mistake])?;
     let (statements, mistakes) = scan::statements(text);
-    let mut assembler = Assembler { items: vec![], open: None, mistakes };
+    let mut assembler = Assembler { items: vec![], open: None, is_told: false, mistakes };
     for statement in statements {
-        let line = statement.line;
+        let (line, begins_ticket) = (statement.line, is_header(&statement));
         match read(statement, names) {
-            Err(mistake) => assembler.mistakes.push(mistake),
+            Err(mistake) => {
+                if begins_ticket {
+                    assembler.close();
+                }
+                assembler.is_told |= begins_ticket;
+                assembler.mistakes.push(mistake);
+            }
             Ok(labelled) => assembler.add(line, labelled, names),
         }
     }
@@ -72,6 +80,12 @@ pub fn day(bytes: &[u8], names: &mut Names) -> Result<Vec<Item>, Vec<Mistake>> {
         true => Ok(assembler.items),
         false => Err(assembler.mistakes),
     }
+}
+
+/// Whether a statement is meant to begin a ticket, also where it is wrong.
+fn is_header(statement: &Statement<'_>) -> bool {
+    let has = |text: &str| statement.tokens.iter().any(|token| token.text == text);
+    has("number") || statement.tokens[0].text == "desk" && !has("turns")
 }
 
 /// Takes the names of a text that has nothing else.
@@ -123,8 +137,7 @@ impl<'t> Assembler<'t> {
 
     fn label(&mut self, label: &'t str, place: Position) {
         let Some(open) = &mut self.open else {
-            self.mistakes.push(outside(place, "a label"));
-            return;
+            return self.outside(place, "a label");
         };
         if let Some(first) = open.labels.iter().find(|mark| mark.label == label) {
             let what = format!("the label '{label}' stands in line {} already", first.place.line);
@@ -135,8 +148,7 @@ impl<'t> Assembler<'t> {
 
     fn step(&mut self, step: Step<'t>, place: Position) {
         let Some(open) = &mut self.open else {
-            self.mistakes.push(outside(place, "a step"));
-            return;
+            return self.outside(place, "a step");
         };
         let word = match step {
             Step::Whole(word) => word,
@@ -148,6 +160,16 @@ impl<'t> Assembler<'t> {
         };
         open.steps.push(word);
         open.places.push(place);
+    }
+
+    /// Told once for all that stands outside a ticket, up to the next.
+    fn outside(&mut self, place: Position, what: &str) {
+        if !self.is_told {
+            let meant = "'desk 0 number 1', say, begins one".to_string();
+            let what = format!("{what} stands in a ticket, and none is begun here");
+            self.mistakes.push(mistake(place, what, Some(meant)));
+        }
+        self.is_told = true;
     }
 
     /// A line of a day that is no ticket.
@@ -164,6 +186,7 @@ impl<'t> Assembler<'t> {
 
     /// The ticket that was open is whole: its skips find their labels.
     fn close(&mut self) {
+        self.is_told = false;
         let Some(mut open) = self.open.take() else {
             return;
         };
@@ -180,11 +203,6 @@ impl<'t> Assembler<'t> {
             steps: places,
         });
     }
-}
-
-fn outside(place: Position, what: &str) -> Mistake {
-    let meant = "'desk 0 number 1', say, begins one".to_string();
-    mistake(place, format!("{what} stands in a ticket, and none is begun here"), Some(meant))
 }
 
 /// The step that a skip's label names, in its field of an instruction word.

@@ -6,6 +6,14 @@ use super::scan::{Sort, Statement, Token};
 use super::{Mistake, KEYWORDS};
 use zilpanud::code::own;
 
+/// A token in quotation marks, without its end if it is long.
+pub fn quoted(text: &str) -> String {
+    match text.char_indices().nth(40) {
+        Some((end, _)) => format!("'{}..'", &text[..end]),
+        None => format!("'{text}'"),
+    }
+}
+
 /// The tokens of a statement that are still to be read.
 pub struct Reader<'t, 'n> {
     line: usize,
@@ -44,7 +52,7 @@ impl<'t, 'n> Reader<'t, 'n> {
     pub fn expected(&self, wanted: &str, meant: Option<String>) -> Mistake {
         let found = self
             .peek()
-            .map_or("the statement ends here".to_string(), |token| format!("here is '{}'", token.text));
+            .map_or("the statement ends here".to_string(), |token| format!("here is {}", quoted(token.text)));
         self.mistake(self.column(), format!("{found}, and {wanted} is expected"), meant)
     }
 
@@ -71,7 +79,8 @@ impl<'t, 'n> Reader<'t, 'n> {
         match self.peek() {
             None => Ok(()),
             Some(token) => {
-                let what = format!("'{}' stands behind {behind}, where nothing more is expected", token.text);
+                let found = quoted(token.text);
+                let what = format!("{found} stands behind {behind}, where nothing more is expected");
                 Err(self.mistake(
                     token.column,
                     what,
@@ -86,15 +95,16 @@ impl<'t, 'n> Reader<'t, 'n> {
         let Some(token) = self.peek().filter(|token| token.sort == Sort::Number) else {
             return Err(self.expected(&format!("the number of {of}"), None));
         };
-        let no_number = |meant: &str| {
-            let what = format!("'{}' is no number of {of}", token.text);
-            self.mistake(token.column, what, Some(meant.to_string()))
-        };
         if !token.text.bytes().all(|byte| byte.is_ascii_digit()) {
-            return Err(no_number("numbers are decimal, and stand by themselves"));
+            let what = format!("{} is not a number", quoted(token.text));
+            let meant = "numbers are decimal, and stand by themselves".to_string();
+            return Err(self.mistake(token.column, what, Some(meant)));
         }
         let number = token.text.parse::<u64>().ok().filter(|number| *number <= largest);
-        let number = number.ok_or_else(|| no_number(range))?;
+        let number = number.ok_or_else(|| {
+            let what = format!("{} is too large for {of}", quoted(token.text));
+            self.mistake(token.column, what, Some(range.to_string()))
+        })?;
         self.rest.next();
         Ok(number)
     }
@@ -112,13 +122,15 @@ impl<'t, 'n> Reader<'t, 'n> {
         Ok(token)
     }
 
-    /// What a name stands for.
-    fn named(&self, token: Token<'t>) -> Result<Thing, Mistake> {
+    /// What a name stands for, where `example` could stand.
+    pub fn named(&self, token: Token<'t>, example: &str) -> Result<Thing, Mistake> {
         self.names.get(token.text).ok_or_else(|| {
-            let known = KEYWORDS.iter().copied().chain(self.names.all());
-            let meant = did_you_mean(token.text, known)
-                .unwrap_or_else(|| format!("'let {} = word 24' gives it to a word", token.text));
-            self.mistake(token.column, format!("'{}' is no name here", token.text), Some(meant))
+            let name = quoted(token.text);
+            let meant = did_you_mean(token.text, KEYWORDS.iter().copied().chain(self.names.all()));
+            let meant = meant.unwrap_or_else(|| {
+                format!("names are given by '--names FILE', or by 'let' and '=', as in 'let x = {example}'")
+            });
+            self.mistake(token.column, format!("{name} is no name here"), Some(meant))
         })
     }
 
@@ -136,7 +148,7 @@ impl<'t, 'n> Reader<'t, 'n> {
                 self.rest.next();
                 Ok(own(self.number("an own word", 7, "a desk has own 0 to 7")? as u16))
             }
-            (Sort::Word, text) if !KEYWORDS.contains(&text) => match self.named(token)? {
+            (Sort::Word, text) if !KEYWORDS.contains(&text) => match self.named(token, "word 24")? {
                 Thing::Word(word) => {
                     self.rest.next();
                     Ok(word)
@@ -152,6 +164,10 @@ impl<'t, 'n> Reader<'t, 'n> {
                 );
                 Err(self.expected("a word", Some(meant)))
             }
+            (_, "-") => Err(self.expected("a word", Some("there are no numbers below 0".to_string()))),
+            (_, "=") => {
+                Err(self.expected("a word", Some("there is '<' alone: a <= b where b < a is 0".to_string())))
+            }
             _ => Err(self.expected("a word", Some("'word 24', 'own 0' or a name".to_string()))),
         }
     }
@@ -161,7 +177,7 @@ impl<'t, 'n> Reader<'t, 'n> {
         let said = self.reads("bay");
         match self.peek() {
             Some(token) if !said && token.sort == Sort::Word && !KEYWORDS.contains(&token.text) => {
-                match self.named(token)? {
+                match self.named(token, "bay 3")? {
                     Thing::Bay(bay) => {
                         self.rest.next();
                         Ok(bay)

@@ -75,7 +75,8 @@ fn line<'a>(number: usize, text: &'a str, statements: &mut Vec<Statement<'a>>, m
                 }
                 None if c.is_whitespace() => c.len_utf8(),
                 None => {
-                    let what = format!("'{}' stands in no statement", c.escape_default());
+                    let shown = if c.is_control() { c.escape_default().to_string() } else { c.to_string() };
+                    let what = format!("{shown} stands in no statement");
                     mistakes.push(Mistake { line: number, column, what, meant: meant(c) });
                     tokens.clear();
                     column += rest.chars().count();
@@ -108,8 +109,8 @@ pub fn text(bytes: &[u8]) -> Result<&str, Mistake> {
         let before = String::from_utf8_lossy(&bytes[..error.valid_up_to()]);
         let line = before.matches('\n').count() + 1;
         let column = before.rsplit('\n').next().unwrap_or("").chars().count() + 1;
-        let what = format!("byte {} is no text (UTF-8)", bytes[error.valid_up_to()]);
-        Mistake { line, column, what, meant: None }
+        let what = format!("byte {} is no text", bytes[error.valid_up_to()]);
+        Mistake { line, column, what, meant: Some("save the file as UTF-8".to_string()) }
     })
 }
 

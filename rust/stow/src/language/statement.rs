@@ -2,10 +2,11 @@
 
 use super::meant::did_you_mean;
 use super::names::{Names, Thing};
-use super::operands::Reader;
+use super::operands::{quoted, Reader};
 use super::scan::{Sort, Statement, Token};
 use super::Mistake;
 use zilpanud::code::{self, Kind};
+use zilpanud::LOCKS;
 
 /// A statement, without the label before it.
 #[derive(Clone, PartialEq, Eq, Debug)]
@@ -85,15 +86,25 @@ fn said<'t>(reader: &mut Reader<'t, '_>) -> Result<Said<'t>, Mistake> {
 fn name<'t>(reader: &mut Reader<'t, '_>) -> Result<Said<'t>, Mistake> {
     reader.next();
     let name = reader.name("a word or a bay")?;
-    if !reader.reads(":=") {
+    let is_dash = reader.peek().is_some_and(|token| token.text == "-");
+    if !is_dash && !reader.reads(":=") {
         reader.expect("=")?;
     }
     let thing = match reader.peek().map(|token| token.text) {
         Some("word" | "own") => Thing::Word(reader.word()?),
         Some("bay") => Thing::Bay(reader.bay()?),
+        Some("-") => {
+            let meant = "a name has letters, digits and '_'".to_string();
+            return Err(reader.expected("'='", Some(meant)));
+        }
         _ => return Err(reader.expected("'word', 'own' or 'bay' and its number", None)),
     };
-    Ok(Said::Let { name, thing })
+    let (what, range) = match thing {
+        Thing::Word(word) if word >= code::own(8) => ("word", "the words are 0 to 511, and own 0 to 7"),
+        Thing::Bay(bay) if bay as usize >= LOCKS => ("bay", "the bays are 0 to 63"),
+        _ => return Ok(Said::Let { name, thing }),
+    };
+    Err(reader.mistake(name.column, format!("there is no such {what} to be named"), Some(range.to_string())))
 }
 
 /// `board of 2 desks`
@@ -173,12 +184,14 @@ fn step<'t>(reader: &mut Reader<'t, '_>, first: Token<'t>) -> Result<Step<'t>, M
 fn skip<'t>(reader: &mut Reader<'t, '_>) -> Result<Step<'t>, Mistake> {
     reader.next();
     let word = reader.word()?;
-    reader.expect("is")?;
     let column = reader.column();
-    if reader.number("a skip", u64::MAX, "a skip asks whether a word is 0")? != 0 {
-        let meant = "compare first: 'own 1 := own 2 < own 3' is 1 or 0".to_string();
-        return Err(reader.mistake(column, "a skip asks whether a word is 0, and nothing else", Some(meant)));
+    let asks_else = !reader.reads("is") || reader.peek().is_none_or(|token| token.text != "0");
+    if asks_else {
+        let meant = "compare first: 'own 1 := word 24 < own 0' is 1 or 0".to_string();
+        let what = "a skip asks whether a word 'is 0', and nothing else";
+        return Err(reader.mistake(column, what, Some(meant)));
     }
+    reader.next();
     if reader.reads("goto") {
         return Err(reader.mistake(
             column,
@@ -214,13 +227,20 @@ fn by_digits<'t>(reader: &mut Reader<'t, '_>) -> Result<Step<'t>, Mistake> {
 fn assignment<'t>(reader: &mut Reader<'t, '_>, first: Token<'t>) -> Result<Step<'t>, Mistake> {
     let is_word = matches!(first.text, "word" | "own") || reader.names.get(first.text).is_some();
     if !is_word {
+        if first.sort == Sort::Word && reader.peek_second().is_some_and(|token| token.text == ":=") {
+            reader.named(first, "word 24")?;
+        }
         let known = BEGINNINGS.into_iter().chain(reader.names.all());
-        let what = format!("no statement begins with '{}'", first.text);
+        let what = format!("no statement begins with {}", quoted(first.text));
         return Err(reader.mistake(first.column, what, did_you_mean(first.text, known)));
     }
     let target = reader.word()?;
     if !reader.reads(":=") {
-        let meant = reader.peek().filter(|token| token.text == "=").map(|_| "write ':='".to_string());
+        let meant = match reader.peek().map(|token| token.text) {
+            Some("=") => Some("write ':='".to_string()),
+            Some("+" | "-") => Some("write 'word 24 := word 24 + own 0'".to_string()),
+            _ => None,
+        };
         return Err(reader.expected("':='", meant));
     }
     let number_alone =

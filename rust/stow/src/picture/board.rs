@@ -4,7 +4,7 @@ use super::desks::{panel, runs, standing, step_bar, PANEL};
 use super::svg::{group, Area, Element, Side};
 use super::{mark, word_cell, Mark, Page, FAINT, FIGURE, HEAD, INNER, ON_LIGHT, SMALL, SMALL_STRONG, WORD};
 use crate::language::names::{Names, Thing};
-use crate::look::{Bay, Holder, Look, OpenTicket};
+use crate::look::{Bay, Desk, Holder, Look, OpenTicket};
 use crate::refusal::of_image;
 use crate::say;
 use zilpanud::Cause;
@@ -59,7 +59,8 @@ pub fn board(look: &Look, names: &Names, title: &str) -> String {
 /// `2 desks, 1 with a ticket begun; 3 bays held; 5 words other than 0`
 fn summary(look: &Look) -> String {
     let begun = |ticket: &OpenTicket| ticket.begun.is_some();
-    let begun = look.desks.iter().filter(|desk| desk.ticket.as_ref().is_some_and(begun)).count();
+    let begun = |desk: &&Desk| desk.ticket.as_ref().is_some_and(begun) && !desk.is_ending();
+    let begun = look.desks.iter().filter(begun).count();
     let held = look.bays.iter().filter(|bay| matches!(bay.holder, Holder::Desk(_))).count();
     let words = look.bays.iter().flat_map(|bay| bay.words).filter(|word| *word != 0).count();
     let (desks, held) = (say::counted(look.desks.len() as u64, "desk"), say::counted(held as u64, "bay"));
@@ -218,7 +219,7 @@ fn description(look: &Look, names: &Names) -> String {
 mod tests {
     use super::super::svg::tests::assert_well_formed;
     use super::*;
-    use crate::look::{Begun, Desk};
+    use crate::look::Begun;
     use zilpanud::code::{acquire, finish, own, release, set, sub};
     use zilpanud::{cell_index, image_len, owner_index, Entry, Needs};
 
@@ -298,7 +299,7 @@ mod tests {
             zilpanud::turn(&mut image, &mut cursors, 0).unwrap();
         }
         let picture = drawn(&image, &Names::default());
-        assert!(picture.contains(">finished, at its last store<") && !picture.contains("handed in"));
+        assert!(picture.contains(">finished, at its last turns<") && !picture.contains("handed in"));
     }
 
     #[test]

@@ -44,7 +44,7 @@ pub fn panel(area: Area, desk: &Desk, names: &Names, number: usize, damaged: boo
     let begun = desk.ticket.as_ref().map(|ticket| ticket.begun);
     let (class, how) = match begun {
         None => ("panel-none", "no ticket"),
-        Some(None) if desk.is_ending() => ("panel-none", "finished, at its last store"),
+        Some(_) if desk.is_ending() => ("panel-none", "finished, at its last turns"),
         Some(None) => ("panel-waiting", "handed in, not begun"),
         Some(Some(_)) => ("panel-begun", "begun"),
     };
