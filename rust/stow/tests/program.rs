@@ -1,4 +1,5 @@
-//! The program itself: what it prints, what it says on standard error, its status; and a run that is killed.
+//! The program itself: what it prints, what it says on standard error, its status; and a run that is killed. (No board is
+//! opened in this process: a child that another test has just forked would hold its lock for a moment.)
 
 mod common;
 
@@ -12,7 +13,7 @@ use std::time::Duration;
 use stow::day_file::Underway;
 use stow::frame::Frame;
 use stow::player::Player;
-use zilpanud::{code, Board, Cause};
+use zilpanud::{cell_index, Cause};
 
 /// The papers' ticket, five turns, a cut.
 const PAPERS: &str =
@@ -208,6 +209,14 @@ fn a_board_is_shown_and_not_touched() {
     ] {
         assert!(shown.lines().any(|shown| shown == line), "{line}\n{shown}");
     }
+    // a ticket that is not begun, which a recovery would withdraw
+    let (day, ..) = given_input(&["ticket"], &PAPERS.replace("turns 5; cut", "turns 4"));
+    let (other, day) = (folder.path("other.board"), folder.file("other", day));
+    assert_eq!(given(&["run", &other, &day]).2, 0);
+    let before = fs::read(&other).unwrap();
+    assert!(given(&["show", &other]).0.contains("ticket 1 of 4 steps is handed in and not begun"));
+    assert_eq!(fs::read(&other).unwrap(), before);
+
     let drawn = fs::read_to_string(&picture).unwrap();
     assert!(drawn.starts_with("<svg ") && drawn.ends_with("</svg>\n") && drawn.contains("take 3"));
 }
@@ -223,10 +232,16 @@ fn boards_that_a_run_refuses() {
         said.contains("the board has 2 desks, and the day is of 3; nothing was played") && status == 1,
         "{said}"
     );
-    let open = Board::open(&board).unwrap();
+    let (long, ..) = given_input(&["ticket"], &format!("board of 2 desks; {}", &PAPERS[16..]));
+    let mut holder = stow(&["run", "--pause", "60000", &board, &folder.file("long", long)]).spawn().unwrap();
+    while !fs::exists(format!("{board}.day")).unwrap() {
+        thread::sleep(Duration::from_millis(5));
+    }
     let (_, said, status) = given(&["run", &board, &day_of(2)]);
     assert!(said.contains("another program has this board open") && status == 2, "{said}");
-    drop(open);
+    holder.kill().unwrap();
+    holder.wait().unwrap();
+    fs::remove_file(format!("{board}.day")).unwrap();
     let mut bytes = fs::read(&board).unwrap();
     bytes[8 * 584] = 1; // the first desk has a ticket of one step
     fs::write(&board, &bytes).unwrap();
@@ -326,12 +341,9 @@ fn a_cut_day_is_gone_on_with_on_its_own_board_alone() {
     assert!(said.contains("the board is gone, and a day is under way on it") && status == 1, "{said}");
     assert!(!path.exists());
 
-    let mut other = Board::create(&path, 1).unwrap();
-    other
-        .submit(0, 1, &[0; 8], &[code::acquire(0), code::set(0, 9), code::release(0), code::finish()])
-        .unwrap();
-    other.run_to_idle().unwrap();
-    drop(other);
+    let mut other = kept.start.clone();
+    other[cell_index(0)] = 9;
+    fs::write(&board, other.iter().flat_map(|word| word.to_ne_bytes()).collect::<Vec<u8>>()).unwrap();
     let before = fs::read(&board).unwrap();
     let (_, said, status) = given(&["run", &board, &day]);
     assert!(
@@ -369,5 +381,5 @@ fn another_day_is_refused_while_one_is_under_way() {
             && status == 0,
         "{played}"
     );
-    assert_eq!(Board::open(&board).unwrap().cell(24), Some(5));
+    assert!(given(&["show", &board]).0.ends_with("board words other than 0\n  word 24 is 5\n"));
 }

@@ -13,8 +13,6 @@ use std::process::{Command, Stdio};
 use std::sync::mpsc::{self, Receiver};
 use std::thread;
 use std::time::{Duration, Instant};
-use stow::language::names::Names;
-use stow::run::Run;
 
 const ROWS: usize = 12;
 const COLUMNS: usize = 60;
@@ -91,10 +89,10 @@ fn board(name: &str) -> (PathBuf, String) {
     let (lines, _) =
         stow::ticket::ticket("", format!("board of 8 desks\n{tickets}").as_bytes(), &mut Default::default())
             .unwrap();
-    let path = folder.join("board");
-    let (day, names) = (lines.as_bytes(), Names::default());
-    Run { path: &path, day, source: "", names: &names, pause: Duration::ZERO }.play(|_| Ok(())).unwrap();
-    (folder, path.to_str().unwrap().to_string())
+    let (path, day) = (folder.join("board").to_str().unwrap().to_string(), folder.join("first"));
+    fs::write(&day, lines).unwrap();
+    assert!(stow(&["run", &path, day.to_str().unwrap()]).status().unwrap().success());
+    (folder, path)
 }
 
 #[test]
