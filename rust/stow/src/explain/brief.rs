@@ -31,12 +31,15 @@ struct Brief<'a> {
     names: &'a Names,
     line: u64,
     rows: Vec<Row>,
+    /// The row of the ticket that a desk has had last.
+    last: BTreeMap<usize, usize>,
 }
 
 impl Brief<'_> {
     /// The ticket that a desk has.
     fn of(&mut self, desk: usize) -> Option<&mut Row> {
-        self.rows.iter_mut().rev().find(|row| row.desk == desk && row.is_open)
+        let row = &mut self.rows[*self.last.get(&desk)?];
+        row.is_open.then_some(row)
     }
 
     fn handed_in(&mut self, ticket: &Ticket, refused: Option<Cause>, player: &Player) {
@@ -45,6 +48,9 @@ impl Brief<'_> {
         let (is_open, came) = (came.is_none(), came.into_iter().collect());
         let (line, turns, waits) = (self.line, 0, BTreeMap::new());
         let (is_begun, is_finished) = (false, false);
+        if is_open {
+            self.last.insert(desk, self.rows.len());
+        }
         self.rows.push(Row { line, desk, number, came, is_begun, is_finished, is_open, turns, waits });
     }
 
@@ -140,7 +146,7 @@ pub fn told(day: &[u8], names: &Names, mut out: impl Write) -> io::Result<End> {
         Ok(player) => player,
         Err(end) => return Ok(end),
     };
-    let mut brief = Brief { names, line: 1, rows: vec![] };
+    let mut brief = Brief { names, line: 1, rows: vec![], last: BTreeMap::new() };
     let mut end = End::Read;
     for (number, line) in (2..).zip(lines) {
         brief.line = number;
