@@ -7,22 +7,16 @@
 //     python3 crates/asked_sweep/rows.py > crates/asked_sweep/stdout
 use asking::Standing;
 use intake::Submitted;
+use trial_calls::calls;
+use trial_say::say;
 use working::Cursors;
 
 // More stores than any call here makes.
 const ENOUGH: u64 = 100000;
 
-fn text(t: &[u8]) {
-    io::write_all(1, t);
-}
-
-fn number(n: u64) {
-    io::print_decimal(1, n);
-}
-
 fn refused(cause: u64) {
-    text(b"refused ");
-    number(cause);
+    say::text(b"refused ");
+    say::number(cause);
 }
 
 // An instruction word: "kind, a, b, c, sixteen bits each, kind highest".
@@ -82,9 +76,9 @@ fn cut(image: &mut [u64], adds: bool, stores: u64) {
 // A recovery that is cut after so many stores, and a whole one.
 fn recover(image: &mut [u64], stores: u64) -> Cursors {
     let mut left = stores;
-    edition::recover(image, &mut left);
+    calls::recover(image, &mut left);
     let mut enough = ENOUGH;
-    let r = edition::recover(image, &mut enough);
+    let r = calls::recover(image, &mut enough);
     r.cursors
 }
 
@@ -92,9 +86,9 @@ fn recover(image: &mut [u64], stores: u64) -> Cursors {
 fn ask(image: &[u64]) {
     let s = edition::standing(image, 0, 1);
     match s {
-        Standing::NotBegun => text(b"not begun"),
-        Standing::Begun => text(b"begun"),
-        Standing::Finished => text(b"finished"),
+        Standing::NotBegun => say::text(b"not begun"),
+        Standing::Begun => say::text(b"begun"),
+        Standing::Finished => say::text(b"finished"),
         Standing::Refused(r) => refused(working::cause(r)),
     }
 }
@@ -105,7 +99,7 @@ fn submit_again(image: &mut [u64], c: Cursors, adds: bool) -> Cursors {
     let h = submit(image, c, adds, &mut enough);
     let a = h.answer;
     match a {
-        Submitted::Taken => text(b"taken"),
+        Submitted::Taken => say::text(b"taken"),
         Submitted::Refused(r) => refused(working::cause(r)),
     }
     h.cursors
@@ -114,27 +108,27 @@ fn submit_again(image: &mut [u64], c: Cursors, adds: bool) -> Cursors {
 // Asks, submits whatever the answer is, and runs to the end.
 fn client(image: &mut [u64], c: Cursors, adds: bool) -> Cursors {
     ask(image);
-    text(b", ");
+    say::comma();
     let entered = submit_again(image, c, adds);
-    text(b"; ");
+    say::text(b"; ");
     let mut enough = ENOUGH;
-    let r = edition::run(image, entered, 384, &mut enough);
+    let r = calls::run(image, entered, 384, &mut enough);
     r.cursors
 }
 
 // Cell 24 and the last finished number (words 32 and 593).
 fn told(image: &[u64]) {
-    text(b"cell ");
-    number(image::load(image, 32));
-    text(b", number ");
-    number(image::load(image, 593));
-    text(b"\n");
+    say::text(b"cell ");
+    say::number(image::load(image, 32));
+    say::text(b", number ");
+    say::number(image::load(image, 593));
+    say::end();
 }
 
 // One place of the cut: what is told after the recovery, and in the end.
 fn row(image: &mut [u64], adds: bool, stores: u64, recovered: u64) {
-    number(stores);
-    text(b": ");
+    say::number(stores);
+    say::text(b": ");
     cut(image, adds, stores);
     let c = recover(image, recovered);
     let end = client(image, c, adds);
@@ -144,9 +138,9 @@ fn row(image: &mut [u64], adds: bool, stores: u64, recovered: u64) {
 
 fn heading(adds: bool, recovered: u64) {
     io::print_hex(1, assignment(adds), 16);
-    text(b", recovery cut after ");
-    number(recovered);
-    text(b"\n");
+    say::text(b", recovery cut after ");
+    say::number(recovered);
+    say::end();
 }
 
 // Every place of the cut, 14 stores of the submit and 19 of the turns, with a first recovery that is itself cut after so many

@@ -1,8 +1,8 @@
 // The calls: what one is, and how it is made.
 use tally::Tally;
-use trial_stage::answers;
-use trial_stage::answers::Told;
-use trial_stage::say;
+use trial_say::answers;
+use trial_say::answers::Told;
+use trial_say::say;
 use working::Cursors;
 
 pub enum Call {

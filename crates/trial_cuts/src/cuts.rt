@@ -2,7 +2,7 @@
 use crate::fold;
 use trial_calls::calls;
 use trial_calls::calls::Call;
-use trial_stage::say;
+use trial_say::say;
 use working::Cursors;
 ghost use Prim.Native.Nat.{_≤_};
 

@@ -5,7 +5,7 @@ use crate::fold;
 use image::Field;
 use trial_calls::calls;
 use trial_calls::calls::Call;
-use trial_stage::say;
+use trial_say::say;
 use trial_text::numbers;
 use trial_text::text;
 use working::Cursors;

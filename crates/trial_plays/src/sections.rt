@@ -1,6 +1,6 @@
 // What is said of a section alone: the answer of its check, and the held sets that the pass over it gives.
 use section::Verdict;
-use trial_stage::say;
+use trial_say::say;
 use trial_stage::stage::Stage;
 use trial_text::text;
 

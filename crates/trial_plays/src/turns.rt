@@ -2,7 +2,7 @@
 use needs::Along;
 use needs::Left;
 use needs::Needed;
-use trial_stage::say;
+use trial_say::say;
 use trial_stage::stage::Stage;
 use trial_text::text;
 

@@ -1,6 +1,4 @@
-// Where a script of trials stands, what sets its scene, and how it is shown on standard output. It makes no call.
-pub mod answers;
-pub mod say;
+// Where a script of trials stands, what sets its scene, and what it shows. It makes no call.
 pub mod scene;
 pub mod showing;
 pub mod stage;

@@ -9,12 +9,14 @@ use trial_text::verbs::Verb;
 pub fn set(image: &mut [u64], shelf: &mut [u64], s: Stage, k: Command) -> Stage {
     let verb = k.verb;
     let v = k.v;
+    let a = v[0];
+    let b = v[1];
     match verb {
-        Verb::Image => stage::fresh(image, s, v[0], v[1]),
-        Verb::Overwrite => stage::overwrite(image, s, v[0], v[1]),
-        Verb::Put => stage::put(s, v[0], v[1], v[2]),
+        Verb::Image => stage::fresh(image, s, a, b),
+        Verb::Overwrite => stage::overwrite(image, s, a, b),
+        Verb::Put => stage::put(s, a, b, v[2]),
         Verb::Mark => stage::mark(image, shelf, s),
-        Verb::Deal => stage::deal(shelf, s, v[0]),
+        Verb::Deal => stage::deal(shelf, s, a),
         _ => told(image, shelf, s, k),
     }
 }

@@ -1,7 +1,7 @@
 // What a script shows: answers, tallies, words and records.
-use crate::say;
 use crate::stage;
 use crate::stage::Stage;
+use trial_say::say;
 use trial_text::text;
 use working::Cursors;
 

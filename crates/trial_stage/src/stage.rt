@@ -1,7 +1,7 @@
 // Where a script stands, and what sets its scene.
-use crate::answers;
-use crate::answers::Told;
 use tally::Tally;
+use trial_say::answers;
+use trial_say::answers::Told;
 use trial_text::numbers;
 use working::Cursors;
 

@@ -41,7 +41,7 @@
 //
 // What it must print stands in the file stdout. That comes from rust/twin's program `trials`, which plays the same files over another
 // implementation of document 01, and never from a run of this program; the command stands in its head.
-use trial_stage::say;
+use trial_say::say;
 use trial_text::text;
 ghost use Prim.Native.Nat.{_<_};
 ghost use lib.ListN.{length};

@@ -4,7 +4,7 @@ use trial_plays::playing;
 use trial_plays::playing::Asked;
 use trial_plays::sections;
 use trial_plays::turns;
-use trial_stage::say;
+use trial_say::say;
 use trial_stage::scene;
 use trial_stage::showing;
 use trial_stage::stage;
@@ -21,13 +21,15 @@ use trial_text::verbs::Verb;
 fn other(image: &mut [u64], shelf: &mut [u64], s: Stage, k: Command) -> Stage {
     let verb = k.verb;
     let v = k.v;
+    let a = v[0];
+    let b = v[1];
     match verb {
-        Verb::Turns => playing::turns(image, shelf, s, v[0], v[1]),
-        Verb::List => playing::list(image, shelf, s, v[0], v[1], k.way == commands::PLAYS),
-        Verb::Standing => playing::standing(image, s, v[0], v[1]),
+        Verb::Turns => playing::turns(image, shelf, s, a, b),
+        Verb::List => playing::list(image, shelf, s, a, b, k.way == commands::PLAYS),
+        Verb::Standing => playing::standing(image, s, a, b),
         Verb::Path => turns::path(shelf, s, v, k.n),
-        Verb::Needs => turns::needs(shelf, s, v[0]),
-        Verb::Remaining => turns::remaining(image, s, v[0]),
+        Verb::Needs => turns::needs(shelf, s, a),
+        Verb::Remaining => turns::remaining(image, s, a),
         _ => scene::set(image, shelf, s, k),
     }
 }
