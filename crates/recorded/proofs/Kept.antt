@@ -1,6 +1,6 @@
 -- Every turn of a day is no refused one; where its worker was open, it is one of the eight, and where it waits, its lock is one of the 64 (`day-kept`): a turn
--- waits only at an acquire whose field is in range (`private-locked`); its worker is below the number of an image's workers, which is at most 8; and a refused turn ends its
--- line and is not among the turns made (`private-then`). By induction over the turns of a line, the rounds and the lines.
+-- waits only at an acquire whose field is in range (`private-locked`); its worker is below the number of an image's workers, which is at most 8; and a
+-- refused turn ends its line and is not among the turns made (`private-then`). By induction over the turns of a line, the rounds and the lines.
 use Prim.Native.Nat.{ℕ, zero, suc, _+_, _<_, _≤_}
 use mathlib.Core.Path.{_≡_, refl}
 use mathlib.Core.List.{List, [], _∷_, _++_}

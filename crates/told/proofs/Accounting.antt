@@ -190,7 +190,8 @@ module _ (mark n D : ℕ) (cells : List ℕ) (w : Traced) (d : ℕ) (r : Running
         → ((a : ℕ) → opAt n rd d k ≡ Release a → t < 4 → rd′ (field Intent d) ≡ rd (field Intent d))
         → ((a : ℕ) → opAt n rd d k ≡ Release a → t ≡ 3 → concerning d more ≡ moved d k ∷ [])
         → (c : Cursor) → Onto k t c → AccountedAt n rd′ d c (es ++ more)
-    goes-on rd′ more code intent own idle u = record { target = λ s a e o. absurd (on-not-idle s _ (sym e)); lock = λ s a e o. absurd (on-not-idle s _ (sym e)) }
+    goes-on rd′ more code intent own idle u =
+        record { target = λ s a e o. absurd (on-not-idle s _ (sym e)); lock = λ s a e o. absurd (on-not-idle s _ (sym e)) }
     goes-on rd′ more code intent own (on i j) u = record { target = to-target; lock = to-lock }
       where
         to-target : (s a : ℕ) → on i j ≡ on s 3 → opAt n rd′ d s ≡ Release a → Intact n rd′ d s ⊎ SinceLoss d [] (es ++ more)

@@ -178,5 +178,6 @@ releases-free mark n wide narrow m rest xs h p =
     let cells = cellsOf m in
     uncut-each mark n D cells (Lossless mark n D cells) (λ (w : Traced). Unit {0}) Plain (lossless-keeps mark n D cells wide)
     (λ t. Frees mark n t × Quiet mark n t) (λ w d r l fed x. (frees mark n D cells w d r l fed x, quiet mark n D cells w d r l x))
-    (λ w d r l. (above-frees mark n D cells w d r l, above-quiet mark n D cells w d r l)) false xs (from m) wide narrow h (plain-legal xs p) (plain-sorted mark n xs (from m) p)
+    (λ w d r l. (above-frees mark n D cells w d r l, above-quiet mark n D cells w d r l)) false xs (from m) wide narrow h (plain-legal xs p)
+    (plain-sorted mark n xs (from m) p)
     (rested-running mark n m rest, record { accounts = idle-accounted mark n D cells m; none = refl })

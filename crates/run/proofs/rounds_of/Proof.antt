@@ -187,9 +187,11 @@ returns-3 c =
     let still = u .ensures .stays no in
     let l = b8 .before .before .before .loop .inv .1 in
     let r = b8 .before .before .before .before .before .before .rounds .inv .1 in
-    let halts = lap-halts _ _ _ _ _ _ _ _ l (b8 .before .before .loop-test .taken) (c .before .before .before .before .before .before .before .if3 .left) (sym (u .ensures .made) ∙ no) in
+    let busy = c .before .before .before .before .before .before .before .if3 .left in
+    let halts = lap-halts _ _ _ _ _ _ _ _ l (b8 .before .before .loop-test .taken) busy (sym (u .ensures .made) ∙ no) in
+    let more = b8 .before .before .before .before .if2 .left in
     rw (still .0, still .1)
-    (laps-halts _ _ _ _ _ _ _ r _ _ (b8 .before .before .before .before .before .if1 .left) (omega (arith, b8 .before .before .before .before .if2 .left, r .below)) halts)
+    (laps-halts _ _ _ _ _ _ _ r _ _ (b8 .before .before .before .before .before .if1 .left) (omega (arith, more, r .below)) halts)
 
 pub rounds-of-spec : {M : Type 1} → statement M
 rounds-of-spec =

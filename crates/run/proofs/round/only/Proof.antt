@@ -70,7 +70,8 @@ open-turn-requires c κs =
     let S = b8 .before .before .before in
     let A = S .args in
     let e = granted (b8 .header-ok .ensures) (c .before .before .before .before .before .before .before .if1 .left) in
-    let h : A .d < workers (now (A .image)) = rw (c .before .before .before .before .before .workers .ensures) at (c .before .before .before .before .if2 .left) in
+    let b4 = c .before .before .before .before in
+    let h : A .d < workers (now (A .image)) = rw (b4 .before .workers .ensures) at (b4 .if2 .left) in
     (header-inside _ _ _ (A .d) (S .pre) e h, sym (c .before .before .before .idle .ensures) ∙ c .before .before .if3 .left)
 
 same-length-4 : tie.Need-same-length-4
