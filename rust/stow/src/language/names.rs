@@ -38,6 +38,14 @@ impl Names {
         self.shown.get(&thing).map(String::as_str)
     }
 
+    /// The words that have names, by rising number, each with the one that it is shown by.
+    pub fn words(&self) -> impl Iterator<Item = (u16, &str)> {
+        self.shown.iter().filter_map(|(thing, name)| match thing {
+            Thing::Word(word) => Some((*word, name.as_str())),
+            Thing::Bay(_) => None,
+        })
+    }
+
     /// All names, for a suggestion.
     pub fn all(&self) -> impl Iterator<Item = &str> {
         self.things.keys().map(String::as_str)

@@ -51,6 +51,7 @@ pub fn board(look: &Look, names: &Names, title: &str) -> String {
             page.draw(bay_row(area, bay, names, number, damaged == Some(number as u64)));
         }
     }
+    named_words(&mut page, look, names);
     desks(&mut page, look, names);
     legend(&mut page);
     page.finish(&description(look, names))
@@ -113,6 +114,27 @@ fn bay_row(row: Area, bay: &Bay, names: &Names, number: usize, damaged: bool) ->
     }
     parts.push(row.rule("hair"));
     group(parts)
+}
+
+/// The board words that have names, each with its value: on paper nobody can point at a cell.
+fn named_words(page: &mut Page, look: &Look, names: &Names) {
+    let value = |word: u16| Some(look.bays.get(word as usize / 8)?.words[word as usize % 8]);
+    let rows = names.words().filter_map(|(word, name)| Some((word, name, value(word)?)));
+    let rows: Vec<(u16, &str, u64)> = rows.collect();
+    if !rows.is_empty() {
+        page.strip(GAP);
+    }
+    for row in rows.chunks(COLUMNS) {
+        let strip = page.strip(ROW);
+        for (column, (word, name, value)) in row.iter().enumerate() {
+            let slot = strip.span(column as f64 * (COLUMN + COLUMN_GAP), COLUMN);
+            let (number, cell) = (slot.span(0.0, WORD), slot.span(WORD + 6.0, WORD));
+            let label = slot.span(2.0 * WORD + 14.0, COLUMN - 2.0 * WORD - 14.0);
+            page.draw(number.text(Side::Right, &FAINT, &format!("word {word}")));
+            page.draw(word_cell(cell, &say::word(names, *word), *value));
+            page.draw(label.text(Side::Left, &SMALL, name));
+        }
+    }
 }
 
 fn holder_mark(area: Area, bay: &Bay, label: &str) -> Option<Element> {
@@ -258,6 +280,8 @@ mod tests {
             ">step 2 of 5: shed := shed - own 0</text>",
             "handed in, not begun",
             "<title>word 24 (shed): 5</title>",
+            ">word 24</text>",
+            ">shed</text>",
         ] {
             assert!(picture.contains(text), "{text}");
         }
