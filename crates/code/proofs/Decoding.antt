@@ -1,16 +1,18 @@
 -- What the decoding functions ask: a number that is none of the eight kinds says no instruction and has no row, the largest
--- value of a field by its entry, the position that an instruction may have by its kind, and that kinds above 2 leave the held set.
+-- value of a field by its entry, the position that an instruction may have by its kind, that kinds above 2 leave the held set, and that the row of
+-- the instruction decides cause 5 as the row of the kind does.
 use Prim.Native.Nat.{ℕ, zero, suc, _+_, _<_, _≤_}
-use mathlib.Core.Path.{_≡_, refl, ap}
-use mathlib.Core.Bool.{cond, _&&_}
+use mathlib.Core.Path.{_≡_, refl, sym, ap, _∙_}
+use mathlib.Core.Bool.{Bool, cond, _&&_, and-false}
 use mathlib.Core.List.{List, [], _∷_}
 use lib.ListN.{getD}
-use lib.Dec.{ltb, eqb}
+use lib.Dec.{leb, ltb, eqb}
 use native.Mathlib.Omega.{arith}
 use Rattle.code.specs.Table.{entry, highest, kindOf, fieldA, fieldB, fieldC}
 use Rattle.code.specs.declared.Op.the-variants.{Unknown}
 use Rattle.code.specs.Op.{byKind, opOf}
-use Rattle.code.specs.Form.{inPlace, heldAfter}
+use Rattle.code.specs.Form.{inRange, inPlace, wellFormed, heldAfter}
+use Rattle.code.specs.inner.Rows.{inRow, opRow}
 
 pub no-kind : (k a b c : ℕ) → (k ≡ 1 → ⊥) → (k ≡ 2 → ⊥) → (k ≡ 3 → ⊥) → (k ≡ 4 → ⊥) → (k ≡ 5 → ⊥) → (k ≡ 6 → ⊥) → (k ≡ 7 → ⊥) → (k ≡ 8 → ⊥)
     → Unknown ≡ byKind k a b c
@@ -103,3 +105,30 @@ private-kind h (suc (suc (suc (suc (suc (suc (suc (suc (suc k))))))))) a b c l =
 pub held-stays : (h w : ℕ) → 2 < kindOf w → heldAfter h (opOf w) ≡ h
 unfolding opOf
 held-stays h w l = private-kind h (kindOf w) (fieldA w) (fieldB w) (fieldC w) l
+
+-- ---- cause 5 by the instruction
+
+-- the range test of a word, by its kind
+abbrev inRangeBy : ℕ → ℕ → ℕ → Bool
+inRangeBy own w k = leb 1 k && leb k 8 && leb (fieldA w) (highest own k 0) && leb (fieldB w) (highest own k 1) && leb (fieldC w) (highest own k 2)
+
+private-row :
+    (own w n i k a b c : ℕ)
+    → (inRow own w (opRow (byKind k a b c)) && inPlace n i (byKind k a b c)) ≡ (inRangeBy own w k && inPlace n i (byKind k a b c))
+unfolding highest entry
+private-row own w n i zero a b c = and-false (inRow own w zeros)
+private-row own w n i (suc zero) a b c = refl
+private-row own w n i (suc (suc zero)) a b c = refl
+private-row own w n i (suc (suc (suc zero))) a b c = refl
+private-row own w n i (suc (suc (suc (suc zero)))) a b c = refl
+private-row own w n i (suc (suc (suc (suc (suc zero))))) a b c = refl
+private-row own w n i (suc (suc (suc (suc (suc (suc zero)))))) a b c = refl
+private-row own w n i (suc (suc (suc (suc (suc (suc (suc zero))))))) a b c = refl
+private-row own w n i (suc (suc (suc (suc (suc (suc (suc (suc zero)))))))) a b c = refl
+private-row own w n i (suc (suc (suc (suc (suc (suc (suc (suc (suc k))))))))) a b c =
+    and-false (inRow own w zeros) ∙ sym (and-false (inRangeBy own w (suc (suc (suc (suc (suc (suc (suc (suc (suc k)))))))))))
+
+-- the row of the instruction, and its position
+pub row-formed : (own n i w : ℕ) → (inRow own w (opRow (opOf w)) && inPlace n i (opOf w)) ≡ wellFormed own n i w
+unfolding opOf inRange wellFormed
+row-formed own n i w = private-row own w n i (kindOf w) (fieldA w) (fieldB w) (fieldC w)

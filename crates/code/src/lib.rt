@@ -6,6 +6,7 @@ ghost use lib.ListN.{getD};
 ghost use lib.Dec.{eqb};
 ghost use Rattle.code.specs.Table.{entry, turnsOf, kindOf, fieldA, fieldB, fieldC};
 ghost use Rattle.code.specs.Op.{byKind, opOf};
+ghost use Rattle.code.specs.inner.Rows.{inRow, opRow};
 ghost use Rattle.code.specs.Form.{inRange, inPlace, wellFormed, lockOk, heldAfter};
 
 // What an assignment stores: a literal, or a sum, a difference or a comparison of two words.
@@ -118,6 +119,19 @@ pub fn op_of(w: u64) -> Op
     by_kind(kind_of(w), field_a(w), field_b(w), field_c(w))
 }
 
+// Whether each field of a word is in its range, by the row of its kind.
+fn in_row(w: u64, r: [u64; 4], own: u16) -> bool
+    ensures { λ t. ⌜ t ≡ inRow own w r ⌝ }
+{
+    if highest(r[0], own) < field_a(w) {
+        return false;
+    }
+    if highest(r[1], own) < field_b(w) {
+        return false;
+    }
+    field_c(w) <= highest(r[2], own)
+}
+
 // Whether the kind is known and each field in its range.
 fn in_range(w: u64, own: u16) -> bool
     ensures { λ r. ⌜ r ≡ inRange own w ⌝ }
@@ -129,14 +143,7 @@ fn in_range(w: u64, own: u16) -> bool
     if 8 < k {
         return false;
     }
-    let r = row(k);
-    if highest(r[0], own) < field_a(w) {
-        return false;
-    }
-    if highest(r[1], own) < field_b(w) {
-        return false;
-    }
-    field_c(w) <= highest(r[2], own)
+    in_row(w, row(k), own)
 }
 
 // Whether step i of n is a position that the instruction of a word of a known kind may have.
@@ -167,6 +174,56 @@ pub fn well_formed(w: u64, i: usize, n: usize, own: u16) -> bool
         return false;
     }
     in_place(w, i, n)
+}
+
+// Whether each field is in its range, by the instruction that the word says. Each has its row, so that no entry is looked up.
+fn op_in_row(w: u64, x: Op, own: u16) -> bool
+    ensures { λ r. ⌜ r ≡ inRow own w (opRow x) ⌝ }
+{
+    match x {
+        Op::Acquire(_) => in_row(w, TABLE[0], own),
+        Op::Release(_) => in_row(w, TABLE[1], own),
+        Op::Assign(_, e) => match e {
+            Expr::Literal(_, _) => in_row(w, TABLE[2], own),
+            Expr::Sum(_, _) => in_row(w, TABLE[3], own),
+            Expr::Difference(_, _) => in_row(w, TABLE[4], own),
+            Expr::Less(_, _) => in_row(w, TABLE[5], own),
+        },
+        Op::Jump(_, _) => in_row(w, TABLE[6], own),
+        Op::Finish => in_row(w, TABLE[7], own),
+        Op::Unknown => in_row(w, [0, 0, 0, 0], own),
+    }
+}
+
+// Whether step i of n is a position that the instruction may have.
+fn op_in_place(x: Op, i: usize, n: usize) -> bool
+    requires { ⌜ i < n ⌝ }
+    ensures { λ r. ⌜ r ≡ inPlace n i x ⌝ }
+{
+    match x {
+        Op::Acquire(_) => i + 1 < n,
+        Op::Release(_) => i + 1 < n,
+        Op::Assign(_, _) => i + 1 < n,
+        Op::Jump(_, b) => {
+            if n as u64 <= b {
+                return false;
+            }
+            (i as u64) < b
+        }
+        Op::Finish => i + 1 == n,
+        Op::Unknown => false,
+    }
+}
+
+// The same as `well_formed`, for a caller that goes by the instruction.
+pub fn formed(w: u64, x: Op, i: usize, n: usize, own: u16) -> bool
+    requires { ⌜ (x ≡ opOf w) × (i < n) ⌝ }
+    ensures { λ r. ⌜ r ≡ wellFormed own n i w ⌝ }
+{
+    if !op_in_row(w, x, own) {
+        return false;
+    }
+    op_in_place(x, i, n)
 }
 
 // The held set after an instruction whose lock, if it has one, is in its range.

@@ -9,3 +9,4 @@ pub mod Whole
 pub mod Filled
 pub mod Answers
 pub mod Meaning
+pub mod Fine

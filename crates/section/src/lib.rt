@@ -1,7 +1,8 @@
 // Sections of instructions: the check of causes 4 to 9, and the pass over the held sets by itself. The pass stands in sets.rt, one step against
-// causes 6 to 9 in judge.rt.
+// causes 6 to 9 in judge.rt, and in well.rt the quick test that the check makes first.
 mod judge;
 mod sets;
+mod well;
 
 ghost use mathlib.Core.Path.{_≡_};
 ghost use Prim.Native.Nat.{ℕ, _<_, _≤_};
@@ -13,6 +14,7 @@ use judge::use_at;
 use sets::clear;
 use sets::fill;
 use sets::length_ok;
+use well::well;
 
 // The answer of the check: the section passes, or the first cause that it fails, with the step.
 pub enum Verdict {
@@ -94,10 +96,13 @@ pub fn check_held(words: &[u64], own: u16, held: &mut [u64]) -> Verdict
     checked(words, own, held, true)
 }
 
-// The same, for a caller that does not ask for the held sets.
+// The same, for a caller that does not ask for the held sets: only where the quick test finds something are they worked out.
 pub fn check(words: &[u64], own: u16) -> Verdict
     ensures { λ r. ⌜ r ≡ check own (length (now (words .entry))) (codeOf (now (words .entry))) ⌝ }
 {
+    if well(words, own) {
+        return Verdict::Pass;
+    }
     let mut held = [0u64; 64];
     check_held(words, own, &mut held)
 }
