@@ -53,13 +53,13 @@ fn no_board(error: BoardError) -> Trouble {
 
 /// The board, recovered, and the day's start: that of a day that was cut, or the board as it is now.
 fn start(path: &Path, day: &[u8], desks: usize) -> Result<(Board, Underway, bool), Trouble> {
-    let kept = Underway::read(path)?;
-    if kept.is_some() && !path.exists() {
+    if Underway::read(path)?.is_some() && !path.exists() {
         let what = format!("{}: the board is gone, and a day is under way on it", path.display());
         return Err(Trouble::Wrong(vec![what, given_up(path, "bring the board back")]));
     }
     let board = Board::open_or_create(path, desks).map_err(no_board)?;
-    match kept {
+    // once more, now that the board is locked: another run may just have come to its end
+    match Underway::read(path)? {
         Some(kept) if kept.day == day && kept.start.len() == board.image().len() => Ok((board, kept, true)),
         Some(_) => {
             let what = format!("{}: another day was cut on this board, and is not over", path.display());
