@@ -57,6 +57,17 @@ fn ended(output: Output) -> (String, String, i32) {
     (text(output.stdout), text(output.stderr), output.status.code().unwrap())
 }
 
+/// Waits for a file that a child makes.
+fn until_there(path: &str) {
+    for _ in 0..4_000 {
+        if fs::exists(path).unwrap() {
+            return;
+        }
+        thread::sleep(Duration::from_millis(5));
+    }
+    panic!("{path} is not made");
+}
+
 fn given(arguments: &[&str]) -> (String, String, i32) {
     ended(stow(arguments).output().unwrap())
 }
@@ -234,9 +245,7 @@ fn boards_that_a_run_refuses() {
     );
     let (long, ..) = given_input(&["ticket"], &format!("board of 2 desks; {}", &PAPERS[16..]));
     let mut holder = stow(&["run", "--pause", "60000", &board, &folder.file("long", long)]).spawn().unwrap();
-    while !fs::exists(format!("{board}.day")).unwrap() {
-        thread::sleep(Duration::from_millis(5));
-    }
+    until_there(&format!("{board}.day"));
     let (_, said, status) = given(&["run", &board, &day_of(2)]);
     assert!(said.contains("another program has this board open") && status == 2, "{said}");
     holder.kill().unwrap();
@@ -271,7 +280,8 @@ fn a_killed_run_and_the_same_command_again() {
         let uninterrupted = given(&["run", &whole, &day]);
         loop {
             let mut child = stow(&["run", "--pause", "1", &killed, &day]).spawn().unwrap();
-            thread::sleep(Duration::from_millis(draw.below(100)));
+            // longer and longer, so that a slow machine comes to the day's end too
+            thread::sleep(Duration::from_millis(draw.below(100) + 2 * kills));
             child.kill().unwrap();
             let output = child.wait_with_output().unwrap();
             let is_told = !output.stdout.is_empty(); // the day is over; it may not be forgotten yet
@@ -362,9 +372,7 @@ fn another_day_is_refused_while_one_is_under_way() {
     let (day, ..) = given_input(&["ticket"], &PAPERS.replace("turns 5; cut", "turns 65535"));
     let (day, other) = (folder.file("day", day), folder.file("other", "01\n04ffff\n"));
     let mut child = stow(&["run", "--pause", "1000", &board, &day]).spawn().unwrap();
-    while !fs::exists(format!("{board}.day")).unwrap() {
-        thread::sleep(Duration::from_millis(5));
-    }
+    until_there(&format!("{board}.day"));
     child.kill().unwrap();
     child.wait().unwrap();
     let (_, said, status) = given(&["run", &board, &other]);
