@@ -5,7 +5,9 @@
 //! turn of that very ticket, by the ticket's number; where the board is ahead, since the day was cut and is played again,
 //! it is left out. A recovery sets a desk back to its last recorded step at most, so no turn is missed, none that counts
 //! is made twice, and they come in the order of the uninterrupted day. At the end the words of both boards are compared.
-//! (The tests cut a day after each of its stores, and the second time after each of those that were left.)
+//!
+//! That is argued and tested, not proved: the tests cut a day after each of its stores and, when it is played again, at one
+//! more place for each. Where a day ends with tickets under way, what a recovery does before its time may be done.
 
 use crate::frame::{Frame, Ticket};
 use crate::language::names::Names;
@@ -47,7 +49,7 @@ impl Kept for Board {
     }
 }
 
-/// A board in memory: for trying whether a day that was cut can be gone on with, before any store.
+/// A board in memory: for trying whether a day that was cut can be gone on with, before any of its turns is made.
 impl Kept for Player {
     fn image(&self) -> &[u64] {
         &self.image

@@ -127,7 +127,7 @@ impl Run<'_> {
         Ok(played)
     }
 
-    /// Whether a day that was cut can be gone on with on this board: tried in memory, before any store.
+    /// Whether a day that was cut can be gone on with on this board: tried in memory, before any of its turns is made.
     fn try_out(&self, start: &Player, frames: &[Frame], board: &Board) -> Result<(), Trouble> {
         let (image, cursors) = (board.image().to_vec(), *board.cursors());
         let mut copy = Player { image, cursors, desks: start.desks };

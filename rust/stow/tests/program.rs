@@ -338,7 +338,7 @@ fn what_became_of_the_tickets_is_told() {
     assert!(said.ends_with(": a recovery is refused with 12\n"), "{said}");
 }
 
-/// A board that something else put in the place of the one that the day is under way on: nothing is stored on it.
+/// A board that something else put in the place of the one that the day is under way on: no turn is made on it.
 #[test]
 fn a_cut_day_is_gone_on_with_on_its_own_board_alone() {
     let folder = Folder::new("own-board");
