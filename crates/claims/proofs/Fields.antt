@@ -3,7 +3,7 @@
 -- entry is active is read off the pc alone: other stores leave it, and the store of the next pc exchanges the entries.
 use Prim.Native.Nat.{ℕ, suc, _+_, _-_, _/_, _%_, _^_, _<_}
 use mathlib.Core.Path.{_≡_, refl, ap, _∙_}
-use mathlib.Core.Bool.{Bool, true, false, cond, not}
+use mathlib.Core.Bool.{Bool, true, false, cond}
 use native.Mathlib.Omega.{arith}
 use lib.Dec.{eqb, ltb}
 use borrow.Author.Tests.{eq-eqb, ne-eqb}
@@ -13,6 +13,7 @@ use Rattle.image.specs.Place.{cell, lock, field, own, step, Memory}
 use Rattle.image.specs.inner.Same.{sameField, upd}
 use Rattle.image.proofs.Places.{upd-same}
 use Rattle.log.specs.Log.{operand, second, spareAddr, spareVal, activeAddr, activeVal, switched}
+use Rattle.log.proofs.Switching.{switched-addr, switched-val}
 
 -- what every store but those of the pc, the count and the active entry keeps
 pub record KeepsNamed (n : ℕ) (rd rd′ : Memory) (d : ℕ) : Type 0 where
@@ -189,30 +190,16 @@ private-step : (s : ℕ) (b : Bool) → s < 64 → cond b (s + 1) (s + 1 + 2 ^ 6
 private-step s true l = omega arith
 private-step s false l = omega arith
 
-private-top : (s : ℕ) (b : Bool) → s < 64 → not (eqb (cond b (s + 1) (s + 1 + 2 ^ 63) / 2 ^ 63) 0) ≡ not b
-private-top s true l = ap not (eq-eqb ((s + 1) / 2 ^ 63) 0 (omega arith))
-private-top s false l = ap not (ne-eqb ((s + 1 + 2 ^ 63) / 2 ^ 63) 0 (λ e. omega arith))
-
-private-turned : (x y : Field) (b : Bool) → cond (not b) x y ≡ cond b y x
-private-turned x y true = refl
-private-turned x y false = refl
-
 module _ (n : ℕ) (rd : Memory) (d s : ℕ) (small : s < 64) where
   pub next-step : upd rd (field Pc d) (switched n rd d s) (field Pc d) % 2 ^ 63 ≡ suc s
   unfolding switched
   next-step = rw (upd-same rd (field Pc d) (switched n rd d s)) (private-step s (second n rd d) small)
 
-  next-second : second n (upd rd (field Pc d) (switched n rd d s)) d ≡ not (second n rd d)
-  unfolding switched second
-  next-second = rw (upd-same rd (field Pc d) (switched n rd d s)) (private-top s (second n rd d) small)
-
   next-active-addr : activeAddr n (upd rd (field Pc d) (switched n rd d s)) d ≡ spareAddr n rd d
-  unfolding activeAddr spareAddr
-  next-active-addr = rw next-second (private-turned Addr1 Addr0 (second n rd d))
+  next-active-addr = switched-addr n rd d s small _ (upd-same rd (field Pc d) (switched n rd d s))
 
   next-active-val : activeVal n (upd rd (field Pc d) (switched n rd d s)) d ≡ spareVal n rd d
-  unfolding activeVal spareVal
-  next-active-val = rw next-second (private-turned Val1 Val0 (second n rd d))
+  next-active-val = switched-val n rd d s small _ (upd-same rd (field Pc d) (switched n rd d s))
 
   next-addr-kept : upd rd (field Pc d) (switched n rd d s) (field (spareAddr n rd d) d) ≡ rd (field (spareAddr n rd d) d)
   unfolding spareAddr

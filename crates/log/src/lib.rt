@@ -55,7 +55,7 @@ fn second(image: &[u64], d: usize, own: usize) -> bool
 }
 
 // The address word of the entry that is not active.
-fn spare_addr(image: &[u64], d: usize, own: usize) -> Field
+pub fn spare_addr(image: &[u64], d: usize, own: usize) -> Field
     requires { ⌜ Inside own (now image) d ⌝ }
     ensures { λ r. ⌜ r ≡ spareAddr own (at own (now (image .entry))) d ⌝ }
 {
@@ -66,7 +66,7 @@ fn spare_addr(image: &[u64], d: usize, own: usize) -> Field
 }
 
 // Its value word.
-fn spare_val(image: &[u64], d: usize, own: usize) -> Field
+pub fn spare_val(image: &[u64], d: usize, own: usize) -> Field
     requires { ⌜ Inside own (now image) d ⌝ }
     ensures { λ r. ⌜ r ≡ spareVal own (at own (now (image .entry))) d ⌝ }
 {
@@ -115,7 +115,7 @@ pub fn logged_value(image: &[u64], d: usize, own: usize) -> u64
 }
 
 // The pc that names step s and the entry that is not active.
-fn switched(image: &[u64], d: usize, own: usize, s: u8) -> u64
+pub fn switched(image: &[u64], d: usize, own: usize, s: u8) -> u64
     requires { ⌜ Inside own (now image) d ⌝ }
     ensures { λ r. ⌜ r ≡ switched own (at own (now (image .entry))) d s ⌝ }
 {

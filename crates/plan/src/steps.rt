@@ -52,7 +52,7 @@ fn acquire_turn(image: &[u64], d: usize, own: usize, a: u64, s: u8, t: u8) -> Pl
 }
 
 // What the release of a lock with this owner word reports: it is freed where it names the worker.
-fn report(word: u64, d: usize) -> Report
+pub fn report(word: u64, d: usize) -> Report
     ensures { λ r. ⌜ r ≡ reportOf d word ⌝ }
 {
     if word == 0 {

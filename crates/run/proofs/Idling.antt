@@ -87,12 +87,12 @@ module _ (c : Cursors) where
       by m true e = rw (to-by k true e) (m (λ z. h (to-by k true e ∙ z)))
       by m false e = let q : suc k - 1 ≡ k = omega arith in rw (to-by k false e, q) e
 
-  any-none : (k d : ℕ) → Idle c d (d + k) → anyOpen k d c ≡ false
+  pub any-none : (k d : ℕ) → Idle c d (d + k) → anyOpen k d c ≡ false
   unfolding anyOpen
   any-none zero d h = refl
   any-none (suc k) d h = rw (h d (omega arith) (omega arith)) (any-none k (d + 1) (λ i a b. h i (omega arith) (omega arith)))
 
-  any-some : (k d i : ℕ) → d ≤ i → i < d + k → isIdle (cursorAt c i) ≡ false → anyOpen k d c ≡ true
+  pub any-some : (k d i : ℕ) → d ≤ i → i < d + k → isIdle (cursorAt c i) ≡ false → anyOpen k d c ≡ true
   unfolding anyOpen
   any-some zero d i a b e = absurd (omega arith)
   any-some (suc k) d i a b e = by (λ l. any-some k (d + 1) i l (omega arith) e) (ℕ-discrete d i) (isIdle (cursorAt c d)) refl

@@ -19,9 +19,10 @@ use Rattle.run.specs.declared.End.the-variants.{AllIdle, Spent, Halted}
 use Rattle.working.specs.Cursor.{isIdle, cursorAt}
 use Rattle.working.specs.World.{World}
 use Rattle.turn.specs.Call.{answerOf, leaves, outcomeAt}
+use Rattle.turn.specs.Counted.{counted}
 use Rattle.plan.specs.inner.Plan.{planOf}
 use Rattle.turn.specs.inner.Acting.{tested, planDid, didAnswer}
-use Rattle.run.specs.Run.{counted, openTo, Counting, counting, ran, through, halted, sweep, roundsOf}
+use Rattle.run.specs.Run.{openTo, Counting, counting, ran, through, halted, sweep, roundsOf}
 use Rattle.working.proofs.Placed.{Full, idle-says}
 use Rattle.run.proofs.Staying.{Known, known-turn, sized-leaves}
 use Rattle.turn.proofs.Turns.{made-at, refused-at, made-goes, did-answers, leaves-other}

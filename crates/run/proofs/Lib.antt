@@ -3,3 +3,4 @@ pub mod Rounds
 pub mod Next
 pub mod Staying
 pub mod Laps
+pub mod Solo

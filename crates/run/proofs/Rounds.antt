@@ -18,7 +18,8 @@ use Rattle.plan.specs.Turn.{Outcome, stored, passed, waiting, resting, refused}
 use Rattle.turn.specs.Call.{isRefused}
 use Rattle.working.specs.World.{World}
 use Rattle.turn.specs.Call.{answerOf, leaves, outcomeAt}
-use Rattle.run.specs.Run.{anyOpen, counted, Counting, counting, Course, ran, Sweep, through, halted, turned, swept, sweep, afterSweep, roundsOf, runOf}
+use Rattle.turn.specs.Counted.{counted}
+use Rattle.run.specs.Run.{anyOpen, Counting, counting, Course, ran, Sweep, through, halted, turned, swept, sweep, afterSweep, roundsOf, runOf}
 
 -- ---- a turn by its answer
 

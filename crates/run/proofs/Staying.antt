@@ -10,14 +10,11 @@ use native.Mathlib.Decide.{ℕ-discrete}
 use lib.ListN.{getD}
 use lib.Seq.{getD-set-same, getD-set-other}
 use lib.Dec.{ltb, eqb}
-use borrow.Author.Tests.{lt-ltb, ltb-false, ne-eqb}
-use Rattle.image.specs.declared.Field.{Field}
 use Rattle.image.specs.declared.Field.the-variants.{Count, Pc, Addr0, Val0, Addr1, Val1, Intent, Owned, Finished}
-use Rattle.image.specs.Place.{Place, cell, lock, field, own, step, valid, Memory}
-use Rattle.image.specs.inner.Same.{sameField, same}
-use Rattle.image.specs.Image.{Image, indexOf, at, put}
+use Rattle.image.specs.Place.{Place, lock, field, Memory}
+use Rattle.image.specs.Image.{Image, at}
 use Rattle.image.proofs.Header.{Sized}
-use Rattle.image.proofs.Stores.{put-none, sized-store, at-store}
+use Rattle.image.proofs.Stores.{sized-store}
 use Rattle.code.specs.declared.Op.{Op}
 use Rattle.code.specs.declared.Op.the-variants.{Acquire, Release, Assign, Jump, Finish, Unknown}
 use Rattle.code.specs.Table.{turnsOf}
@@ -36,6 +33,7 @@ use Rattle.turn.specs.Call.{leaves, outcomeAt}
 use Rattle.working.proofs.Placed.{on-is}
 use Rattle.plan.proofs.Planned.{ready-says, ready-turn}
 use Rattle.plan.proofs.Outcomes.{either, unlock-either}
+use Rattle.plan.proofs.Quiet.{Spares, quiet-field, quiet-lock, quiet-operand, other-field, quiet-ready, ends-ready}
 use Rattle.working.proofs.Placed.{Full, open-turn}
 
 -- ---- where a turn of an instruction with k turns goes, from step s
@@ -45,38 +43,11 @@ abbrev pub Turns : ℕ → ℕ → Cursor → Type 0
 Turns s k idle = Unit {0}
 Turns s k (on r t) = t ≢ 0 → (r ≡ s) × (t < k)
 
--- no count and no instruction
-pub record Spares (D n : ℕ) (p : Place) : Type 0 where
-  pub there : valid D n p ≡ true
-  pub counts : (e : ℕ) → same (field Count e) p ≡ false
-  pub steps : (e i : ℕ) → same (step e i) p ≡ false
-
 pub data Goes (D n d s k : ℕ) : Outcome → Type 0 where
   stores : (p : Place) (v : ℕ) (c : Cursor) → Spares D n p → Turns s k c → Goes D n d s k (stored p v c)
   ends : (v : ℕ) → Goes D n d s k (stored (field Count d) v idle)
   passes : (why : Passing) (c : Cursor) → Turns s k c → Goes D n d s k (passed why c)
   waits : (b : ℕ) → Goes D n d s k (waiting b)
-
-module _ (D n : ℕ) where
-  quiet-field : (f : Field) (d : ℕ) → d < D → sameField Count f ≡ false → Spares D n (field f d)
-  quiet-field f d h e = record { there = lt-ltb d D h; counts = λ i. rw e; steps = λ i j. refl }
-
-  quiet-lock : (a : ℕ) → a < 64 → Spares D n (lock a)
-  quiet-lock a h = record { there = lt-ltb a 64 h; counts = λ i. refl; steps = λ i j. refl }
-
-  quiet-operand : (d a : ℕ) → d < D → a < 512 + n → Spares D n (operand d a)
-  unfolding operand
-  quiet-operand d a h l = by (ltb a 512) refl
-    where
-      by : (b : Bool) → ltb a 512 ≡ b → Spares D n (cond b (cell a) (own d (a - 512)))
-      by true e = record { there = e; counts = λ i. refl; steps = λ i j. refl }
-      by false e =
-          let g = ltb-false a 512 e in
-          record { there = rw (lt-ltb d D h, lt-ltb (a - 512) n (omega arith)); counts = λ i. refl; steps = λ i j. refl }
-
-spare-field : (b : Bool) (f g : Field) → sameField Count f ≡ false → sameField Count g ≡ false → sameField Count (cond b f g) ≡ false
-spare-field true f g p q = p
-spare-field false f g p q = q
 
 -- turns of the same step, and the first of another
 same-turn : (s k t : ℕ) → t < k → Turns s k (on s t)
@@ -94,9 +65,9 @@ module _ (D n : ℕ) (rd : Memory) (d : ℕ) (h : d < D) (s : ℕ) where
       → Goes D n d s k (logged n rd d s t p v next j)
   unfolding spareAddr spareVal
   goes-logged k t p v next zero q u l =
-      stores _ _ _ (quiet-field D n _ d h (spare-field (second n rd d) Addr0 Addr1 refl refl)) (same-turn s k (t + 1) (l (omega arith)))
+      stores _ _ _ (quiet-field D n _ d h (other-field Count (second n rd d) Addr0 Addr1 refl refl)) (same-turn s k (t + 1) (l (omega arith)))
   goes-logged k t p v next (suc zero) q u l =
-      stores _ _ _ (quiet-field D n _ d h (spare-field (second n rd d) Val0 Val1 refl refl)) (same-turn s k (t + 1) (l (omega arith)))
+      stores _ _ _ (quiet-field D n _ d h (other-field Count (second n rd d) Val0 Val1 refl refl)) (same-turn s k (t + 1) (l (omega arith)))
   goes-logged k t p v next (suc (suc zero)) q u l = stores _ _ _ (quiet-field D n Pc d h refl) (same-turn s k (t + 1) (l (omega arith)))
   goes-logged k t p v next (suc (suc (suc j))) q u l = stores _ _ _ q u
 
@@ -136,33 +107,6 @@ module _ (D n : ℕ) (rd : Memory) (d : ℕ) (h : d < D) (s : ℕ) where
       let k = turns-op (codeIn n rd d s) x refl in
       let r = ready-says n rd d s t e in
       rw (e, k) (goes-op x t (r .form) (rw k at (r .has)))
-
--- ---- what it leaves of the test
-
--- the test of another memory with the same count and instruction
-ready-same : (n : ℕ) (rd re : Memory) (d s t : ℕ) → re (field Count d) ≡ rd (field Count d) → re (step d s) ≡ rd (step d s)
-    → ready n re d s t ≡ ready n rd d s t
-unfolding ready
-ready-same n rd re d s t p q = rw (p, q)
-
-module _ (D n left : ℕ) (m : Image) (z : Sized n D m) where
-  at-other : (p q : Place) (v : ℕ) → valid D n p ≡ true → same q p ≡ false → at n (put left m (indexOf n p) v) q ≡ at n m q
-  at-other p q v ok e = by left
-    where
-      by : (k : ℕ) → at n (put k m (indexOf n p) v) q ≡ at n m q
-      by zero = rw (put-none m (indexOf n p) v)
-      by (suc k) = at-store n D (suc k) m p v z ok (omega arith) q ∙ (rw e)
-
-  quiet-ready : (p : Place) (v d s t : ℕ) → Spares D n p → ready n (at n (put left m (indexOf n p) v)) d s t ≡ ready n (at n m) d s t
-  quiet-ready p v d s t q =
-      ready-same n (at n m) (at n (put left m (indexOf n p) v)) d s t (at-other p (field Count d) v (q .there) (q .counts d))
-      (at-other p (step d s) v (q .there) (q .steps d s))
-
-  ends-ready : (v d e s t : ℕ) → d < D → e ≢ d → ready n (at n (put left m (indexOf n (field Count d)) v)) e s t ≡ ready n (at n m) e s t
-  ends-ready v d e s t h o =
-      ready-same n (at n m) (at n (put left m (indexOf n (field Count d)) v)) e s t
-      (at-other (field Count d) (field Count e) v (lt-ltb d D h) (ne-eqb e d o))
-      (at-other (field Count d) (step e s) v (lt-ltb d D h) refl)
 
 -- ---- a worker past the first turn of its step is ready
 

@@ -4,34 +4,22 @@ use Prim.Native.Nat.{ℕ, zero, suc, _+_}
 use mathlib.Core.Bool.{Bool, true, false, cond}
 use Rattle.image.specs.Image.{workers, headerOk}
 use Rattle.tally.specs.declared.Tally.{Tally}
-use Rattle.tally.specs.Tally.{none, withStored, withJump, withAlreadyFree, withOthers, withWaiting}
+use Rattle.tally.specs.Tally.{none}
 use Rattle.working.specs.declared.Cursors.{Cursors}
 use Rattle.working.specs.declared.Refusal.{Refusal}
 use Rattle.working.specs.declared.Refusal.the-variants.{Image as ImageRefused}
-use Rattle.log.specs.declared.Passing.the-variants.{Jump, AlreadyFree, Others}
-use Rattle.turn.specs.declared.Answer.{Answer}
-use Rattle.turn.specs.declared.Answer.the-variants.{Stored, Passed, Waiting, Idle, Refused}
 use Rattle.run.specs.declared.End.{End}
 use Rattle.run.specs.declared.End.the-variants.{AllIdle, Spent, Halted}
 use Rattle.working.specs.Cursor.{isIdle, cursorAt}
 use Rattle.plan.specs.Turn.{Outcome, stored, passed, waiting, resting, refused}
 use Rattle.working.specs.World.{World}
 use Rattle.turn.specs.Call.{answerOf, leaves, outcomeAt}
+use Rattle.turn.specs.Counted.{counted}
 
 -- one of k workers from d on is open, that is, not idle
 unfoldable pub anyOpen : ℕ → ℕ → Cursors → Bool
 anyOpen zero d c = false
 anyOpen (suc k) d c = cond (isIdle (cursorAt c d)) (anyOpen k (d + 1) c) true
-
--- what a turn adds to the tally, by its answer: a turn of an idle worker is none, and a refused one is not counted
-abbrev pub counted : Answer → Tally → Tally
-counted (Stored i) t = withStored t
-counted (Passed Jump) t = withJump t
-counted (Passed AlreadyFree) t = withAlreadyFree t
-counted (Passed Others) t = withOthers t
-counted (Waiting b) t = withWaiting t
-counted Idle t = t
-counted (Refused r) t = t
 
 -- the workers up to the last open one, of k
 unfoldable pub openTo : ℕ → Cursors → ℕ

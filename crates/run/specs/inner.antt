@@ -1,2 +1,3 @@
 -- What only the functions inside need: a reader of the promises may leave it unread.
 pub mod Lap
+pub mod Alone

@@ -1,10 +1,9 @@
 // Runs: rounds of turns over the workers, counted in a tally.
-use log::Passing;
 use tally::Tally;
-use turn::Did;
 use working::Cursors;
 use working::Refusal;
 
+pub mod alone;
 pub mod codes;
 pub mod round;
 
@@ -14,11 +13,9 @@ ghost use mathlib.Core.Bool.{cond};
 ghost use lib.Dec.{eqb};
 ghost use lib.ListN.{length};
 ghost use Rattle.image.specs.Image.{workers, lengthOf};
-ghost use Rattle.tally.specs.Tally.{none, Room};
+ghost use Rattle.tally.specs.Tally.{none};
 ghost use Rattle.working.specs.World.{world};
-ghost use Rattle.turn.specs.declared.Answer.the-variants.{Passed};
-ghost use Rattle.turn.specs.inner.Acting.{didAnswer};
-ghost use Rattle.run.specs.Run.{counted, counting, openTo, ran, roundsOf, runOf};
+ghost use Rattle.run.specs.Run.{counting, openTo, ran, roundsOf, runOf};
 
 // How a run ends.
 pub enum End {
@@ -57,32 +54,6 @@ fn open_with(t: u8, d: usize, below: usize) -> usize
         return below;
     }
     d + 1
-}
-
-// The tally with a turn counted that passed.
-fn passed(why: Passing, t: Tally) -> Tally
-    requires { ⌜ Room t ⌝ }
-    ensures { λ r. ⌜ r ≡ counted (Passed why) t ⌝ }
-{
-    match why {
-        Passing::Jump => tally::jump(t),
-        Passing::AlreadyFree => tally::already_free(t),
-        Passing::Others => tally::others(t),
-    }
-}
-
-// The tally with a turn counted by what it did.
-fn counted(x: Did, t: Tally) -> Tally
-    requires { ⌜ Room t ⌝ }
-    ensures { λ r. ⌜ ((n : ℕ) → r ≡ counted (didAnswer n x) t) ⌝ }
-{
-    match x {
-        Did::Stored(_) => tally::stored(t),
-        Did::Took(_) => tally::stored(t),
-        Did::Freed(_) => tally::stored(t),
-        Did::Passed(why) => passed(why, t),
-        Did::Waiting(_) => tally::waiting(t),
-    }
 }
 
 // Rounds over n workers until all are idle, the rounds are spent, or a turn is refused. Idle workers have no turn, and
@@ -129,7 +100,7 @@ fn rounds_of(
             c.turn[d] = acted.turn;
             let did = acted.did;
             held = turn::held_after(did, held);
-            tally = counted(did, tally);
+            tally = turn::counted(did, tally);
             next = open_with(c.turn[d], d, next);
             d += 1;
         }
@@ -144,7 +115,7 @@ fn rounds_of(
     }
 }
 
-// Rounds of turns until all workers are idle. The header is tested once.
+// Rounds of turns until all workers are idle. The header is tested once. Where one worker alone is open, no other is looked at again.
 pub fn run(image: &mut [u64], c: Cursors, rounds: u16, mark: u64, own: usize, left: &mut u64) -> Ran
     requires { ⌜ own ≤ 64 ⌝ }
     ensures { λ r. ⌜ ran (r .end) (counting (world (now (image .exit)) (r .cursors) (now (left .exit))) (r .tally))
@@ -158,5 +129,11 @@ pub fn run(image: &mut [u64], c: Cursors, rounds: u16, mark: u64, own: usize, le
         };
     }
     let n = image::workers(image) as usize;
+    let k = round::next_open(c, 0, n);
+    if k < n {
+        if round::next_open(c, k + 1, n) == n {
+            return alone::rounds(image, c, k, own, rounds, left);
+        }
+    }
     rounds_of(image, c, n, own, rounds, left)
 }

@@ -73,7 +73,7 @@ pub fn turn(
 }
 
 // The first open worker from d on, of n; n where there is none, or d where that is past n.
-fn next_open(c: Cursors, d: usize, n: usize) -> usize
+pub(crate) fn next_open(c: Cursors, d: usize, n: usize) -> usize
     requires { ⌜ n ≤ 8 ⌝ }
     ensures { λ r. ⌜ r ≡ nextOpen (n - d) d c ⌝ }
 {

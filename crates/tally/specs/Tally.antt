@@ -1,5 +1,5 @@
 -- The tally of a run: what it is before the first turn, what a turn adds to it by its answer, and when there is room for one more.
-use Prim.Native.Nat.{_+_, _<_, _^_}
+use Prim.Native.Nat.{ℕ, _+_, _<_, _^_}
 use Rattle.tally.specs.declared.Tally.{Tally}
 
 -- nothing counted yet
@@ -26,11 +26,22 @@ withOthers t = record { turns = t .turns + 1; waits = t .waits; stores = t .stor
 abbrev pub withWaiting : Tally → Tally
 withWaiting t = record { turns = t .turns + 1; waits = t .waits + 1; stores = t .stores; free = t .free; others = t .others }
 
--- one more turn can be counted, whatever its answer: no counter overflows
+-- so many turns that stored a word, and so many that waited
+abbrev pub withStores : ℕ → Tally → Tally
+withStores k t = record { turns = t .turns + k; waits = t .waits; stores = t .stores + k; free = t .free; others = t .others }
+
+abbrev pub withWaits : ℕ → Tally → Tally
+withWaits k t = record { turns = t .turns + k; waits = t .waits + k; stores = t .stores; free = t .free; others = t .others }
+
+-- so many more turns can be counted, whatever their answers: no counter overflows
+abbrev pub RoomFor : ℕ → Tally → Type 0
+RoomFor k t =
+    (t .turns + k < 2 ^ 64)
+    × (t .waits + k < 2 ^ 64)
+    × (t .stores + k < 2 ^ 64)
+    × (t .free + k < 2 ^ 64)
+    × (t .others + k < 2 ^ 64)
+
+-- one more
 abbrev pub Room : Tally → Type 0
-Room t =
-    (t .turns + 1 < 2 ^ 64)
-    × (t .waits + 1 < 2 ^ 64)
-    × (t .stores + 1 < 2 ^ 64)
-    × (t .free + 1 < 2 ^ 64)
-    × (t .others + 1 < 2 ^ 64)
+Room t = RoomFor 1 t

@@ -1,8 +1,9 @@
 // What a run keeps: its turns, waits and stores, and the releases that found their lock already free or another's, in one
 // tally record. The record is lent by &mut to one thin counting function for each answer of a turn, over a core that counts by
-// value.
+// value. Several turns of a kind are counted at once by value alone.
 ghost use mathlib.Core.Path.{_≡_};
 ghost use Rattle.tally.specs.Tally.{none, withStored, withJump, withAlreadyFree, withOthers, withWaiting, Room};
+ghost use Rattle.tally.specs.Tally.{withStores, withWaits, RoomFor};
 
 pub struct Tally {
     // The turns taken.
@@ -188,4 +189,32 @@ pub fn waiting(t: Tally) -> Tally
     let mut u = t;
     count_waiting(&mut u);
     u
+}
+
+// The tally after k turns that stored a word each.
+pub fn stores(t: Tally, k: u64) -> Tally
+    requires { ⌜ RoomFor k t ⌝ }
+    ensures { λ r. ⌜ r ≡ withStores k t ⌝ }
+{
+    Tally {
+        turns: t.turns + k,
+        waits: t.waits,
+        stores: t.stores + k,
+        free: t.free,
+        others: t.others,
+    }
+}
+
+// The tally after k turns that waited.
+pub fn waits(t: Tally, k: u64) -> Tally
+    requires { ⌜ RoomFor k t ⌝ }
+    ensures { λ r. ⌜ r ≡ withWaits k t ⌝ }
+{
+    Tally {
+        turns: t.turns + k,
+        waits: t.waits + k,
+        stores: t.stores,
+        free: t.free,
+        others: t.others,
+    }
 }

@@ -11,7 +11,8 @@ use Rattle.working.specs.World.{World}
 use Rattle.working.specs.declared.Refusal.the-variants.{Image as ImageRefused}
 use Rattle.turn.specs.Call.{answerOf, outcomeAt}
 use Rattle.run.specs.declared.End.the-variants.{AllIdle, Spent, Halted}
-use Rattle.run.specs.Run.{anyOpen, counted, Counting, counting, Course, ran, Sweep, turned, swept, sweep, afterSweep, roundsOf}
+use Rattle.turn.specs.Counted.{counted}
+use Rattle.run.specs.Run.{anyOpen, Counting, counting, Course, ran, Sweep, turned, swept, sweep, afterSweep, roundsOf}
 use Rattle.claims.specs.Calls.{Traced, turnedAt, refuses}
 use Rattle.told.specs.Moments.{Moment, inRound, inRounds}
 use Rattle.told.specs.Tallies.{tallied, RunsTallied}

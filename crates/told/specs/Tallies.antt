@@ -5,7 +5,8 @@ use mathlib.Core.List.{List, [], _∷_}
 use Rattle.tally.specs.declared.Tally.{Tally}
 use Rattle.tally.specs.Tally.{none}
 use Rattle.turn.specs.Call.{answerOf, outcomeAt}
-use Rattle.run.specs.Run.{counted, runOf}
+use Rattle.turn.specs.Counted.{counted}
+use Rattle.run.specs.Run.{runOf}
 use Rattle.claims.specs.Calls.{Traced, runs}
 use Rattle.told.specs.Moments.{Moment, inCall}
 

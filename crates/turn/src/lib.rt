@@ -1,6 +1,7 @@
 // One turn of a worker: its tests, its plan, at most one store, and the record with the step and turn that the plan names.
 use log::Passing;
 use log::Plan;
+use tally::Tally;
 use working::Cursors;
 use working::Refusal;
 
@@ -15,8 +16,10 @@ ghost use Rattle.plan.specs.Turn.{ready};
 ghost use Rattle.working.specs.inner.At.{At};
 ghost use Rattle.working.specs.Cursor.{setAt, holding};
 ghost use Rattle.working.specs.World.{world};
+ghost use Rattle.tally.specs.Tally.{Room};
 ghost use Rattle.turn.specs.inner.Acting.{planDid, planLeaves, didLock, didHeld, didAnswer, Acts, tested, gateOf};
 ghost use Rattle.turn.specs.Call.{answerOf, leaves, outcomeAt, outcome};
+ghost use Rattle.turn.specs.Counted.{counted};
 
 // What a turn answers.
 pub enum Answer {
@@ -128,6 +131,32 @@ pub fn held_after(x: Did, held: u64) -> u64
         Did::Freed(b) => mask::without(held, b),
         Did::Passed(_) => held,
         Did::Waiting(_) => held,
+    }
+}
+
+// The tally with a turn counted that passed.
+pub fn passed(why: Passing, t: Tally) -> Tally
+    requires { ⌜ Room t ⌝ }
+    ensures { λ r. ⌜ r ≡ counted (Answer.Passed why) t ⌝ }
+{
+    match why {
+        Passing::Jump => tally::jump(t),
+        Passing::AlreadyFree => tally::already_free(t),
+        Passing::Others => tally::others(t),
+    }
+}
+
+// The tally with a turn counted by what it did.
+pub fn counted(x: Did, t: Tally) -> Tally
+    requires { ⌜ Room t ⌝ }
+    ensures { λ r. ⌜ ((n : ℕ) → r ≡ counted (didAnswer n x) t) ⌝ }
+{
+    match x {
+        Did::Stored(_) => tally::stored(t),
+        Did::Took(_) => tally::stored(t),
+        Did::Freed(_) => tally::stored(t),
+        Did::Passed(why) => passed(why, t),
+        Did::Waiting(_) => tally::waiting(t),
     }
 }
 

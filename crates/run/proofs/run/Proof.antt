@@ -1,10 +1,12 @@
--- `run::run` meets its contract: the header test, then the rounds over the workers that the header names.
+-- `run::run` meets its contract: the header test, then the rounds over the workers that the header names, or over the one that is open where it is alone.
 use borrow.Author.Needs.{needs}
+use mathlib.Core.Path.{sym, _∙_}
 use denote.Ref.{now}
 use Rattle.base.proofs.Bools.{denied, granted}
-use Rattle.image.proofs.Header.{header-true}
+use Rattle.image.proofs.Header.{header-true, header-workers, header-inside}
 use Rattle.working.specs.World.{world}
 use Rattle.run.proofs.Rounds.{run-refused, run-rounds}
+use Rattle.run.proofs.Next.{next-alone}
 use Rattle.run.proofs.run.Statement.{statement}
 use Rattle.run.proofs.run.Tie as tie
 
@@ -26,26 +28,65 @@ returns c =
 workers-requires : tie.Need-workers-requires
 workers-requires c κs = search needs
 
-rounds-of-requires : tie.Need-rounds-of-requires
-rounds-of-requires c κs =
-    let S = c .before .before .before .before .before .before .before .before in
-    let A = S .args in
-    let e = c .before .before .workers .ensures in
-    let h = header-true (A .mark) (A .own) (now (A .image))
-    (granted (c .before .before .before .before .before .header-ok .ensures) (c .before .before .before .before .if1 .left)) in
-    (S .pre, e, rw e (h .few), rw e (h .size))
+next-open-requires : tie.Need-next-open-requires
+next-open-requires c κs =
+    let e = granted (c .before .before .before .header-ok .ensures) (c .before .before .if1 .left) in
+    rw (c .workers .ensures) (header-workers _ _ _ e .1)
+
+add-next-open : tie.Need-add-next-open
+add-next-open c = search needs
+
+next-open-requires-2 : tie.Need-next-open-requires-2
+next-open-requires-2 c κs =
+    let W = c .before .before in
+    let e = granted (W .before .before .before .header-ok .ensures) (W .before .before .if1 .left) in
+    rw (W .workers .ensures) (header-workers _ _ _ e .1)
+
+rounds-requires : tie.Need-rounds-requires
+rounds-requires c κs =
+    let T = c .before .before in
+    let K = T .before .before .before in
+    let W = K .before in
+    let S = W .before .before .before .before .before .before in
+    let n = W .workers .ensures in
+    let e = granted (W .before .before .before .header-ok .ensures) (W .before .before .if1 .left) in (
+      header-inside _ _ _ _ (S .pre) e (rw n at (T .before .before .if2 .taken)),
+      rw (← n) (next-alone (S .args .c) _ (K .next-open .ensures) (sym (T .before .next-open2 .ensures) ∙ T .if3 .taken)),
+    )
 
 same-length-2 : tie.Need-same-length-2
 same-length-2 c = search needs
 
 returns-2 : tie.Need-returns-2
 returns-2 c =
-    let back = c .before .before .before .before .before .before .before .before .before in
-    let A = back .before .before .args in
+    let R = c .before .before in
+    let W = R .before .before .before .before .before .before .before in
+    let A = W .before .before .before .before .before .before .args in
     let w = world (now (A .image)) (A .c) (now (A .left)) in
-    let h = granted (c .before .before .before .before .before .before .before .before .header-ok .ensures)
-    (c .before .before .before .before .before .before .before .if1 .left) in
-    rw (run-rounds (A .mark) (A .own) w (A .rounds) h, ← c .before .before .before .before .before .workers .ensures) (c .before .before .rounds-of .ensures)
+    let e = granted (W .before .before .before .header-ok .ensures) (W .before .before .if1 .left) in
+    rw (run-rounds (A .mark) (A .own) w (A .rounds) e) (R .rounds .ensures)
+
+rounds-of-requires : tie.Need-rounds-of-requires
+rounds-of-requires c κs =
+    let W = c .before .before .before .before in
+    let S = W .before .before .before .before .before .before in
+    let A = S .args in
+    let n = W .workers .ensures in
+    let h = header-true (A .mark) (A .own) (now (A .image))
+    (granted (W .before .before .before .header-ok .ensures) (W .before .before .if1 .left)) in
+    (S .pre, n, rw n (h .few), rw n (h .size))
+
+same-length-3 : tie.Need-same-length-3
+same-length-3 c = search needs
+
+returns-3 : tie.Need-returns-3
+returns-3 c =
+    let R = c .before .before in
+    let W = R .before .before .before .before .before in
+    let A = W .before .before .before .before .before .before .args in
+    let w = world (now (A .image)) (A .c) (now (A .left)) in
+    let e = granted (W .before .before .before .header-ok .ensures) (W .before .before .if1 .left) in
+    rw (run-rounds (A .mark) (A .own) w (A .rounds) e, ← W .workers .ensures) (R .rounds-of .ensures)
 
 pub run-spec : {M : Type 1} → statement M
 run-spec =
@@ -56,6 +97,12 @@ run-spec =
     same-length
     returns
     workers-requires
-    rounds-of-requires
+    next-open-requires
+    add-next-open
+    next-open-requires-2
+    rounds-requires
     same-length-2
-    returns-2)
+    returns-2
+    rounds-of-requires
+    same-length-3
+    returns-3)

@@ -1,7 +1,7 @@
--- `run::passed` meets its contract: an arm a counter.
+-- `turn::passed` meets its contract: an arm a counter.
 use borrow.Author.Needs.{needs}
-use Rattle.run.proofs.passed.Statement.{statement}
-use Rattle.run.proofs.passed.Tie as tie
+use Rattle.turn.proofs.passed.Statement.{statement}
+use Rattle.turn.proofs.passed.Tie as tie
 
 enum-told : tie.Need-enum-told
 enum-told c = search needs

@@ -1,7 +1,7 @@
--- `run::counted` meets its contract: what was done an arm, counted by the tally's functions.
+-- `turn::counted` meets its contract: what was done an arm, counted by the tally's functions.
 use borrow.Author.Needs.{needs}
-use Rattle.run.proofs.counted.Statement.{statement}
-use Rattle.run.proofs.counted.Tie as tie
+use Rattle.turn.proofs.counted.Statement.{statement}
+use Rattle.turn.proofs.counted.Tie as tie
 
 enum-told : tie.Need-enum-told
 enum-told c = search needs

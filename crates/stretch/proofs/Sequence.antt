@@ -1,0 +1,71 @@
+-- Turns one after another, from one to the next: they go on (`turns-append`), the first of them is ready, the image keeps its size, and each adds at most one
+-- to a number of the tally.
+use Prim.Native.Nat.{ℕ, suc, zero, _+_, _-_, _≤_}
+use mathlib.Core.Path.{_≡_, refl, ap, sym}
+use mathlib.Core.Bool.{true}
+use mathlib.Core.Logic.{_≢_}
+use native.Mathlib.Omega.{arith}
+use Rattle.image.specs.Image.{Image, indexOf, at}
+use Rattle.image.proofs.Header.{Sized}
+use Rattle.image.proofs.Stores.{sized-store}
+use Rattle.tally.specs.declared.Tally.{Tally}
+use Rattle.tally.specs.Tally.{RoomFor}
+use Rattle.log.specs.declared.Passing.the-variants.{Jump, AlreadyFree, Others}
+use Rattle.working.specs.Cursor.{on}
+use Rattle.plan.specs.Turn.{Outcome, stored, passed, waiting, resting, refused, ready, turnAt}
+use Rattle.turn.specs.declared.Answer.{Answer}
+use Rattle.turn.specs.declared.Answer.the-variants.{Stored, Passed, Waiting, Idle, Refused}
+use Rattle.turn.specs.Counted.{counted}
+use Rattle.stretch.specs.inner.Single.{Single, single, after, Turns, none, then}
+
+module _ (n d : ℕ) where
+  pub turns-append : {j k : ℕ} {a b c : Single} → Turns n d j a b → Turns n d k b c → Turns n d (j + k) a c
+  turns-append {k = k} (none a) u = let e : 0 + k ≡ k = omega arith in rw e u
+  turns-append {k = k} {c = c} (then j a b r t) u = let e : suc j + k ≡ suc (j + k) = omega arith in rw e (then (j + k) a c r (turns-append t u))
+
+  -- no turn leaves all as it was
+  turns-none : {k : ℕ} {a b : Single} → Turns n d k a b → k ≡ 0 → a ≡ b
+  turns-none (none a) e = refl
+  turns-none (then k a b r t) e = absurd (omega arith)
+
+  pub turns-still : {k : ℕ} {m v : Image} {left rest s t h i u g : ℕ} {y z : Tally}
+      → Turns n d k (single m left s t h y) (single v rest i u g z) → k ≡ 0 → (v ≡ m) × (rest ≡ left)
+  turns-still t e = let q = turns-none t e in (ap (λ (a : Single). a .image) (sym q), ap (λ (a : Single). a .left) (sym q))
+
+  pub turns-ready : {k : ℕ} {a b : Single} → Turns n d k a b → k ≢ 0 → ready n (at n (a .image)) d (a .step) (a .turn) ≡ true
+  turns-ready (none a) o = absurd (o refl)
+  turns-ready (then k a b r t) o = r
+
+  pub turns-sized : (D : ℕ) {k : ℕ} {a b : Single} → Turns n d k a b → Sized n D (a .image) → Sized n D (b .image)
+  turns-sized D (none a) z = z
+  turns-sized D (then k a b e t) z = turns-sized D t (by (turnAt n (at n (a .image)) d (on (a .step) (a .turn))))
+    where
+      by : (o : Outcome) → Sized n D (after n a o .image)
+      by (stored p v x) = sized-store n D (a .left) (a .image) p v z
+      by (passed why x) = z
+      by (waiting b) = z
+      by resting = z
+      by (refused r) = z
+
+-- room for one turn fewer
+room-counted : (x : Answer) (r : ℕ) (t : Tally) → 1 ≤ r → RoomFor r t → RoomFor (r - 1) (counted x t)
+room-counted (Stored i) r t l h = (omega (arith, h .0), omega (arith, h .1), omega (arith, h .2), omega (arith, h .3), omega (arith, h .4))
+room-counted (Passed Jump) r t l h = (omega (arith, h .0), omega (arith, h .1), omega (arith, h .2), omega (arith, h .3), omega (arith, h .4))
+room-counted (Passed AlreadyFree) r t l h = (omega (arith, h .0), omega (arith, h .1), omega (arith, h .2), omega (arith, h .3), omega (arith, h .4))
+room-counted (Passed Others) r t l h = (omega (arith, h .0), omega (arith, h .1), omega (arith, h .2), omega (arith, h .3), omega (arith, h .4))
+room-counted (Waiting b) r t l h = (omega (arith, h .0), omega (arith, h .1), omega (arith, h .2), omega (arith, h .3), omega (arith, h .4))
+room-counted Idle r t l h = (omega (arith, h .0), omega (arith, h .1), omega (arith, h .2), omega (arith, h .3), omega (arith, h .4))
+room-counted (Refused q) r t l h = (omega (arith, h .0), omega (arith, h .1), omega (arith, h .2), omega (arith, h .3), omega (arith, h .4))
+
+pub turns-room : (n d : ℕ) {k : ℕ} {a b : Single} → Turns n d k a b → (r : ℕ) → k ≤ r → RoomFor r (a .tally) → RoomFor (r - k) (b .tally)
+turns-room n d (none a) r l h = let e : r - 0 ≡ r = omega arith in rw e h
+turns-room n d (then k a b e t) r l h =
+    let q : r - suc k ≡ r - 1 - k = omega arith in
+    rw q (turns-room n d t (r - 1) (omega arith) (by (turnAt n (at n (a .image)) d (on (a .step) (a .turn)))))
+  where
+    by : (o : Outcome) → RoomFor (r - 1) (after n a o .tally)
+    by (stored p v x) = room-counted (Stored (indexOf n p)) r (a .tally) (omega arith) h
+    by (passed why x) = room-counted (Passed why) r (a .tally) (omega arith) h
+    by (waiting b) = room-counted (Waiting b) r (a .tally) (omega arith) h
+    by resting = room-counted Idle r (a .tally) (omega arith) h
+    by (refused z) = room-counted Idle r (a .tally) (omega arith) h

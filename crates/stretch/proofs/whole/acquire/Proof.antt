@@ -1,0 +1,105 @@
+-- `stretch::whole::acquire` meets its contract: its stores are those of `acquire-begins`, or of `acquire-turns`.
+use borrow.Author.Needs.{needs}
+use mathlib.Core.Path.{sym, _∙_}
+use Prim.Native.Nat.{_≤_}
+use native.Mathlib.Omega.{arith}
+use Rattle.image.proofs.Stores.{inside-front}
+use Rattle.stretch.proofs.Running.{fetched-fits, fetched-step, inside-store}
+use Rattle.stretch.proofs.ByKind.{acquire-begins, acquire-turns}
+use Rattle.stretch.proofs.whole.acquire.Statement.{statement}
+use Rattle.stretch.proofs.whole.acquire.Tie as tie
+
+field-index-requires : tie.Need-field-index-requires
+field-index-requires c κs = search needs
+
+read-field-requires : tie.Need-read-field-requires
+read-field-requires c κs = search needs
+
+with-requires : tie.Need-with-requires
+with-requires c κs = fetched-fits _ _ _ _ _ (c .before .before .before .before .pre .0)
+
+store-requires : tie.Need-store-requires
+store-requires c κs = search needs
+
+read-lock-requires : tie.Need-read-lock-requires
+read-lock-requires c κs =
+    let s = c .before .before .before in
+    let i = s .before .before .before .before .before .before in
+    let f = i .before .before .pre .0 in
+    (fetched-fits _ _ _ _ _ f, rw (s .store .ensures .0, i .field-index .ensures) (inside-front _ _ _ (inside-store _ _ _ _ _ _ (f .inside))))
+
+stores-requires : tie.Need-stores-requires
+stores-requires c κs = search needs
+
+same-length : tie.Need-same-length
+same-length c = search needs
+
+returns : tie.Need-returns
+returns c =
+    let s = c .before .before .before .before .before .before in
+    let w = s .before .before .before in
+    let i = w .before .before .before in
+    let e = s .store .ensures in
+    let one : 1 ≤ 1 = omega arith in
+    let most : 1 ≤ 6 = omega arith in
+    let made = acquire-begins _ _ _ _ _ _ _ _ (i .before .before .pre .0) in (
+      record { some = one; made = rw (c .stores .ensures, e .0, e .1, w .with .ensures, w .before .read-field .ensures, i .field-index .ensures) made },
+      most,
+    )
+
+take-requires : tie.Need-take-requires
+take-requires c κs =
+    let s = c .before .before .before .before .before .before .before in
+    let i = s .before .before .before .before .before .before in
+    let f = i .before .before .pre .0 in
+    (rw (s .store .ensures .0, i .field-index .ensures) (inside-store _ _ _ _ _ _ (f .inside)), fetched-fits _ _ _ _ _ f)
+
+add-t26 : tie.Need-add-t26
+add-t26 c =
+    let s = c .before .before .before .before .before .before .before .before .before .before in
+    let z = fetched-step _ _ _ _ _ (s .before .before .before .before .before .before .before .before .pre .0) in omega (arith, z)
+
+with-requires-2 : tie.Need-with-requires-2
+with-requires-2 c κs =
+    let s = c .before .before .before .before .before .before .before .before .before .before in
+    fetched-fits _ _ _ _ _ (s .before .before .before .before .before .before .before .before .pre .0)
+
+stores-requires-2 : tie.Need-stores-requires-2
+stores-requires-2 c κs = search needs
+
+same-length-2 : tie.Need-same-length-2
+same-length-2 c = search needs
+
+returns-2 : tie.Need-returns-2
+returns-2 c =
+    let k = c .before .before .before .before in
+    let t = k .before .before .before .before in
+    let s = t .before .before .before .before in
+    let w = s .before .before .before in
+    let i = w .before .before .before in
+    let e = s .store .ensures in
+    let first = rw (w .with .ensures, w .before .read-field .ensures, i .field-index .ensures) at (e .0) in
+    let one : 1 ≤ 6 = omega arith in
+    let most : 6 ≤ 6 = omega arith in
+    let free = sym (t .read-lock .ensures _) ∙ k .before .before .before .if1 .left in
+    let made = acquire-turns _ _ _ _ _ _ _ _ (i .before .before .pre .0) _ first free in
+    (record { some = one; made = rw (c .stores2 .ensures, c .before .with2 .ensures, k .take .ensures .0, k .take .ensures .1, e .1) made }, most)
+
+pub acquire-spec : {M : Type 1} → statement M
+acquire-spec =
+    tie.close
+    (tie.spec
+    field-index-requires
+    read-field-requires
+    with-requires
+    store-requires
+    read-lock-requires
+    stores-requires
+    same-length
+    returns
+    take-requires
+    add-t26
+    with-requires-2
+    stores-requires-2
+    same-length-2
+    returns-2)

@@ -1,0 +1,154 @@
+// Turns of one worker back to back, in a run in which no other is open: an instruction's turns at once, or one turn as it is.
+mod logged;
+mod whole;
+
+use tally::Tally;
+use turn::Did;
+ghost use mathlib.Core.Path.{_≡_};
+ghost use mathlib.Core.Bool.{true, false};
+ghost use Prim.Native.Nat.{_≤_};
+ghost use Rattle.image.specs.Image.{at};
+ghost use Rattle.image.specs.inner.Inside.{Inside};
+ghost use Rattle.plan.specs.Turn.{ready};
+ghost use Rattle.tally.specs.Tally.{RoomFor};
+ghost use Rattle.stretch.specs.inner.Stretch.{tallied, takenBy, Stretched, Attempted};
+
+// So many turns, and what they leave beside the image: the worker's step and turn, the locks held, and the tally.
+pub struct Stretch {
+    pub turns: u16,
+    pub step: u8,
+    pub turn: u8,
+    pub held: u64,
+    pub tally: Tally,
+}
+
+// A stretch that is to be made: whether its first turn is ready, and what it leaves; where it is not, all as it was.
+pub struct Attempt {
+    pub made: bool,
+    pub stretch: Stretch,
+}
+
+// It is refused, at step s, turn t.
+fn refused(s: u8, t: u8, held: u64, tally: Tally) -> Attempt
+    ensures made { λ r. ⌜ r .made ≡ false ⌝ }
+    ensures turns { λ r. ⌜ r .stretch .turns ≡ 1 ⌝ }
+{
+    Attempt {
+        made: false,
+        stretch: Stretch {
+            turns: 1,
+            step: s,
+            turn: t,
+            held: held,
+            tally: tally,
+        },
+    }
+}
+
+// The tally after k turns of which the one of note did this: the others stored a word each, or waited as it did.
+fn tallied(x: Did, k: u16, t: Tally) -> Tally
+    requires { ⌜ RoomFor k t × (1 ≤ k) ⌝ }
+    ensures { λ r. ⌜ r ≡ tallied x k t ⌝ }
+{
+    match x {
+        Did::Stored(_) => tally::stores(t, k as u64),
+        Did::Took(_) => tally::stores(t, k as u64),
+        Did::Freed(_) => tally::stores(t, k as u64),
+        Did::Passed(why) => turn::passed(why, tally::stores(t, k as u64 - 1)),
+        Did::Waiting(_) => tally::waits(t, k as u64),
+    }
+}
+
+// How many of these rounds a turn alone takes by what it did: one, or all of them where it waits, since no other worker is there to free the lock.
+fn taken(x: Did, rounds: u16) -> u16
+    ensures { λ r. ⌜ r ≡ takenBy x rounds ⌝ }
+{
+    match x {
+        Did::Stored(_) => 1,
+        Did::Took(_) => 1,
+        Did::Freed(_) => 1,
+        Did::Passed(_) => 1,
+        Did::Waiting(_) => rounds,
+    }
+}
+
+// One turn as it is.
+fn one(
+    image: &mut [u64],
+    d: usize,
+    s: u8,
+    t: u8,
+    own: usize,
+    rounds: u16,
+    held: u64,
+    tally: Tally,
+    left: &mut u64,
+) -> Stretch
+    requires { ⌜ (Inside own (now image) d) × (ready own (at own (now image)) d s t ≡ true) × (1 ≤ rounds) × RoomFor rounds tally ⌝ }
+    ensures stretch { λ r. ⌜ Stretched own d s t held tally (now (image .entry)) (now (left .entry)) (now (image .exit)) (now (left .exit)) r ⌝ }
+    ensures most { λ r. ⌜ r .turns ≤ rounds ⌝ }
+{
+    let acted = turn::turn_on(image, d, s, t, own, left);
+    let did = acted.did;
+    let turns = taken(did, rounds);
+    Stretch {
+        turns: turns,
+        step: acted.step,
+        turn: acted.turn,
+        held: turn::held_after(did, held),
+        tally: tallied(did, turns, tally),
+    }
+}
+
+// One turn, where it is ready.
+fn plain(
+    image: &mut [u64],
+    d: usize,
+    s: u8,
+    t: u8,
+    own: usize,
+    rounds: u16,
+    held: u64,
+    tally: Tally,
+    left: &mut u64,
+) -> Attempt
+    requires { ⌜ (Inside own (now image) d) × (1 ≤ rounds) × RoomFor rounds tally ⌝ }
+    ensures attempt { λ r. ⌜ Attempted own d s t held tally (now (image .entry)) (now (left .entry)) (now (image .exit)) (now (left .exit)) r ⌝ }
+    ensures most { λ r. ⌜ r .stretch .turns ≤ rounds ⌝ }
+{
+    if !plan::ready(image, d, own, s, t) {
+        return refused(s, t, held, tally);
+    }
+    Attempt {
+        made: true,
+        stretch: one(image, d, s, t, own, rounds, held, tally, left),
+    }
+}
+
+// Turns of worker d, which is open at step s, turn t: whole instructions, where one begins here and as many rounds are left; else one.
+pub fn next(
+    image: &mut [u64],
+    d: usize,
+    s: u8,
+    t: u8,
+    own: usize,
+    rounds: u16,
+    held: u64,
+    tally: Tally,
+    left: &mut u64,
+) -> Attempt
+    requires { ⌜ (Inside own (now image) d) × (1 ≤ rounds) × RoomFor rounds tally ⌝ }
+    ensures attempt { λ r. ⌜ Attempted own d s t held tally (now (image .entry)) (now (left .entry)) (now (image .exit)) (now (left .exit)) r ⌝ }
+    ensures most { λ r. ⌜ r .stretch .turns ≤ rounds ⌝ }
+{
+    if t == 0 {
+        let x = whole::instructions(image, d, s, own, rounds, held, tally, left);
+        if x.turns != 0 {
+            return Attempt {
+                made: true,
+                stretch: x,
+            };
+        }
+    }
+    plain(image, d, s, t, own, rounds, held, tally, left)
+}
