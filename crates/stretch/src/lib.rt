@@ -1,4 +1,5 @@
 // Turns of one worker back to back, in a run in which no other is open: an instruction's turns at once, or one turn as it is.
+mod locks;
 mod logged;
 mod whole;
 

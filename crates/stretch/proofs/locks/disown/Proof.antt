@@ -1,9 +1,9 @@
--- `stretch::whole::disown` meets its contract: the logged store by its callee.
+-- `stretch::locks::disown` meets its contract: the logged store by its callee.
 use borrow.Author.Needs.{needs}
 use mathlib.Core.Path.{refl}
 use Rattle.stretch.proofs.Running.{field-lt}
-use Rattle.stretch.proofs.whole.disown.Statement.{statement}
-use Rattle.stretch.proofs.whole.disown.Tie as tie
+use Rattle.stretch.proofs.locks.disown.Statement.{statement}
+use Rattle.stretch.proofs.locks.disown.Tie as tie
 
 read-field-requires : tie.Need-read-field-requires
 read-field-requires c κs = search needs

@@ -1,4 +1,4 @@
--- `stretch::whole::acquire` meets its contract: its stores are those of `acquire-begins`, or of `acquire-turns`.
+-- `stretch::locks::acquire` meets its contract: its stores are those of `acquire-begins`, or of `acquire-turns`.
 use borrow.Author.Needs.{needs}
 use mathlib.Core.Path.{sym, _∙_}
 use Prim.Native.Nat.{_≤_}
@@ -6,8 +6,8 @@ use native.Mathlib.Omega.{arith}
 use Rattle.image.proofs.Stores.{inside-front}
 use Rattle.stretch.proofs.Running.{fetched-fits, fetched-step, inside-store}
 use Rattle.stretch.proofs.ByKind.{acquire-begins, acquire-turns}
-use Rattle.stretch.proofs.whole.acquire.Statement.{statement}
-use Rattle.stretch.proofs.whole.acquire.Tie as tie
+use Rattle.stretch.proofs.locks.acquire.Statement.{statement}
+use Rattle.stretch.proofs.locks.acquire.Tie as tie
 
 field-index-requires : tie.Need-field-index-requires
 field-index-requires c κs = search needs

@@ -1,10 +1,10 @@
--- `stretch::whole::take` meets its contract: the owner word by its callee, and the logged store of the mask read behind it.
+-- `stretch::locks::take` meets its contract: the owner word by its callee, and the logged store of the mask read behind it.
 use borrow.Author.Needs.{needs}
 use mathlib.Core.Path.{refl}
 use Rattle.image.specs.inner.Inside.{Inside}
 use Rattle.stretch.proofs.Running.{inside-store, field-lt}
-use Rattle.stretch.proofs.whole.take.Statement.{statement}
-use Rattle.stretch.proofs.whole.take.Tie as tie
+use Rattle.stretch.proofs.locks.take.Statement.{statement}
+use Rattle.stretch.proofs.locks.take.Tie as tie
 
 lock-index-requires : tie.Need-lock-index-requires
 lock-index-requires c κs = search needs

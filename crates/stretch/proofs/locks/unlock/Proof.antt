@@ -1,8 +1,8 @@
--- `stretch::whole::unlock` meets its contract: by the report, an arm each.
+-- `stretch::locks::unlock` meets its contract: by the report, an arm each.
 use borrow.Author.Needs.{needs}
 use mathlib.Core.Path.{sym, _∙_}
-use Rattle.stretch.proofs.whole.unlock.Statement.{statement}
-use Rattle.stretch.proofs.whole.unlock.Tie as tie
+use Rattle.stretch.proofs.locks.unlock.Statement.{statement}
+use Rattle.stretch.proofs.locks.unlock.Tie as tie
 
 read-lock-requires : tie.Need-read-lock-requires
 read-lock-requires c κs = search needs

@@ -1,4 +1,4 @@
--- `stretch::whole::release` meets its contract: its stores are those of `release-turns`, by what it finds.
+-- `stretch::locks::release` meets its contract: its stores are those of `release-turns`, by what it finds.
 use borrow.Author.Needs.{needs}
 use mathlib.Core.Path.{refl}
 use native.Mathlib.Omega.{arith}
@@ -9,8 +9,8 @@ use Rattle.image.proofs.Stores.{inside-front}
 use Rattle.plan.specs.Report.{reportOf}
 use Rattle.stretch.proofs.Running.{fetched-fits, fetched-step}
 use Rattle.stretch.proofs.ByKind.{disowned-inside, unlocked-inside, unlock-lock, release-turns}
-use Rattle.stretch.proofs.whole.release.Statement.{statement}
-use Rattle.stretch.proofs.whole.release.Tie as tie
+use Rattle.stretch.proofs.locks.release.Statement.{statement}
+use Rattle.stretch.proofs.locks.release.Tie as tie
 
 disown-requires : tie.Need-disown-requires
 disown-requires c κs = let f = c .before .before .before .pre .0 in (f .inside, fetched-fits _ _ _ _ _ f)
