@@ -2,6 +2,7 @@
 -- a mask beside them.)
 use Prim.Native.Nat.{ℕ}
 use mathlib.Core.Bool.{Bool, true, false, cond}
+use mathlib.Core.List.{List}
 use lib.ListN.{getD, set, replicate}
 use lib.Count.{ones}
 use lib.Dec.{eqb}
@@ -28,6 +29,10 @@ turnNo (on s t) = t
 -- worker d's cursor; idle where the record has no such worker
 unfoldable pub cursorAt : Cursors → ℕ → Cursor
 cursorAt c d = cond (eqb (getD (c .turn) d 255) 255) idle (on (getD (c .step) d 0) (getD (c .turn) d 255))
+
+-- the record of its parts: a step and a turn for each worker, and the mask of the locks held
+abbrev pub cursors : List ℕ → List ℕ → ℕ → Cursors
+cursors step turn held = record { step = step; turn = turn; held = held }
 
 -- the record with these numbers for worker d
 unfoldable pub setAt : Cursors → ℕ → ℕ → ℕ → Cursors

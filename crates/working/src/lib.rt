@@ -1,7 +1,9 @@
 // What the calls have in common: the working record, which says where the workers stand, and why a call is refused.
 use section::Verdict;
 ghost use mathlib.Core.Path.{_≡_};
-ghost use Rattle.working.specs.Cursor.{isIdle, cursorAt, setAt, allIdle, locksHeld};
+ghost use Prim.Native.Nat.{ℕ};
+ghost use lib.ListN.{set};
+ghost use Rattle.working.specs.Cursor.{isIdle, cursorAt, cursors, setAt, allIdle, locksHeld};
 ghost use Rattle.working.specs.Refusal.{causeOf, valueOf};
 
 // Where the workers stand: a step and a turn for each. Turn 255 is idle. And the locks held, as a mask.
@@ -65,17 +67,30 @@ pub fn idle(c: Cursors, d: usize) -> bool
     c.turn[d] == 255
 }
 
+// One byte of an array, if it has the index.
+fn put_byte(bytes: &mut [u8], i: usize, v: u8)
+    ensures { λ r. ⌜ now (bytes .exit) ≡ set (now (bytes .entry)) i v ⌝ }
+{
+    if i < bytes.len() {
+        bytes[i] = v;
+    }
+}
+
+// Worker d put at step s, turn t in a record's two arrays; a worker that they have not is put nowhere.
+pub fn put(step: &mut [u8; 8], turn: &mut [u8; 8], d: usize, s: u8, t: u8)
+    ensures { λ r. ⌜ ((h : ℕ) → cursors (now (step .exit)) (now (turn .exit)) h ≡ setAt (cursors (now (step .entry)) (now (turn .entry)) h) d s t) ⌝ }
+{
+    put_byte(step, d, s);
+    put_byte(turn, d, t);
+}
+
 // The record with worker d at step s, turn t. The two arrays are copied one by one, which was measured to be faster than a copy of the whole.
 pub fn place(c: Cursors, d: usize, s: u8, t: u8) -> Cursors
     ensures { λ r. ⌜ r ≡ setAt c d s t ⌝ }
 {
-    if 8 <= d {
-        return c;
-    }
     let mut step = c.step;
-    step[d] = s;
     let mut turn = c.turn;
-    turn[d] = t;
+    put(&mut step, &mut turn, d, s, t);
     Cursors {
         step: step,
         turn: turn,
