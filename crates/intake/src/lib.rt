@@ -20,7 +20,9 @@ pub struct Entered {
     pub cursors: Cursors,
 }
 
-// Submits a section for worker d, with its number and its eight arguments.
+// Submits a section for worker d, with its number and its eight arguments. The worker is put at step 0, turn 0 in copies of the arrays before it is
+// known whether the section is taken, and the record is made of them at the end: the bytes are stored well before the arrays are loaded whole, since a
+// processor that loads an array whole waits for a byte of it that it has just stored.
 pub fn submit(
     image: &mut [u64],
     c: Cursors,
@@ -38,6 +40,9 @@ pub fn submit(
         ≡ submitLeaves own (world (now (image .entry)) c (now (left .entry))) d number (now (args .entry)) (now (words .entry))
         (submitAnswer mark own (world (now (image .entry)) c (now (left .entry))) d number (now (words .entry))) ⌝ }
 {
+    let mut step = c.step;
+    let mut turn = c.turn;
+    working::put(&mut step, &mut turn, d, 0, 0);
     let a = submitting::judge(image, c, d, number, words, mark, own);
     if !submitting::taken(a) {
         return Entered {
@@ -46,9 +51,12 @@ pub fn submit(
         };
     }
     submitting::store_section(image, d, number, args, words, own, left);
-    let next = working::place(c, d, 0, 0);
     Entered {
         answer: a,
-        cursors: next,
+        cursors: Cursors {
+            step: step,
+            turn: turn,
+            held: c.held,
+        },
     }
 }

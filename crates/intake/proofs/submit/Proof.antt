@@ -11,6 +11,9 @@ use Rattle.intake.proofs.Submission.{accepted, leaves-refused, leaves-t
 use Rattle.intake.proofs.submit.Statement.{statement}
 use Rattle.intake.proofs.submit.Tie as tie
 
+put-requires : tie.Need-put-requires
+put-requires c κs = search needs
+
 judge-requires : tie.Need-judge-requires
 judge-requires c κs = search needs
 
@@ -24,7 +27,7 @@ returns : tie.Need-returns
 returns c =
     let t = c .before in
     let j = t .before in
-    let A = j .before .before .before .before .args in
+    let A = j .before .before .before .before .before .before .before .before .before .args in
     let w = world (now (A .image)) (A .c) (now (A .left)) in
     let e = j .judge .ensures (now (A .left)) in
     let r = denied (t .taken .ensures) (c .if1 .taken) in
@@ -34,40 +37,37 @@ store-section-requires : tie.Need-store-section-requires
 store-section-requires c κs =
     let t = c .before .before .before in
     let j = t .before in
-    let S = j .before .before .before .before in
+    let S = j .before .before .before .before .before .before .before .before .before in
     let A = S .args in
     let w = world (now (A .image)) (A .c) (now (A .left)) in
     let r = granted (t .taken .ensures) (c .before .before .if1 .left) in
     let a = accepted (A .mark) (A .own) w (A .d) (A .number) (now (A .words)) (rw (← j .judge .ensures (now (A .left))) r) in
     (header-inside (A .mark) (A .own) (now (A .image)) (A .d) (S .pre .1) (a .header) (a .below), S .pre .0, check-parts (A .own) _ _ (a .checked) .1)
 
-place-requires : tie.Need-place-requires
-place-requires c κs = search needs
-
 same-length-2 : tie.Need-same-length-2
 same-length-2 c = search needs
 
 returns-2 : tie.Need-returns-2
 returns-2 c =
-    let h = c .before .before .before in
+    let h = c .before .before in
     let t = h .before .before .before .before in
     let j = t .before in
-    let A = j .before .before .before .before .args in
+    let A = j .before .before .before .before .before .before .before .before .before .args in
     let w = world (now (A .image)) (A .c) (now (A .left)) in
     let e = j .judge .ensures (now (A .left)) in
     let r = granted (t .taken .ensures) (h .before .before .before .if1 .left) in
     let l = leaves-taken (A .own) w (A .d) (A .number) (now (A .args)) (now (A .words)) (j .judge .result) r in
-    (e, rw (← e, l, h .store-section .ensures .0, h .store-section .ensures .1, c .place .ensures))
+    (e, rw (← e, l, h .store-section .ensures .0, h .store-section .ensures .1, j .before .before .put .ensures (A .c .held)))
 
 pub submit-spec : {M : Type 1} → statement M
 submit-spec =
     tie.close
     (tie.spec
+    put-requires
     judge-requires
     taken-requires
     same-length
     returns
     store-section-requires
-    place-requires
     same-length-2
     returns-2)
