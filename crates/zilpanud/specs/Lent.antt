@@ -8,7 +8,6 @@ use Rattle.section.specs.declared.Verdict.{Verdict}
 use Rattle.section.specs.Check.{codeOf, check}
 use Rattle.section.specs.Sets.{setsAnswer, setsLeave}
 use Rattle.tally.specs.declared.Tally.{Tally}
-use Rattle.working.specs.declared.Cursors.{Cursors}
 use Rattle.turn.specs.declared.Answer.{Answer}
 use Rattle.formatting.specs.declared.Formatted.{Formatted}
 use Rattle.intake.specs.declared.Submitted.{Submitted}
@@ -21,15 +20,11 @@ use Rattle.working.specs.World.{World, world}
 use Rattle.turn.specs.Call.{answerOf, leaves, outcome}
 use Rattle.formatting.specs.Format.{formatAnswer, formatLeaves, formatLeft}
 use Rattle.intake.specs.Submit.{submitAnswer, submitLeaves}
-use Rattle.working.specs.Cursor.{allIdle}
+use Rattle.working.specs.Cursor.{cursors, allIdle}
 use Rattle.run.specs.Run.{Course, runOf}
 use Rattle.soundness.specs.declared.Answer.{Answer as Recovery}
 use Rattle.recovery.specs.Recovery.{recovery}
 use Rattle.recovery.specs.Recover.{answerOf as recoveryAnswer, cursorsOf, recoveryLeaves, recoveryLeft}
-
--- a step and a turn for each worker, and the mask of the locks held
-abbrev pub cursors : List ℕ → List ℕ → ℕ → Cursors
-cursors step turn held = record { step = step; turn = turn; held = held }
 
 abbrev pub lent : Image → List ℕ → List ℕ → ℕ → ℕ → World
 lent image step turn held left = world image (cursors step turn held) left

@@ -1,7 +1,7 @@
 // The working record as it crosses: an array of steps, one of turns, and the mask of the locks held.
 use working::Cursors;
 ghost use mathlib.Core.Path.{_≡_};
-ghost use Rattle.zilpanud.specs.Lent.{cursors};
+ghost use Rattle.working.specs.Cursor.{cursors};
 
 pub fn lent(step: &[u8; 8], turn: &[u8; 8], held: u64) -> Cursors
     ensures { λ r. ⌜ r ≡ cursors (now (step .entry)) (now (turn .entry)) held ⌝ }

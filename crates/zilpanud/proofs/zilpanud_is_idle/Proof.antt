@@ -2,7 +2,7 @@
 use borrow.Author.Needs.{needs}
 use mathlib.Core.Path.{sym, _∙_}
 use denote.Ref.{now}
-use Rattle.zilpanud.specs.Lent.{cursors}
+use Rattle.working.specs.Cursor.{cursors}
 use Rattle.zilpanud.specs.Ask.{idleBit}
 use Rattle.zilpanud.proofs.Asked.{told-yes, told-no}
 use Rattle.zilpanud.proofs.zilpanud_is_idle.Statement.{statement}
