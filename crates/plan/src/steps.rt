@@ -7,7 +7,7 @@ use log::Passing;
 use log::Plan;
 use log::words;
 ghost use mathlib.Core.Path.{_≡_};
-ghost use Prim.Native.Nat.{ℕ, _+_, _<_};
+ghost use Prim.Native.Nat.{ℕ, _+_, _<_, _≤_};
 ghost use Rattle.image.specs.Image.{at};
 ghost use Rattle.image.specs.inner.Inside.{Inside};
 ghost use Rattle.code.specs.inner.Fits.{ranged, fits};
@@ -31,7 +31,7 @@ fn lock_turn(image: &[u64], d: usize, own: usize, a: u64, s: u8) -> Plan
     }
 }
 
-fn acquire_turn(image: &[u64], d: usize, own: usize, a: u64, s: u8, t: u8) -> Plan
+pub fn acquire_turn(image: &[u64], d: usize, own: usize, a: u64, s: u8, t: u8) -> Plan
     requires { ⌜ (Inside own (now image) d) × (a < 64) × (s < 64) × (t < 6) ⌝ }
     ensures { λ r. ⌜ r ≡ planOf own (acquireTurn own (at own (now (image .entry))) d a s t) ⌝ }
 {
@@ -88,15 +88,21 @@ fn unlock_turn(image: &[u64], d: usize, own: usize, a: u64, s: u8) -> Plan
     }
 }
 
-fn release_turn(image: &[u64], d: usize, own: usize, a: u64, s: u8, t: u8) -> Plan
-    requires { ⌜ (Inside own (now image) d) × (a < 64) × (s < 64) × (t < 6) ⌝ }
+// A release's turns 0 to 3: the owned mask without the lock, in a logged store.
+pub fn disown_turn(image: &[u64], d: usize, own: usize, a: u64, s: u8, t: u8) -> Plan
+    requires { ⌜ (Inside own (now image) d) × (a < 64) × (s < 64) × (t < 4) ⌝ }
     ensures { λ r. ⌜ r ≡ planOf own (releaseTurn own (at own (now (image .entry))) d a s t) ⌝ }
 {
-    if t < 4 {
-        let owned = image::field_index(Field::Owned, d, own);
-        let v = mask::without(image::read_field(image, Field::Owned, d, own), a);
-        return log::logged(image, d, own, s, t, owned, v, s, 4, t);
-    }
+    let at = image::field_index(Field::Owned, d, own);
+    let v = mask::without(image::read_field(image, Field::Owned, d, own), a);
+    log::logged(image, d, own, s, t, at, v, s, 4, t)
+}
+
+// A release's turns 4 and 5: the lock's owner word, then the intent.
+pub fn give_turn(image: &[u64], d: usize, own: usize, a: u64, s: u8, t: u8) -> Plan
+    requires { ⌜ (Inside own (now image) d) × (a < 64) × (s < 64) × (4 ≤ t) × (t < 6) ⌝ }
+    ensures { λ r. ⌜ r ≡ planOf own (releaseTurn own (at own (now (image .entry))) d a s t) ⌝ }
+{
     if t == 4 {
         return unlock_turn(image, d, own, a, s);
     }
@@ -109,7 +115,7 @@ fn release_turn(image: &[u64], d: usize, own: usize, a: u64, s: u8, t: u8) -> Pl
 }
 
 // The expression is worked out in the turn that stores its value, and in no other.
-fn assign_turn(image: &[u64], d: usize, own: usize, a: u64, e: Expr, s: u8, t: u8) -> Plan
+pub fn assign_turn(image: &[u64], d: usize, own: usize, a: u64, e: Expr, s: u8, t: u8) -> Plan
     requires { ⌜ (Inside own (now image) d) × (a < 512 + own) × ranged own e × (s < 64) × (t < 6) ⌝ }
     ensures { λ r. ⌜ r ≡ planOf own (opTurn own (at own (now (image .entry))) d s t (Op.Assign a e)) ⌝ }
 {
@@ -121,7 +127,7 @@ fn assign_turn(image: &[u64], d: usize, own: usize, a: u64, e: Expr, s: u8, t: u
     log::logged(image, d, own, s, t, target, 0, s + 1, 0, t)
 }
 
-fn jump_turn(image: &[u64], d: usize, own: usize, a: u64, b: u64, s: u8) -> Plan
+pub fn jump_turn(image: &[u64], d: usize, own: usize, a: u64, b: u64, s: u8) -> Plan
     requires { ⌜ (Inside own (now image) d) × (a < 512 + own) × (b < 64) × (s < 64) ⌝ }
     ensures { λ r. ⌜ ((t : ℕ) → r ≡ planOf own (opTurn own (at own (now (image .entry))) d s t (Op.Jump a b))) ⌝ }
 {
@@ -139,7 +145,7 @@ fn jump_turn(image: &[u64], d: usize, own: usize, a: u64, b: u64, s: u8) -> Plan
     }
 }
 
-fn finish_turn(image: &[u64], d: usize, own: usize, s: u8, t: u8) -> Plan
+pub fn finish_turn(image: &[u64], d: usize, own: usize, s: u8, t: u8) -> Plan
     requires { ⌜ Inside own (now image) d ⌝ }
     ensures { λ r. ⌜ r ≡ planOf own (finishTurn own (at own (now (image .entry))) d s t) ⌝ }
 {
@@ -174,7 +180,11 @@ pub fn op_turn(image: &[u64], d: usize, own: usize, s: u8, t: u8, x: Op) -> Plan
 {
     match x {
         Op::Acquire(a) => acquire_turn(image, d, own, a, s, t),
-        Op::Release(a) => release_turn(image, d, own, a, s, t),
+        Op::Release(a) => if t < 4 {
+            disown_turn(image, d, own, a, s, t)
+        } else {
+            give_turn(image, d, own, a, s, t)
+        },
         Op::Assign(a, e) => assign_turn(image, d, own, a, e, s, t),
         Op::Jump(a, b) => jump_turn(image, d, own, a, b, s),
         Op::Finish => finish_turn(image, d, own, s, t),

@@ -12,8 +12,13 @@ acquire-turn-requires c κs = let p = c .before .before .before .before .pre in 
 enum-known-x-2 : tie.Need-enum-known-x-2
 enum-known-x-2 c = search needs
 
-release-turn-requires : tie.Need-release-turn-requires
-release-turn-requires c κs = let p = c .before .before .before .before .pre in (p .0, rw (c .before .x2 .given .1) at (p .1), p .2, p .3)
+disown-turn-requires : tie.Need-disown-turn-requires
+disown-turn-requires c κs =
+    let p = c .before .before .before .before .before .pre in (p .0, rw (c .before .before .x2 .given .1) at (p .1), p .2, c .if1 .taken)
+
+give-turn-requires : tie.Need-give-turn-requires
+give-turn-requires c κs =
+    let p = c .before .before .before .before .before .pre in (p .0, rw (c .before .before .x2 .given .1) at (p .1), p .2, c .if1 .left, p .3)
 
 enum-known-x-3 : tie.Need-enum-known-x-3
 enum-known-x-3 c = search needs
@@ -40,19 +45,22 @@ returns : tie.Need-returns
 returns c = rw (c .before .before .x .given .1) (c .acquire-turn .ensures)
 
 returns-2 : tie.Need-returns-2
-returns-2 c = rw (c .before .before .x2 .given .1) (c .release-turn .ensures)
+returns-2 c = rw (c .before .before .before .x2 .given .1) (c .disown-turn .ensures)
 
 returns-3 : tie.Need-returns-3
-returns-3 c = rw (c .before .before .x3 .given .1) (c .assign-turn .ensures)
+returns-3 c = rw (c .before .before .before .x2 .given .1) (c .give-turn .ensures)
 
 returns-4 : tie.Need-returns-4
-returns-4 c = rw (c .before .before .x4 .given .1) (c .jump-turn .ensures (c .before .before .before .before .before .args .t))
+returns-4 c = rw (c .before .before .x3 .given .1) (c .assign-turn .ensures)
 
 returns-5 : tie.Need-returns-5
-returns-5 c = rw (c .before .enum-told .given .1) (c .finish-turn .ensures)
+returns-5 c = rw (c .before .before .x4 .given .1) (c .jump-turn .ensures (c .before .before .before .before .before .args .t))
 
 returns-6 : tie.Need-returns-6
-returns-6 c = rw (c .enum-told2 .given .1)
+returns-6 c = rw (c .before .enum-told .given .1) (c .finish-turn .ensures)
+
+returns-7 : tie.Need-returns-7
+returns-7 c = rw (c .enum-told2 .given .1)
 
 pub op-turn-spec : {M : Type 1} → statement M
 op-turn-spec =
@@ -61,7 +69,8 @@ op-turn-spec =
     enum-known-x
     acquire-turn-requires
     enum-known-x-2
-    release-turn-requires
+    disown-turn-requires
+    give-turn-requires
     enum-known-x-3
     assign-turn-requires
     enum-known-x-4
@@ -74,4 +83,5 @@ op-turn-spec =
     returns-3
     returns-4
     returns-5
-    returns-6)
+    returns-6
+    returns-7)
