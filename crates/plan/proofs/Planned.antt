@@ -12,6 +12,7 @@ use Rattle.image.specs.declared.Field.the-variants.{Count, Owned}
 use Rattle.image.specs.declared.Field.{Field}
 use Rattle.image.specs.Place.{Place, cell, field, own, Memory}
 use Rattle.image.specs.Image.{indexOf}
+use Rattle.code.specs.declared.Op.{Op}
 use Rattle.code.specs.Table.{turnsOf}
 use Rattle.code.specs.Op.{opOf}
 use Rattle.code.specs.inner.Fits.{fits}
@@ -20,7 +21,7 @@ use Rattle.code.proofs.Ranges.{formed-range, in-range, turns-most}
 use Rattle.working.specs.Cursor.{idle, on}
 use Rattle.log.specs.Log.{operand, codeIn}
 use Rattle.log.specs.declared.Plan.the-variants.{Store}
-use Rattle.plan.specs.Turn.{stored, logged, acquireTurn, finishTurn, ready}
+use Rattle.plan.specs.Turn.{stored, logged, acquireTurn, finishTurn, opTurn, ready, turnAt}
 use Rattle.log.specs.inner.Logged.{loggedPlan}
 use Rattle.plan.specs.inner.Plan.{storePlan, planOf}
 
@@ -111,3 +112,13 @@ ready-turn n rd d s t u e l =
     let w = codeIn n rd d s in
     let h = private-tests (leb 3 k) (leb k 64) (ltb s k) (wellFormed n k s w) (ltb t (turnsOf w)) e in
     rw (h .0, h .1, h .2, h .3) (lt-ltb u (turnsOf w) l)
+
+-- its instruction, read as the word w and decoded as x
+module _ (n : ℕ) (rd : Memory) (d s t w : ℕ) (x : Op) (e : ready n rd d s t ≡ true) (f : w ≡ codeIn n rd d s) (g : opOf w ≡ x) where
+  pub ready-fits : fits n x × (s < 64) × (t < 6)
+  ready-fits = let r = ready-says n rd d s t e in (rw (← g, f) (r .form), r .step, r .turn)
+
+  -- its turn is the instruction's
+  pub ready-op : turnAt n rd d (on s t) ≡ opTurn n rd d s t x
+  unfolding turnAt
+  ready-op = rw (e, ← f, g)

@@ -1,6 +1,8 @@
 // One turn of a worker: its tests, its plan, at most one store, and the record with the step and turn that the plan names.
+use code::Op;
 use log::Passing;
 use log::Plan;
+use plan::steps;
 use tally::Tally;
 use working::Cursors;
 use working::Refusal;
@@ -12,9 +14,10 @@ ghost use mathlib.Core.Bool.{true};
 ghost use Prim.Native.Nat.{ℕ, _≤_};
 ghost use Rattle.image.specs.Image.{at};
 ghost use Rattle.image.specs.inner.Inside.{Inside};
-ghost use Rattle.plan.specs.Turn.{ready};
+ghost use Rattle.plan.specs.Turn.{ready, turnAt};
+ghost use Rattle.plan.specs.inner.Plan.{planOf};
 ghost use Rattle.working.specs.inner.At.{At};
-ghost use Rattle.working.specs.Cursor.{setAt, holding};
+ghost use Rattle.working.specs.Cursor.{on, setAt, holding};
 ghost use Rattle.working.specs.World.{world};
 ghost use Rattle.tally.specs.Tally.{Room};
 ghost use Rattle.turn.specs.inner.Acting.{planDid, planLeaves, didLock, didHeld, didAnswer, Acts, tested, gateOf};
@@ -117,6 +120,39 @@ pub fn turn_on(image: &mut [u64], d: usize, s: u8, t: u8, own: usize, left: &mut
         (world (now (image .exit)) (holding (didHeld (r .did) (c .held)) (setAt c d (r .step) (r .turn))) (now (left .exit)))) ⌝ }
 {
     let p = plan::next(image, d, own, s, t);
+    done(image, p, s, t, left)
+}
+
+// What worker d's turn is to do at step s, turn t, which is ready: what `plan::next` says, by the same functions.
+fn planned(image: &[u64], d: usize, own: usize, s: u8, t: u8) -> Plan
+    requires { ⌜ (Inside own (now image) d) × (ready own (at own (now image)) d s t ≡ true) ⌝ }
+    ensures { λ r. ⌜ r ≡ planOf own (turnAt own (at own (now (image .entry))) d (on s t)) ⌝ }
+{
+    let w = image::read_step(image, d, s as usize, own);
+    match code::op_of(w) {
+        Op::Acquire(a) => steps::acquire_turn(image, d, own, a, s, t),
+        Op::Release(a) => if t < 4 {
+            steps::disown_turn(image, d, own, a, s, t)
+        } else {
+            steps::give_turn(image, d, own, a, s, t)
+        },
+        Op::Assign(a, e) => steps::assign_turn(image, d, own, a, e, s, t),
+        Op::Jump(a, b) => steps::jump_turn(image, d, own, a, b, s),
+        Op::Finish => steps::finish_turn(image, d, own, s, t),
+        Op::Unknown => Plan::Wait(0),
+    }
+}
+
+// The turn that `turn_on` makes, for the loop of a run, which has this function to itself, so that the compiler puts it there: `turn_on` has several
+// callers, and is called. What a turn is to store is said once, in `plan::steps`.
+pub fn turn_in_place(image: &mut [u64], d: usize, s: u8, t: u8, own: usize, left: &mut u64) -> Acted
+    requires { ⌜ (Inside own (now image) d) × (ready own (at own (now image)) d s t ≡ true) ⌝ }
+    ensures lock { λ r. ⌜ didLock (r .did) ⌝ }
+    ensures acts { λ r. ⌜ ((c : Cursors) → At c d s t
+        → Acts own (world (now (image .entry)) c (now (left .entry))) d (r .did)
+        (world (now (image .exit)) (holding (didHeld (r .did) (c .held)) (setAt c d (r .step) (r .turn))) (now (left .exit)))) ⌝ }
+{
+    let p = planned(image, d, own, s, t);
     done(image, p, s, t, left)
 }
 
