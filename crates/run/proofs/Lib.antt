@@ -2,5 +2,6 @@ pub mod Idling
 pub mod Rounds
 pub mod Next
 pub mod Staying
+pub mod Lapped
 pub mod Laps
 pub mod Solo

@@ -91,7 +91,7 @@ fn rounds_of(
                 d += 1;
                 continue;
             }
-            let lap = round::turn(image, d, s, t, own, round, left);
+            let lap = round::lap_in_place(image, d, s, t, own, round, left);
             if !lap.made {
                 break 'rounds End::Halted(Refusal::Cursor(d));
             }

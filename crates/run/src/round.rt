@@ -1,4 +1,4 @@
-// The turns of a round, one by one: as a run makes them, and as they are made and printed by themselves. One turn of a round stands here alone.
+// The turns of a round, one by one: as a run makes them, and as they are made and printed by themselves. What makes one of them stands here alone.
 use turn::Acted;
 use turn::Answer;
 use turn::Did;
@@ -14,6 +14,7 @@ ghost use Rattle.plan.specs.Turn.{ready};
 ghost use Rattle.working.specs.World.{world};
 ghost use Rattle.working.specs.Cursor.{isIdle, cursorAt};
 ghost use Rattle.turn.specs.Call.{answerOf, leaves, outcomeAt, outcome};
+ghost use Rattle.turn.specs.inner.Acting.{didLock};
 ghost use Rattle.run.specs.Round.{nextOpen, nextWorker, nextOutcome};
 ghost use Rattle.run.specs.inner.Lap.{Lapped};
 
@@ -43,6 +44,21 @@ fn ready_in(image: &[u64], d: usize, own: usize, s: u8, t: u8, round: u16) -> bo
     plan::ready(image, d, own, s, t)
 }
 
+// A turn that is refused, at step s, turn t.
+fn refused(s: u8, t: u8) -> Lap
+    ensures made { λ r. ⌜ r .made ≡ false ⌝ }
+    ensures lock { λ r. ⌜ didLock (r .acted .did) ⌝ }
+{
+    Lap {
+        made: false,
+        acted: Acted {
+            did: Did::Waiting(0),
+            step: s,
+            turn: t,
+        },
+    }
+}
+
 // One turn of a round: that of worker d, which is open at step s, turn t.
 pub fn turn(
     image: &mut [u64],
@@ -57,19 +73,34 @@ pub fn turn(
     ensures { λ r. ⌜ Lapped own (now (image .entry)) (now (left .entry)) (now (image .exit)) (now (left .exit)) d s t r ⌝ }
 {
     if !ready_in(image, d, own, s, t, round) {
-        return Lap {
-            made: false,
-            acted: Acted {
-                did: Did::Waiting(0),
-                step: s,
-                turn: t,
-            },
-        };
+        return refused(s, t);
     }
     Lap {
         made: true,
         acted: turn::turn_on(image, d, s, t, own, left),
     }
+}
+
+// The same turn for the loop of a run, which alone calls it: the compiler puts it there, with the turn in it (`turn::turn_in_place`).
+pub(crate) fn lap_in_place(
+    image: &mut [u64],
+    d: usize,
+    s: u8,
+    t: u8,
+    own: usize,
+    round: u16,
+    left: &mut u64,
+) -> Lap
+    requires { ⌜ (Inside own (now image) d) × (t ≢ 0 → round ≢ 0 → ready own (at own (now image)) d s t ≡ true) ⌝ }
+    ensures { λ r. ⌜ Lapped own (now (image .entry)) (now (left .entry)) (now (image .exit)) (now (left .exit)) d s t r ⌝ }
+{
+    if ready_in(image, d, own, s, t, round) {
+        return Lap {
+            made: true,
+            acted: turn::turn_in_place(image, d, s, t, own, left),
+        };
+    }
+    refused(s, t)
 }
 
 // The first open worker from d on, of n; n where there is none, or d where that is past n.

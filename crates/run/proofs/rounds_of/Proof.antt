@@ -81,8 +81,8 @@ loop-again c =
     let idle = idle-turn (holding (L .held) (L .c)) (L .d) (rw (l .full .turns) (omega (arith, l .top, l .few))) (c .if3 .taken) in
     (L .inv .0, lap-idle _ _ _ _ _ _ _ _ l (c .before .before .before .loop-test .taken) idle)
 
-turn-requires : tie.Need-turn-requires Inv-loop μ-loop Inv-rounds μ-rounds
-turn-requires c κs =
+lap-in-place-requires : tie.Need-lap-in-place-requires Inv-loop μ-loop Inv-rounds μ-rounds
+lap-in-place-requires c κs =
     let b8 = c .before .before .before .before .before .before .before .before in
     let L = c .before .before .before .before .before .before .loop in
     let l = L .inv .1 in
@@ -102,7 +102,7 @@ element-write-c-2 c =
     let l = b8 .before .before .before .before .loop .inv .1 in omega (arith, l .top, l .few)
 
 held-after-requires : tie.Need-held-after-requires Inv-loop μ-loop Inv-rounds μ-rounds
-held-after-requires c κs = c .before .before .before .before .before .turn .ensures .lock
+held-after-requires c κs = c .before .before .before .before .before .lap-in-place .ensures .lock
 
 counted-requires : tie.Need-counted-requires Inv-loop μ-loop Inv-rounds μ-rounds
 counted-requires c κs =
@@ -132,7 +132,7 @@ loop-again-2 : tie.Need-loop-again-2 Inv-loop μ-loop Inv-rounds μ-rounds
 unfolding setAt
 loop-again-2 c =
     let T = c .before .before .before .before .before .before .before .before .before in
-    let u = T .turn in
+    let u = T .lap-in-place in
     let a = u .result .acted in
     let L = T .before .before .before .before .before .before .before .loop in
     let l = L .inv .1 in
@@ -177,12 +177,12 @@ same-length-3 : tie.Need-same-length-3 Inv-loop μ-loop Inv-rounds μ-rounds
 same-length-3 c =
     let b8 = c .before .before .before .before .before .before .before .before in
     let R = b8 .before .before .before .before .before .before .rounds in
-    c .before .before .before .before .turn .kept .0 ∙ b8 .before .before .before .loop .inv .0 ∙ R .inv .0
+    c .before .before .before .before .lap-in-place .kept .0 ∙ b8 .before .before .before .loop .inv .0 ∙ R .inv .0
 
 returns-3 : tie.Need-returns-3 Inv-loop μ-loop Inv-rounds μ-rounds
 returns-3 c =
     let b8 = c .before .before .before .before .before .before .before .before in
-    let u = c .before .before .before .before .turn in
+    let u = c .before .before .before .before .lap-in-place in
     let no = not-true _ (c .if4 .taken) in
     let still = u .ensures .stays no in
     let l = b8 .before .before .before .loop .inv .1 in
@@ -210,7 +210,7 @@ rounds-of-spec =
     add-d
     loop-less
     loop-again
-    turn-requires
+    lap-in-place-requires
     element-write-c
     element-write-c-2
     held-after-requires
