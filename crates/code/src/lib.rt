@@ -6,7 +6,7 @@ ghost use lib.ListN.{getD};
 ghost use lib.Dec.{eqb};
 ghost use Rattle.code.specs.Table.{entry, turnsOf, kindOf, fieldA, fieldB, fieldC};
 ghost use Rattle.code.specs.Op.{byKind, opOf};
-ghost use Rattle.code.specs.inner.Rows.{inRow, opRow};
+ghost use Rattle.code.specs.inner.Rows.{inRow, exprRow, opRow};
 ghost use Rattle.code.specs.Form.{inRange, inPlace, wellFormed, lockOk, heldAfter};
 
 // What an assignment stores: a literal, or a sum, a difference or a comparison of two words.
@@ -176,21 +176,77 @@ pub fn well_formed(w: u64, i: usize, n: usize, own: u16) -> bool
     in_place(w, i, n)
 }
 
-// Whether each field is in its range, by the instruction that the word says. Each has its row, so that no entry is looked up.
+// Whether each field of an acquire's word is in its range; below the same for each other instruction. Each has its row, so that no entry is looked up.
+pub fn acquire_fits(w: u64, own: u16) -> bool
+    ensures { λ r. ⌜ ((a : ℕ) → r ≡ inRow own w (opRow (Op.Acquire a))) ⌝ }
+{
+    in_row(w, TABLE[0], own)
+}
+
+// A release's.
+pub fn release_fits(w: u64, own: u16) -> bool
+    ensures { λ r. ⌜ ((a : ℕ) → r ≡ inRow own w (opRow (Op.Release a))) ⌝ }
+{
+    in_row(w, TABLE[1], own)
+}
+
+// Those of the assignments, by what they store.
+pub fn literal_fits(w: u64, own: u16) -> bool
+    ensures { λ r. ⌜ ((b c : ℕ) → r ≡ inRow own w (exprRow (Expr.Literal b c))) ⌝ }
+{
+    in_row(w, TABLE[2], own)
+}
+
+// A sum's.
+pub fn sum_fits(w: u64, own: u16) -> bool
+    ensures { λ r. ⌜ ((b c : ℕ) → r ≡ inRow own w (exprRow (Expr.Sum b c))) ⌝ }
+{
+    in_row(w, TABLE[3], own)
+}
+
+// A difference's.
+pub fn difference_fits(w: u64, own: u16) -> bool
+    ensures { λ r. ⌜ ((b c : ℕ) → r ≡ inRow own w (exprRow (Expr.Difference b c))) ⌝ }
+{
+    in_row(w, TABLE[4], own)
+}
+
+// A comparison's.
+pub fn less_fits(w: u64, own: u16) -> bool
+    ensures { λ r. ⌜ ((b c : ℕ) → r ≡ inRow own w (exprRow (Expr.Less b c))) ⌝ }
+{
+    in_row(w, TABLE[5], own)
+}
+
+// A jump's.
+pub fn jump_fits(w: u64, own: u16) -> bool
+    ensures { λ r. ⌜ ((a b : ℕ) → r ≡ inRow own w (opRow (Op.Jump a b))) ⌝ }
+{
+    in_row(w, TABLE[6], own)
+}
+
+// A finish's.
+pub fn finish_fits(w: u64, own: u16) -> bool
+    ensures { λ r. ⌜ r ≡ inRow own w (opRow Op.Finish) ⌝ }
+{
+    in_row(w, TABLE[7], own)
+}
+
+// The same by the instruction that the word says.
 fn op_in_row(w: u64, x: Op, own: u16) -> bool
     ensures { λ r. ⌜ r ≡ inRow own w (opRow x) ⌝ }
 {
     match x {
-        Op::Acquire(_) => in_row(w, TABLE[0], own),
-        Op::Release(_) => in_row(w, TABLE[1], own),
+        Op::Acquire(_) => acquire_fits(w, own),
+        Op::Release(_) => release_fits(w, own),
         Op::Assign(_, e) => match e {
-            Expr::Literal(_, _) => in_row(w, TABLE[2], own),
-            Expr::Sum(_, _) => in_row(w, TABLE[3], own),
-            Expr::Difference(_, _) => in_row(w, TABLE[4], own),
-            Expr::Less(_, _) => in_row(w, TABLE[5], own),
+            Expr::Literal(_, _) => literal_fits(w, own),
+            Expr::Sum(_, _) => sum_fits(w, own),
+            Expr::Difference(_, _) => difference_fits(w, own),
+            Expr::Less(_, _) => less_fits(w, own),
         },
-        Op::Jump(_, _) => in_row(w, TABLE[6], own),
-        Op::Finish => in_row(w, TABLE[7], own),
+        Op::Jump(_, _) => jump_fits(w, own),
+        Op::Finish => finish_fits(w, own),
         Op::Unknown => in_row(w, [0, 0, 0, 0], own),
     }
 }

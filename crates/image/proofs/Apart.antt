@@ -2,12 +2,13 @@
 -- different places. The last is shown by reading an index back: `placeAt` gives the place that stands at an index.
 use Prim.Native.Nat.{ℕ, suc, _+_, _*_, _-_, _/_, _%_, _<_, _≤_}
 use mathlib.Core.Path.{_≡_, ap, _∙_, sym}
-use mathlib.Core.Bool.{true, cond, and-eq-true-iff}
+use mathlib.Core.Bool.{Bool, true, false, cond, and-eq-true-iff}
 use lib.Dec.{ltb}
 use borrow.Author.Tests.{ltb-true, lt-ltb, le-ltb}
 use native.Mathlib.Omega.{arith}
 use native.Mathlib.Nat.{mul-le-mul-left, mul-le-mul, mul-suc, mul-add-div, mul-add-mod-self-left, div-eq-of-lt, mod-eq-of-lt}
 use Rattle.base.proofs.Bools.{and-right}
+use Rattle.image.specs.declared.Field.the-variants.{Addr0, Val0, Addr1, Val1}
 use Rattle.image.specs.Place.{offset, Place, cell, lock, field, own, step, valid}
 use Rattle.image.specs.Image.{recordAt, lengthOf, indexOf}
 use Rattle.image.proofs.Places.{fieldAt, field-offset, offset-lt}
@@ -34,6 +35,12 @@ module _ (n : ℕ) where
   index-ge (field f d) = omega arith
   index-ge (own d i) = omega arith
   index-ge (step d i) = omega arith
+
+  -- a log entry's value stands behind its address
+  pub value-behind : (b : Bool) (d : ℕ) → indexOf n (field (cond b Val0 Val1) d) ≡ indexOf n (field (cond b Addr0 Addr1) d) + 1
+  unfolding indexOf
+  value-behind true d = omega arith
+  value-behind false d = omega arith
 
   pub index-lt : (D : ℕ) (p : Place) → valid D n p ≡ true → indexOf n p < lengthOf n D
   unfolding indexOf

@@ -1,7 +1,7 @@
 // The image: how many words it has, single-word loads and stores, the header test, and the index of each place. Nothing
 // above this crate touches an image in another way.
 ghost use mathlib.Core.Path.{_≡_};
-ghost use Prim.Native.Nat.{ℕ, _-_, _<_, _≤_};
+ghost use Prim.Native.Nat.{ℕ, _+_, _-_, _<_, _≤_};
 ghost use lib.ListN.{length, getD};
 ghost use Rattle.image.specs.Place.{cell, lock, field, own, step, offset};
 ghost use Rattle.image.specs.Image.{front, put, headerOk, recordAt, indexOf, workers, at};
@@ -148,6 +148,14 @@ pub fn field_index(f: Field, d: usize, own: usize) -> usize
     ensures { λ r. ⌜ r ≡ indexOf own (field f d) ⌝ }
 {
     record_at(d, own) + offset_of(f)
+}
+
+// The index of a log entry's value word, by that of its address word, behind which it stands.
+pub fn value_index(address: usize) -> usize
+    requires { ⌜ address < 65535 ⌝ }
+    ensures { λ r. ⌜ r ≡ address + 1 ⌝ }
+{
+    address + 1
 }
 
 // The index of own word i of worker d.

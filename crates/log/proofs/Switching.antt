@@ -8,6 +8,8 @@ use borrow.Author.Tests.{eq-eqb, ne-eqb}
 use Rattle.image.specs.declared.Field.{Field}
 use Rattle.image.specs.declared.Field.the-variants.{Pc, Addr0, Val0, Addr1, Val1}
 use Rattle.image.specs.Place.{field, Memory}
+use Rattle.image.specs.Image.{indexOf}
+use Rattle.image.proofs.Apart.{value-behind}
 use Rattle.log.specs.Log.{second, spareAddr, spareVal, activeAddr, activeVal, switched}
 
 private-top : (s : ℕ) (b : Bool) → s < 64 → not (eqb (cond b (s + 1) (s + 1 + 2 ^ 63) / 2 ^ 63) 0) ≡ not b
@@ -30,3 +32,8 @@ module _ (n : ℕ) (rd : Memory) (d s : ℕ) (small : s < 64) (re : Memory) (e :
   pub switched-val : activeVal n re d ≡ spareVal n rd d
   unfolding activeVal spareVal
   switched-val = rw switched-second (private-turned Val1 Val0 (second n rd d))
+
+-- the spare entry's value word stands behind its address word
+pub spare-behind : (n : ℕ) (rd : Memory) (d : ℕ) → indexOf n (field (spareVal n rd d) d) ≡ indexOf n (field (spareAddr n rd d) d) + 1
+unfolding spareAddr spareVal
+spare-behind n rd d = value-behind n (second n rd d) d

@@ -66,7 +66,7 @@ pub fn spare_addr(image: &[u64], d: usize, own: usize) -> Field
 }
 
 // Its value word.
-pub fn spare_val(image: &[u64], d: usize, own: usize) -> Field
+fn spare_val(image: &[u64], d: usize, own: usize) -> Field
     requires { ⌜ Inside own (now image) d ⌝ }
     ensures { λ r. ⌜ r ≡ spareVal own (at own (now (image .entry))) d ⌝ }
 {

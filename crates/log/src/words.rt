@@ -52,7 +52,7 @@ fn difference(x: u64, y: u64) -> u64
 }
 
 // What an expression of two words gives of what they hold.
-fn combined(e: Expr, x: u64, y: u64) -> u64
+pub fn combined(e: Expr, x: u64, y: u64) -> u64
     ensures { λ r. ⌜ r ≡ ofTwo e x y ⌝ }
 {
     match e {

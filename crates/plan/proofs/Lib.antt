@@ -1,3 +1,4 @@
 pub mod Outcomes
 pub mod Planned
 pub mod Quiet
+pub mod Going

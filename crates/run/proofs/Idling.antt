@@ -1,5 +1,5 @@
 -- Idle workers in a round: their turns change nothing, so that a round may pass them by; and the workers up to the last
--- open one, by which the code knows whether one is open and where a round may end.
+-- open one, by which the code knows whether one is open, whether it is alone (`to-alone`), and where a round may end.
 use Prim.Native.Nat.{ℕ, zero, suc, _+_, _-_, _<_, _≤_}
 use mathlib.Core.Path.{_≡_, refl, sym, ap, _∙_}
 use mathlib.Core.Bool.{Bool, true, false, cond, true≢false}
@@ -7,13 +7,15 @@ use mathlib.Core.Logic.{_≢_}
 use native.Mathlib.Omega.{arith}
 use native.Mathlib.Decide.{ℕ-discrete}
 use lib.ListN.{length, getD}
-use lib.Dec.{eqb}
+use lib.Dec.{eqb, ltb}
+use borrow.Author.Tests.{ltb-true, ltb-false}
 use Rattle.base.proofs.Filling.{getD-inside}
 use Rattle.base.proofs.Counting.{left-step}
 use Rattle.working.specs.declared.Cursors.{Cursors}
 use Rattle.working.specs.Cursor.{isIdle, cursorAt}
 use Rattle.turn.proofs.Turns.{rests}
 use Rattle.run.specs.Run.{anyOpen, openTo, Counting, turned, through, sweep}
+use Rattle.run.specs.inner.Alone.{Alone}
 use Rattle.working.proofs.Placed.{idle-by}
 
 -- all of the workers from d to e are idle
@@ -77,6 +79,14 @@ module _ (c : Cursors) where
       by m true e (yes q) = rw q e
       by m true e (no q) = m i (rw (to-by k true e) at l) (omega arith)
       by m false e q = let z : suc k ≤ i = rw (to-by k false e) at l in absurd (omega arith)
+
+  -- so the last open one of n is alone, where none below it is open
+  pub to-alone : (n : ℕ) {to : ℕ} → to ≡ openTo n c → 0 < to → openTo (to - 1) c ≡ 0 → Alone n (to - 1) c
+  to-alone n {to} e some first i l o = by (ltb i (to - 1)) refl
+    where
+      by : (b : Bool) → ltb i (to - 1) ≡ b → isIdle (cursorAt c i) ≡ true
+      by true q = to-idle (to - 1) i (omega (arith, first)) (ltb-true i (to - 1) q)
+      by false q = to-idle n i (omega (arith, e, some, o, ltb-false i (to - 1) q)) l
 
   to-last : (k : ℕ) → openTo k c ≢ 0 → isIdle (cursorAt c (openTo k c - 1)) ≡ false
   to-last zero h = absurd (h to-zero)

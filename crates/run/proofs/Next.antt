@@ -1,12 +1,10 @@
--- The next turn of a round: where the search for an open worker goes on and ends, that what it finds below the end is open (`next-open`), and that a worker
--- behind which it finds none is alone (`next-alone`); and the three cases of the next turn, by the header and by what was found.
+-- The next turn of a round: where the search for an open worker goes on and ends, that what it finds below the end is open (`next-open`); and the three cases
+-- of the next turn, by the header and by what was found.
 use Prim.Native.Nat.{ℕ, zero, suc, _+_, _-_, _<_, _≤_}
 use mathlib.Core.Path.{_≡_, refl}
 use mathlib.Core.Bool.{Bool, true, false, cond}
 use native.Mathlib.Omega.{arith}
-use native.Mathlib.Decide.{ℕ-discrete}
-use lib.Dec.{leb}
-use borrow.Author.Tests.{lt-ltb, le-ltb, leb-true, leb-false}
+use borrow.Author.Tests.{lt-ltb, le-ltb}
 use Rattle.base.proofs.Counting.{left-step, left-none}
 use Rattle.image.specs.Image.{workers, headerOk}
 use Rattle.working.specs.declared.Cursors.{Cursors}
@@ -16,7 +14,6 @@ use Rattle.working.specs.World.{World}
 use Rattle.plan.specs.Turn.{Outcome, resting, refused}
 use Rattle.turn.specs.Call.{outcomeAt}
 use Rattle.run.specs.Round.{nextOpen, nextIn, nextWorker, nextOutcome}
-use Rattle.run.specs.inner.Alone.{Alone}
 
 module _ (c : Cursors) where
   pub next-here : (n d : ℕ) → d < n → isIdle (cursorAt c d) ≡ false → nextOpen (n - d) d c ≡ d
@@ -51,27 +48,6 @@ module _ (c : Cursors) where
           → isIdle (cursorAt c (nextOpen (suc k) d c)) ≡ false
       by false e g = rw (e, e)
       by true e g = rw e (g (omega (arith, rw e at h)))
-
-  -- those passed are idle
-  pub next-idle : (k d i : ℕ) → d ≤ i → i < nextOpen k d c → isIdle (cursorAt c i) ≡ true
-  unfolding nextOpen
-  next-idle zero d i l h = absurd (omega arith)
-  next-idle (suc k) d i l h = by (isIdle (cursorAt c d)) refl (ℕ-discrete i d) (λ p g. next-idle k (d + 1) i p g)
-    where
-      by :
-          (b : Bool) → isIdle (cursorAt c d) ≡ b → Dec (i ≡ d) → (d + 1 ≤ i → i < nextOpen k (d + 1) c → isIdle (cursorAt c i) ≡ true)
-          → isIdle (cursorAt c i) ≡ true
-      by false e q g = absurd (omega (arith, rw e at h))
-      by true e (yes q) g = rw q e
-      by true e (no q) g = g (omega arith) (rw e at h)
-
-  -- so the first of n alone is open, where behind it there is none
-  pub next-alone : (n : ℕ) {k : ℕ} → k ≡ nextOpen (n - 0) 0 c → nextOpen (n - (k + 1)) (k + 1) c ≡ n → Alone n k c
-  next-alone n {k} e last i l o = by (leb i k) refl
-    where
-      by : (b : Bool) → leb i k ≡ b → isIdle (cursorAt c i) ≡ true
-      by true q = next-idle (n - 0) 0 i (omega arith) (omega (arith, leb-true i k q))
-      by false q = next-idle (n - (k + 1)) (k + 1) i (omega (arith, leb-false i k q)) (omega arith)
 
 -- whose turn is next, and its outcome
 pub record Comes (mark n : ℕ) (w : World) (d k : ℕ) (o : Outcome) : Type 0 where

@@ -1,6 +1,6 @@
 -- The rounds of a run in which one worker alone is open: each is a turn of that worker (`round-alone`), so that turns of it one after another are as many
--- rounds (`rounds-alone`). The rest is what the loop over stretches of turns keeps (`Solo`), with one law for each way that it goes on or ends.
-use Prim.Native.Nat.{ℕ, zero, suc, _+_, _-_, _<_, _≤_, _^_}
+-- rounds (`rounds-alone`). The rest is what is known after some of them (`Solo`), with one law for each way that they end.
+use Prim.Native.Nat.{ℕ, zero, suc, _+_, _-_, _<_, _≤_}
 use mathlib.Core.Path.{_≡_, refl, sym, ap, _∙_}
 use mathlib.Core.Bool.{true, false}
 use mathlib.Core.Logic.{_≢_}
@@ -11,9 +11,8 @@ use lib.Seq.{getD-set-same, set-set, set-getD}
 use Rattle.base.proofs.Counting.{left-all}
 use Rattle.image.specs.Image.{Image, workers, at}
 use Rattle.image.specs.inner.Inside.{Inside}
-use Rattle.image.proofs.Header.{Sized, sized-inside}
 use Rattle.tally.specs.declared.Tally.{Tally}
-use Rattle.tally.specs.Tally.{none as nothing, RoomFor}
+use Rattle.tally.specs.Tally.{none as nothing}
 use Rattle.working.specs.declared.Cursors.{Cursors}
 use Rattle.working.specs.declared.Refusal.the-variants.{Cursor as CursorRefused}
 use Rattle.working.specs.Cursor.{on, isIdle, cursorAt, setAt, holding}
@@ -27,7 +26,6 @@ use Rattle.turn.specs.Counted.{counted}
 use Rattle.turn.specs.inner.Acting.{tested}
 use Rattle.turn.proofs.Turns.{made-ready, made-goes, refused-at}
 use Rattle.stretch.specs.inner.Single.{Single, single, after, Turns, none, then}
-use Rattle.stretch.proofs.Sequence.{turns-sized, turns-room}
 use Rattle.run.specs.declared.End.the-variants.{AllIdle, Spent, Halted}
 use Rattle.run.specs.Run.{anyOpen, Counting, counting, ran, through, halted, turned, sweep, roundsOf}
 use Rattle.run.specs.inner.Alone.{Alone}
@@ -172,47 +170,34 @@ module _ (n D : ℕ) (c : Cursors) (d : ℕ) (f : Full c) (few : D ≤ 8) (h : d
 -- ---- what the loop keeps: from s₀ to worker d's turns so far, with so many rounds left
 
 pub record Solo (own n rounds : ℕ) (c : Cursors) (d : ℕ) (s₀ : Counting) (a : Single) (rest : ℕ) : Type 0 where
-  pub below : rest ≤ rounds
   pub few : n ≤ 8
   pub worker : d < n
   pub full : Full c
-  pub size : Sized own n (a .image)
   pub alone : Alone n d c
-  pub room : RoomFor rest (a .tally)
   pub same : roundsOf own rest n (spread c d a) ≡ roundsOf own rounds n s₀
 
 -- before the first turn
 pub solo-starts : (own rounds : ℕ) (c : Cursors) (d : ℕ) (m : Image) (left : ℕ) {t : Tally}
-    → Full c → Inside own m d → Alone (workers m) d c → t ≡ nothing → rounds < 2 ^ 64
+    → Full c → Inside own m d → Alone (workers m) d c → t ≡ nothing
     → Solo own (workers m) rounds c d (counting (world m c left) nothing) (single m left (getD (c .step) d 0) (getD (c .turn) d 0) (c .held) t) rounds
-solo-starts own rounds c d m left {t} f i o e w =
+solo-starts own rounds c d m left {t} f i o e =
     record {
-      below = omega arith;
       few = i .most;
       worker = i .below;
       full = f;
-      size = record { size = i .whole; has = refl };
       alone = o;
-      room = rw e (omega (arith, w), omega (arith, w), omega (arith, w), omega (arith, w), omega (arith, w));
       same = ap (roundsOf own rounds (workers m)) (spread-none c d m left t ∙ rw e);
     }
 
 module _ (own n rounds : ℕ) (c : Cursors) (d : ℕ) (s₀ : Counting) (a : Single) (rest : ℕ) (l : Solo own n rounds c d s₀ a rest) where
-  -- what the calls ask
-  pub solo-inside : own ≤ 64 → Inside own (a .image) d
-  solo-inside small = sized-inside own n (a .image) d small (l .size) (l .few) (l .worker)
-
   -- past a stretch of turns
   pub solo-again : (k : ℕ) (b : Single) → Turns own d k a b → k ≤ rest → Solo own n rounds c d s₀ b (rest - k)
   solo-again k b t h =
       record {
-        below = omega (arith, l .below);
         few = l .few;
         worker = l .worker;
         full = l .full;
-        size = turns-sized own d n t (l .size);
         alone = l .alone;
-        room = turns-room own d t rest h (l .room);
         same = rw (rounds-alone own n c d (l .full) (l .few) (l .worker) (l .alone) t rest h) at (l .same);
       }
 

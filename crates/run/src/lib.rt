@@ -129,10 +129,10 @@ pub fn run(image: &mut [u64], c: Cursors, rounds: u16, mark: u64, own: usize, le
         };
     }
     let n = image::workers(image) as usize;
-    let k = round::next_open(c, 0, n);
-    if k < n {
-        if round::next_open(c, k + 1, n) == n {
-            return alone::rounds(image, c, k, own, rounds, left);
+    let to = open_to(c, n);
+    if 0 < to {
+        if open_to(c, to - 1) == 0 {
+            return alone::rounds(image, c, to - 1, own, rounds, left);
         }
     }
     rounds_of(image, c, n, own, rounds, left)

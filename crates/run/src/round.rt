@@ -14,9 +14,8 @@ ghost use Rattle.plan.specs.Turn.{ready};
 ghost use Rattle.working.specs.World.{world};
 ghost use Rattle.working.specs.Cursor.{isIdle, cursorAt};
 ghost use Rattle.turn.specs.Call.{answerOf, leaves, outcomeAt, outcome};
-ghost use Rattle.turn.specs.inner.Acting.{didLock};
 ghost use Rattle.run.specs.Round.{nextOpen, nextWorker, nextOutcome};
-ghost use Rattle.run.specs.inner.Lap.{Lapped};
+ghost use Rattle.run.specs.inner.Lap.{noLap, Lapped};
 
 // An open worker's turn in a round: whether it is made, and what it did; where it is refused, nothing, as if it waited.
 pub struct Lap {
@@ -46,8 +45,7 @@ fn ready_in(image: &[u64], d: usize, own: usize, s: u8, t: u8, round: u16) -> bo
 
 // A turn that is refused, at step s, turn t.
 fn refused(s: u8, t: u8) -> Lap
-    ensures made { λ r. ⌜ r .made ≡ false ⌝ }
-    ensures lock { λ r. ⌜ didLock (r .acted .did) ⌝ }
+    ensures { λ r. ⌜ r ≡ noLap s t ⌝ }
 {
     Lap {
         made: false,

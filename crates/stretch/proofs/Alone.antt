@@ -10,7 +10,7 @@ use lib.Dec.{eqb}
 use Rattle.image.specs.Place.{Place, cell, lock, field, own, step}
 use Rattle.image.specs.Image.{Image, at}
 use Rattle.tally.specs.declared.Tally.{Tally}
-use Rattle.tally.specs.Tally.{withStores, withWaits, withWaiting, RoomFor}
+use Rattle.tally.specs.Tally.{withWaits, withWaiting, RoomFor}
 use Rattle.working.specs.declared.Cursors.{Cursors}
 use Rattle.working.specs.inner.At.{At}
 use Rattle.working.specs.Cursor.{on, stepNo, turnNo, setAt, holding}
@@ -21,7 +21,6 @@ use Rattle.log.specs.declared.Plan.the-variants.{Take, Free}
 use Rattle.plan.specs.inner.Plan.{storePlan, planOf}
 use Rattle.plan.proofs.Planned.{ready-says}
 use Rattle.turn.specs.declared.Answer.{Answer}
-use Rattle.turn.specs.declared.Answer.the-variants.{Passed as PassedTurn}
 use Rattle.turn.specs.declared.Did.{Did}
 use Rattle.turn.specs.declared.Did.the-variants.{Stored, Took, Freed, Passed, Waiting}
 use Rattle.turn.specs.Call.{answerOf, leaves, outcomeAt}
@@ -69,9 +68,6 @@ module _ (n d s t : ℕ) (m : Image) (left h : ℕ) (y : Tally) where
 add-zero : (k : ℕ) → k + 0 ≡ k
 add-zero k = omega arith
 
-no-stores : (y : Tally) → withStores 0 y ≡ y
-no-stores y = rw (add-zero (y .turns), add-zero (y .stores))
-
 no-waits : (y : Tally) → withWaits 0 y ≡ y
 no-waits y = rw (add-zero (y .turns), add-zero (y .waits))
 
@@ -80,7 +76,7 @@ one-tally : (n : ℕ) (x : Did) (y : Tally) → tallied x 1 y ≡ counted (didAn
 one-tally n (Stored i) y = refl
 one-tally n (Took b) y = refl
 one-tally n (Freed b) y = refl
-one-tally n (Passed why) y = ap (counted (PassedTurn why)) (no-stores y)
+one-tally n (Passed why) y = refl
 one-tally n (Waiting b) y = refl
 
 -- one more that waited

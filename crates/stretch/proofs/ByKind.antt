@@ -19,26 +19,20 @@ use Rattle.code.specs.declared.Op.{Op}
 use Rattle.code.specs.declared.Op.the-variants.{Acquire, Release, Assign, Jump, Finish}
 use Rattle.code.specs.Op.{eval}
 use Rattle.tally.specs.declared.Tally.{Tally}
-use Rattle.tally.specs.Tally.{withStores, withJump}
+use Rattle.tally.specs.Tally.{withJump, withAlreadyFree, withOthers}
 use Rattle.working.specs.Cursor.{on, stepNo, turnNo}
-use Rattle.log.specs.declared.Passing.{Passing}
-use Rattle.log.specs.declared.Passing.the-variants.{Jump as PassedJump, AlreadyFree as PassedFree, Others as PassedOthers}
+use Rattle.log.specs.declared.Passing.the-variants.{AlreadyFree as PassedFree, Others as PassedOthers}
 use Rattle.log.specs.Log.{operand, wordIn, spareAddr}
-use Rattle.plan.specs.declared.Report.{Report}
 use Rattle.plan.specs.declared.Report.the-variants.{Freed, AlreadyFree, Others}
 use Rattle.plan.specs.Report.{reportOf}
 use Rattle.plan.specs.Turn.{stored, passed}
 use Rattle.plan.proofs.Quiet.{Spares, quiet-field, quiet-lock, quiet-operand, at-other}
-use Rattle.turn.specs.declared.Answer.the-variants.{Passed as PassedTurn}
-use Rattle.turn.specs.declared.Did.the-variants.{Passed}
-use Rattle.turn.specs.Counted.{counted}
 use Rattle.turn.specs.Call.{heldBy}
-use Rattle.turn.specs.inner.Acting.{didLock, didHeld}
 use Rattle.stretch.specs.inner.Single.{Single, single, Turns, none}
 use Rattle.stretch.specs.inner.Logged.{withAddress, withTarget}
-use Rattle.stretch.specs.inner.Locks.{withOwner, tookImage, disownedImage, unlockDid, unlockImage, unlockLeft}
-use Rattle.stretch.specs.inner.Stretch.{tallied, Fetched}
-use Rattle.stretch.proofs.Running.{Running, running, running-store, fetched-fits, fetched-step, makes, inside-store, stores-more, counts}
+use Rattle.stretch.specs.inner.Locks.{withOwner, tookImage, disownedImage, unwantedImage}
+use Rattle.stretch.specs.inner.Whole.{closedImage, Fetched}
+use Rattle.stretch.proofs.Running.{withStores, Running, running, running-store, fetched-fits, fetched-step, makes, inside-store, stores-more, counts}
 use Rattle.stretch.proofs.LogTurns.{other-addr, spares-addr, logged-running, logged-turns}
 
 -- ---- what a store of an address leaves of what is read after it
@@ -68,59 +62,40 @@ eval-same f g same (Less b c) = rw (same b, same c)
 
 -- ---- a release's last two turns
 
--- the one that passes may be counted last
-passed-last : (why : Passing) (k : ℕ) (y : Tally) → withStores 1 (counted (PassedTurn why) (withStores k y)) ≡ counted (PassedTurn why) (withStores (k + 1) y)
-passed-last why k y = by why
-  where
-    turns : y .turns + k + 1 ≡ y .turns + (k + 1)
-    turns = omega arith
-
-    stores : y .stores + k + 1 ≡ y .stores + (k + 1)
-    stores = omega arith
-
-    by : (z : Passing) → withStores 1 (counted (PassedTurn z) (withStores k y)) ≡ counted (PassedTurn z) (withStores (k + 1) y)
-    by PassedJump = rw (stores, turns)
-    by PassedFree = rw (stores, turns)
-    by PassedOthers = rw (stores, turns)
-
 module _ (D n d s a : ℕ) (l : d < D) (ok : a < 64) (m : Image) (r : Running D n d s (Release a) m) (left h : ℕ) (y : Tally) where
   -- the intent
   intent-turn : (v : Image) (rest g : ℕ) (z : Tally) → Running D n d s (Release a) v → (t : Tally) → withStores 1 z ≡ t
-      → Turns n d 1 (single v rest s 5 g z)
-      (single (put rest v (indexOf n (field Intent d)) (without (at n v (field Intent d)) a)) (rest - 1) (s + 1) 0 g t)
+      → Turns n d 1 (single v rest s 5 g z) (single (unwantedImage n d a v rest) (rest - 1) (s + 1) 0 g t)
   intent-turn v rest g z q t e = makes D n d s (Release a) v q 0 5 rest g z _ (omega arith) refl (counts n d _ _ (s + 1) 0 g e)
 
-  unlock-turns : (found : Report) → reportOf d (at n m (lock a)) ≡ found
+  -- the owner word is the worker's
+  unlock-frees : reportOf d (at n m (lock a)) ≡ Freed
       → Turns n d 2 (single m left s 4 h (withStores 4 y))
-      (single (put (unlockLeft left found) (unlockImage n a m left found) (indexOf n (field Intent d)) (without (at n (unlockImage n a m left found)
-      (field Intent d)) a)) (unlockLeft left found - 1) (s + 1) 0 (didHeld (unlockDid a found) h) (tallied (unlockDid a found) 6 y))
-  unlock-turns Freed e =
+      (single (unwantedImage n d a (put left m (indexOf n (lock a)) 0) (left - 1)) (left - 1 - 1) (s + 1) 0 (without h a) (withStores 6 y))
+  unlock-frees e =
       makes D n d s (Release a) m r 1 4 left h (withStores 4 y) (stored (lock a) 0 (on s 5)) (omega arith) (rw e)
       (intent-turn _ _ _ _ (running-store D n d s (Release a) m r left (lock a) 0 (quiet-lock D n a ok)) _
       (ap (withStores 1) (stores-more 4 1 y) ∙ stores-more 5 1 y))
-  unlock-turns AlreadyFree e =
-      makes D n d s (Release a) m r 1 4 left h (withStores 4 y) (passed PassedFree (on s 5)) (omega arith) (rw e)
-      (intent-turn m left h _ r _ (passed-last PassedFree 4 y))
-  unlock-turns Others e =
-      makes D n d s (Release a) m r 1 4 left h (withStores 4 y) (passed PassedOthers (on s 5)) (omega arith) (rw e)
-      (intent-turn m left h _ r _ (passed-last PassedOthers 4 y))
 
--- the image keeps its size through a release's stores
+  -- it is 0, or another's: the store behind it may be counted before it
+  unlock-free : reportOf d (at n m (lock a)) ≡ AlreadyFree
+      → Turns n d 2 (single m left s 4 h (withStores 4 y))
+      (single (unwantedImage n d a m left) (left - 1) (s + 1) 0 h (withAlreadyFree (withStores 5 y)))
+  unlock-free e =
+      makes D n d s (Release a) m r 1 4 left h (withStores 4 y) (passed PassedFree (on s 5)) (omega arith) (rw e)
+      (intent-turn m left h _ r _ (ap withAlreadyFree (stores-more 4 1 y)))
+
+  unlock-others : reportOf d (at n m (lock a)) ≡ Others
+      → Turns n d 2 (single m left s 4 h (withStores 4 y)) (single (unwantedImage n d a m left) (left - 1) (s + 1) 0 h (withOthers (withStores 5 y)))
+  unlock-others e =
+      makes D n d s (Release a) m r 1 4 left h (withStores 4 y) (passed PassedOthers (on s 5)) (omega arith) (rw e)
+      (intent-turn m left h _ r _ (ap withOthers (stores-more 4 1 y)))
+
+-- the image keeps its size through a release's logged store
 pub disowned-inside : (n d s a : ℕ) (m : Image) (left : ℕ) → Inside n m d → Inside n (disownedImage n d s a m left) d
 disowned-inside n d s a m left w =
     inside-store n d _ (left - 1 - 1 - 1) (field Owned d) _ (inside-store n d _ (left - 1 - 1) (field Pc d) _
     (inside-store n d _ (left - 1) _ _ (inside-store n d m left _ _ w)))
-
-pub unlocked-inside : (n d a : ℕ) (m : Image) (left : ℕ) (found : Report) → Inside n m d → Inside n (unlockImage n a m left found) d
-unlocked-inside n d a m left Freed w = inside-store n d m left (lock a) 0 w
-unlocked-inside n d a m left AlreadyFree w = w
-unlocked-inside n d a m left Others w = w
-
--- what it does names a lock of the image's
-pub unlock-lock : (a : ℕ) (found : Report) → a < 64 → didLock (unlockDid a found)
-unlock-lock a Freed l = l
-unlock-lock a AlreadyFree l = tt
-unlock-lock a Others l = tt
 
 -- ---- each kind
 
@@ -174,29 +149,44 @@ module _ (n d s : ℕ) (m : Image) (left h : ℕ) (y : Tally) where
       (record { address = λ rd. refl; value = λ rd. refl; pc = λ rd. refl; target = λ rd. refl; has = omega arith }) (rw kept)
       (counts n d _ _ (s + 1) 0 (with h a) count)))))
 
-  -- a release, by what it finds: a logged store of the owned mask, the owner word where it is the worker's, and the intent
-  pub release-turns : (a : ℕ) → Fetched n d s m (Release a)
-      → (m4 m5 : Image) (left5 : ℕ) (found : Report)
-      → m4 ≡ disownedImage n d s a m left
-      → reportOf d (at n m4 (lock a)) ≡ found
-      → m5 ≡ unlockImage n a m4 (left - 1 - 1 - 1 - 1) found → left5 ≡ unlockLeft (left - 1 - 1 - 1 - 1) found
-      → Turns n d 6 (single m left s 0 h y)
-      (single (put left5 m5 (indexOf n (field Intent d)) (without (at n m5 (field Intent d)) a)) (left5 - 1) (s + 1) 0 (didHeld (unlockDid a found) h)
-      (tallied (unlockDid a found) 6 y))
-  release-turns a f m4 m5 left5 found first finds second rest =
-      let D = workers m in
-      let l = f .inside .below in
-      let x = Release a in
-      let r = running n d s m x f in
-      let sa = field (spareAddr n (at n m) d) d in
-      let kept = at-other D n left m (r .size) sa (field Owned d) (indexOf n (field Owned d)) (spares-addr n (at n m) d D l .there)
-      (other-addr n (at n m) d Owned refl refl) in
-      let r4 : Running D n d s x m4 = rw first (logged-running D n d s l x m r left (field Owned d) (without (at n m (field Owned d)) a)
-      (quiet-field D n Owned d l refl)) in
-      logged-turns D n d s l (fetched-step n d s m x f) x m r 2 0 left h y (field Owned d)
-      (λ (rd : Memory). without (rd (field Owned d)) a) (on s 4) (quiet-field D n Owned d l refl) (λ w. refl)
-      (record { address = λ rd. refl; value = λ rd. refl; pc = λ rd. refl; target = λ rd. refl; has = omega arith }) (rw kept)
-      (rw (← first, second, rest) (unlock-turns D n d s a l (fetched-fits n d s m x f) m4 r4 (left - 1 - 1 - 1 - 1) h y found finds))
+  -- a release: a logged store of the owned mask, and two turns by what it finds
+  module _ (a : ℕ) (f : Fetched n d s m (Release a)) (v : Image) (first : v ≡ disownedImage n d s a m left) where
+    released-running : Running (workers m) n d s (Release a) v
+    released-running =
+        rw first (logged-running (workers m) n d s (f .inside .below) (Release a) m (running n d s m (Release a) f) left (field Owned d)
+        (without (at n m (field Owned d)) a) (quiet-field (workers m) n Owned d (f .inside .below) refl))
+
+    release-turns : {b : Single} → Turns n d 2 (single v (left - 1 - 1 - 1 - 1) s 4 h (withStores 4 y)) b → Turns n d 6 (single m left s 0 h y) b
+    release-turns more =
+        let D = workers m in
+        let l = f .inside .below in
+        let x = Release a in
+        let r = running n d s m x f in
+        let sa = field (spareAddr n (at n m) d) d in
+        let kept = at-other D n left m (r .size) sa (field Owned d) (indexOf n (field Owned d)) (spares-addr n (at n m) d D l .there)
+        (other-addr n (at n m) d Owned refl refl) in
+        logged-turns D n d s l (fetched-step n d s m x f) x m r 2 0 left h y (field Owned d)
+        (λ (rd : Memory). without (rd (field Owned d)) a) (on s 4) (quiet-field D n Owned d l refl) (λ w. refl)
+        (record { address = λ rd. refl; value = λ rd. refl; pc = λ rd. refl; target = λ rd. refl; has = omega arith }) (rw kept) (rw (← first) more)
+
+    pub release-frees : reportOf d (at n v (lock a)) ≡ Freed
+        → Turns n d 6 (single m left s 0 h y)
+        (single (unwantedImage n d a (put (left - 1 - 1 - 1 - 1) v (indexOf n (lock a)) 0) (left - 1 - 1 - 1 - 1 - 1)) (left - 1 - 1 - 1 - 1 - 1 - 1) (s + 1) 0
+        (without h a) (withStores 6 y))
+    release-frees e =
+        release-turns (unlock-frees (workers m) n d s a (f .inside .below) (fetched-fits n d s m _ f) v released-running (left - 1 - 1 - 1 - 1) h y e)
+
+    pub release-free : reportOf d (at n v (lock a)) ≡ AlreadyFree
+        → Turns n d 6 (single m left s 0 h y)
+        (single (unwantedImage n d a v (left - 1 - 1 - 1 - 1)) (left - 1 - 1 - 1 - 1 - 1) (s + 1) 0 h (withAlreadyFree (withStores 5 y)))
+    release-free e =
+        release-turns (unlock-free (workers m) n d s a (f .inside .below) (fetched-fits n d s m _ f) v released-running (left - 1 - 1 - 1 - 1) h y e)
+
+    pub release-others : reportOf d (at n v (lock a)) ≡ Others
+        → Turns n d 6 (single m left s 0 h y)
+        (single (unwantedImage n d a v (left - 1 - 1 - 1 - 1)) (left - 1 - 1 - 1 - 1 - 1) (s + 1) 0 h (withOthers (withStores 5 y)))
+    release-others e =
+        release-turns (unlock-others (workers m) n d s a (f .inside .below) (fetched-fits n d s m _ f) v released-running (left - 1 - 1 - 1 - 1) h y e)
 
   -- a jump
   pub jump-turns : (a b : ℕ) → Fetched n d s m (Jump a b) → (t : ℕ) → cond (eqb (wordIn n (at n m) d a) 0) b (s + 1) ≡ t
@@ -212,8 +202,7 @@ module _ (n d s : ℕ) (m : Image) (left h : ℕ) (y : Tally) where
   -- a finish
   pub finish-turns : Fetched n d s m Finish
       → Turns n d 3 (single m left s 0 h y)
-      (single (put (left - 1 - 1) (put (left - 1) (put left m (indexOf n (field Finished d)) (at n m (field Number d))) (indexOf n (field Pc d)) 0)
-      (indexOf n (field Count d)) 0) (left - 1 - 1 - 1) 0 255 h (withStores 3 y))
+      (single (closedImage n d m left) (left - 1 - 1 - 1) 0 255 h (withStores 3 y))
   finish-turns f =
       let D = workers m in
       let l = f .inside .below in

@@ -1,27 +1,28 @@
--- An instruction is fetched exactly where its first turn is ready: a well-formed word is of a known kind, and each of those has a first turn.
-use Prim.Native.Nat.{ℕ, _<_}
-use mathlib.Core.Path.{_≡_, refl, sym, _∙_}
-use mathlib.Core.Bool.{Bool, true, false, cond, true≢false}
+-- An instruction is fetched where its own tests pass: its count is a section's, its word is in its ranges and stands where it may (`here-fetched`). And
+-- an attempt of one turn, refused or made.
+use Prim.Native.Nat.{ℕ, _+_, _<_, _≤_}
+use mathlib.Core.Path.{_≡_, refl, sym, ap, _∙_}
+use mathlib.Core.Bool.{true, false, _&&_, true≢false}
 use native.Mathlib.Omega.{arith}
 use lib.Dec.{ltb}
-use borrow.Author.Tests.{lt-ltb}
-use Rattle.image.specs.Place.{Memory}
+use borrow.Author.Tests.{le-leb, lt-ltb}
 use Rattle.image.specs.Image.{Image, at}
-use Rattle.image.specs.inner.Inside.{Inside}
+use Rattle.code.specs.declared.Expr.{Expr}
 use Rattle.code.specs.declared.Op.{Op}
 use Rattle.code.specs.declared.Op.the-variants.{Acquire, Release, Assign, Jump, Finish, Unknown}
 use Rattle.code.specs.Table.{turnsOf}
 use Rattle.code.specs.Op.{opOf}
-use Rattle.code.specs.Form.{wellFormed}
-use Rattle.code.specs.inner.Fits.{fits}
-use Rattle.code.proofs.Ranges.{formed-range, in-range, opTurns, turns-op}
+use Rattle.code.specs.Form.{inPlace, wellFormed}
+use Rattle.code.specs.inner.Fits.{ranged, fits}
+use Rattle.code.specs.inner.Rows.{inRow, exprRow, opRow}
+use Rattle.code.proofs.Ranges.{formed-range, in-range, op-range, opTurns, turns-op}
+use Rattle.code.proofs.Decoding.{row-formed}
 use Rattle.tally.specs.declared.Tally.{Tally}
-use Rattle.log.specs.Log.{codeIn}
 use Rattle.plan.specs.Turn.{ready}
-use Rattle.plan.proofs.Planned.{ready-says}
 use Rattle.stretch.specs.declared.Stretch.{Stretch}
 use Rattle.stretch.specs.declared.Attempt.{Attempt}
-use Rattle.stretch.specs.inner.Stretch.{Fetched, fetchedOp, isUnknown, Stretched, Attempted}
+use Rattle.stretch.specs.inner.Stretch.{Stretched, Attempted}
+use Rattle.stretch.specs.inner.Whole.{Fetched, Here}
 
 has-turn : (n : ℕ) (x : Op) → fits n x → 0 < opTurns x
 has-turn n (Acquire a) f = omega arith
@@ -31,36 +32,34 @@ has-turn n (Jump a b) f = omega arith
 has-turn n Finish f = omega arith
 has-turn n Unknown f = absurd f
 
-pub first-turn : (n k i w : ℕ) → wellFormed n k i w ≡ true → ltb 0 (turnsOf w) ≡ true
+first-turn : (n k i w : ℕ) → wellFormed n k i w ≡ true → ltb 0 (turnsOf w) ≡ true
 first-turn n k i w e = lt-ltb 0 (turnsOf w) (rw (turns-op w (opOf w) refl) (has-turn n (opOf w) (in-range n w (formed-range n k i w e))))
 
-not-unknown : (n : ℕ) (x : Op) → fits n x → isUnknown x ≡ false
-not-unknown n (Acquire a) f = refl
-not-unknown n (Release a) f = refl
-not-unknown n (Assign a e) f = refl
-not-unknown n (Jump a b) f = refl
-not-unknown n Finish f = refl
-not-unknown n Unknown f = absurd f
+-- in its ranges and in its place
+formed : (n k i w : ℕ) (x : Op) → opOf w ≡ x → inRow n w (opRow x) ≡ true → inPlace k i x ≡ true → wellFormed n k i w ≡ true
+formed n k i w x o r p = sym (row-formed n k i w) ∙ (rw (o, r, p) refl)
 
-module _ (n : ℕ) (rd : Memory) (d s : ℕ) where
-  pub fetch-refused : isUnknown (fetchedOp n rd d s) ≡ true → ready n rd d s 0 ≡ false
-  fetch-refused e = by (ready n rd d s 0) refl e
-    where
-      by : (b : Bool) → ready n rd d s 0 ≡ b → isUnknown (cond b (opOf (codeIn n rd d s)) Unknown) ≡ true → b ≡ false
-      by true r u = absurd (true≢false (sym u ∙ not-unknown n (opOf (codeIn n rd d s)) (ready-says n rd d s 0 r .form)))
-      by false r u = refl
+module _ (n d s k : ℕ) (m : Image) (w : ℕ) (x : Op) (h : Here n d s k m w x) where
+  pub here-fetched : inRow n w (opRow x) ≡ true → inPlace k s x ≡ true → Fetched n d s m x
+  unfolding ready
+  here-fetched r p =
+      let c = h .counted in
+      let f = formed n k s w x (h .op) r p in
+      record {
+        inside = c .inside;
+        ready = rw (c .count, h .word, le-leb 3 k (c .least), le-leb k 64 (c .most), lt-ltb s k (h .below), f, first-turn n k s w f);
+        op = ap opOf (h .word) ∙ h .op;
+      }
 
-  pub fetch-ready : isUnknown (fetchedOp n rd d s) ≡ false → ready n rd d s 0 ≡ true
-  fetch-ready e = by (ready n rd d s 0) e
-    where
-      by : (b : Bool) → isUnknown (cond b (opOf (codeIn n rd d s)) Unknown) ≡ false → b ≡ true
-      by true u = refl
-      by false u = absurd (true≢false u)
+-- a jump goes forward and inside
+pub jump-place : (k s a b : ℕ) → s < b → b < k → inPlace k s (Jump a b) ≡ true
+jump-place k s a b l m = rw (lt-ltb s b l, lt-ltb b k m)
 
-pub fetch-fetched : (n d s : ℕ) (m : Image) {x : Op} → Inside n m d → x ≡ fetchedOp n (at n m) d s → ready n (at n m) d s 0 ≡ true → Fetched n d s m x
-fetch-fetched n d s m {x} i e r = record { inside = i; ready = r; op = sym (rw r at e) }
+-- the operands of an expression whose word is in its ranges
+pub row-ranged : (n w a : ℕ) (e : Expr) → opOf w ≡ Assign a e → inRow n w (exprRow e) ≡ true → ranged n e
+row-ranged n w a e o r = op-range n w (Assign a e) (formed-range n 2 0 w (formed n 2 0 w (Assign a e) o r refl)) o .1
 
--- ---- an attempt, refused or made
+-- ---- an attempt of one turn, refused or made
 
 module _ {n d s t h : ℕ} {y : Tally} {m : Image} {left : ℕ} where
   pub attempt-refused : {r : Attempt} → r .made ≡ false → ready n (at n m) d s t ≡ false → Attempted n d s t h y m left m left r

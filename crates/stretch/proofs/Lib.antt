@@ -3,4 +3,7 @@ pub mod Running
 pub mod LogTurns
 pub mod ByKind
 pub mod Fetching
+pub mod Counting
+pub mod Released
 pub mod Sequence
+pub mod Walking

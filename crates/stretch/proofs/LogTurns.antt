@@ -17,7 +17,6 @@ use Rattle.image.proofs.Stores.{put-none, sized-store, at-store}
 use Rattle.code.specs.declared.Op.{Op}
 use Rattle.code.proofs.Ranges.{opTurns}
 use Rattle.tally.specs.declared.Tally.{Tally}
-use Rattle.tally.specs.Tally.{withStores}
 use Rattle.working.specs.Cursor.{Cursor, on, stepNo, turnNo}
 use Rattle.log.specs.Log.{second, spareAddr, spareVal, activeVal, switched}
 use Rattle.log.proofs.Switching.{switched-val}
@@ -26,7 +25,7 @@ use Rattle.plan.proofs.Quiet.{Spares, quiet-field, other-field, at-other}
 use Rattle.turn.specs.Call.{heldBy}
 use Rattle.stretch.specs.inner.Single.{Single, single, Turns}
 use Rattle.stretch.specs.inner.Logged.{withAddress, withValue, withPc, withTarget}
-use Rattle.stretch.proofs.Running.{Running, running-store, makes, stores-more}
+use Rattle.stretch.proofs.Running.{withStores, Running, running-store, makes, stores-more}
 
 -- ---- the log's words
 

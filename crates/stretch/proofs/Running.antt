@@ -17,14 +17,17 @@ use Rattle.code.specs.Op.{opOf}
 use Rattle.code.specs.inner.Fits.{fits}
 use Rattle.code.proofs.Ranges.{opTurns, turns-op}
 use Rattle.tally.specs.declared.Tally.{Tally}
-use Rattle.tally.specs.Tally.{withStores}
 use Rattle.working.specs.Cursor.{on}
 use Rattle.log.specs.Log.{codeIn}
 use Rattle.plan.specs.Turn.{Outcome, opTurn, ready, turnAt}
 use Rattle.plan.proofs.Planned.{ready-says, ready-turn}
 use Rattle.plan.proofs.Quiet.{Spares, at-other, quiet-ready}
 use Rattle.stretch.specs.inner.Single.{Single, single, after, Turns, none, then}
-use Rattle.stretch.specs.inner.Stretch.{Fetched}
+use Rattle.stretch.specs.inner.Whole.{Fetched}
+
+-- so many turns that stored a word each, counted at once
+abbrev pub withStores : ℕ → Tally → Tally
+withStores k t = record { turns = t .turns + k; waits = t .waits; stores = t .stores + k; free = t .free; others = t .others }
 
 -- worker d of D at step s, with instruction x there; n: own words in a record
 pub record Running (D n d s : ℕ) (x : Op) (m : Image) : Type 0 where
@@ -74,8 +77,6 @@ inside-store n d m left p v w =
 -- a record's field is a word of the image
 pub field-lt : (n d : ℕ) (m : Image) (f : Field) {i : ℕ} → Inside n m d → i ≡ indexOf n (field f d) → i < length m
 field-lt n d m f w e = inside-lt n m d (field f d) w (lt-ltb d (workers m) (w .below)) e
-
--- ---- stores counted at once
 
 pub stores-more : (j k : ℕ) (y : Tally) → withStores k (withStores j y) ≡ withStores (j + k) y
 stores-more j k y =

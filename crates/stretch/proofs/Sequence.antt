@@ -1,10 +1,11 @@
--- Turns one after another, from one to the next: they go on (`turns-append`), the first of them is ready, the image keeps its size, and each adds at most one
--- to a number of the tally.
-use Prim.Native.Nat.{ℕ, suc, zero, _+_, _-_, _≤_}
-use mathlib.Core.Path.{_≡_, refl, ap, sym}
-use mathlib.Core.Bool.{true}
+-- Turns one after another, from one to the next: they go on (`turns-append`), the image keeps its size, and while the worker is not idle its count stays
+-- (`turns-count`); and each turn adds at most one to a number of the tally.
+use Prim.Native.Nat.{ℕ, suc, zero, _+_, _-_, _<_, _≤_}
+use mathlib.Core.Path.{_≡_, refl, ap, sym, _∙_}
 use mathlib.Core.Logic.{_≢_}
 use native.Mathlib.Omega.{arith}
+use Rattle.image.specs.declared.Field.the-variants.{Count}
+use Rattle.image.specs.Place.{field}
 use Rattle.image.specs.Image.{Image, indexOf, at}
 use Rattle.image.proofs.Header.{Sized}
 use Rattle.image.proofs.Stores.{sized-store}
@@ -12,7 +13,10 @@ use Rattle.tally.specs.declared.Tally.{Tally}
 use Rattle.tally.specs.Tally.{RoomFor}
 use Rattle.log.specs.declared.Passing.the-variants.{Jump, AlreadyFree, Others}
 use Rattle.working.specs.Cursor.{on}
-use Rattle.plan.specs.Turn.{Outcome, stored, passed, waiting, resting, refused, ready, turnAt}
+use Rattle.plan.specs.Turn.{Outcome, stored, passed, waiting, resting, refused, turnAt}
+use Rattle.plan.proofs.Planned.{ready-says}
+use Rattle.plan.proofs.Quiet.{at-other}
+use Rattle.plan.proofs.Going.{Goes, stores, ends, passes, waits, goes-ready}
 use Rattle.turn.specs.declared.Answer.{Answer}
 use Rattle.turn.specs.declared.Answer.the-variants.{Stored, Passed, Waiting, Idle, Refused}
 use Rattle.turn.specs.Counted.{counted}
@@ -32,10 +36,6 @@ module _ (n d : ℕ) where
       → Turns n d k (single m left s t h y) (single v rest i u g z) → k ≡ 0 → (v ≡ m) × (rest ≡ left)
   turns-still t e = let q = turns-none t e in (ap (λ (a : Single). a .image) (sym q), ap (λ (a : Single). a .left) (sym q))
 
-  pub turns-ready : {k : ℕ} {a b : Single} → Turns n d k a b → k ≢ 0 → ready n (at n (a .image)) d (a .step) (a .turn) ≡ true
-  turns-ready (none a) o = absurd (o refl)
-  turns-ready (then k a b r t) o = r
-
   pub turns-sized : (D : ℕ) {k : ℕ} {a b : Single} → Turns n d k a b → Sized n D (a .image) → Sized n D (b .image)
   turns-sized D (none a) z = z
   turns-sized D (then k a b e t) z = turns-sized D t (by (turnAt n (at n (a .image)) d (on (a .step) (a .turn))))
@@ -46,6 +46,26 @@ module _ (n d : ℕ) where
       by (waiting b) = z
       by resting = z
       by (refused r) = z
+
+-- the count is stored by the turn that leaves the worker idle, and by no other
+module _ (D n d : ℕ) (h : d < D) where
+  idle-last : {k : ℕ} {a b : Single} → Turns n d k a b → a .turn ≡ 255 → b .turn ≡ 255
+  idle-last (none a) e = e
+  idle-last (then k a b r t) e = absurd (omega (arith, ready-says n (at n (a .image)) d (a .step) (a .turn) r .turn, e))
+
+  pub turns-count : {k : ℕ} {a b : Single} → Turns n d k a b → Sized n D (a .image) → b .turn ≢ 255
+      → at n (b .image) (field Count d) ≡ at n (a .image) (field Count d)
+  turns-count (none a) z o = refl
+  turns-count (then k a b r t) z o = by (goes-ready D n (at n (a .image)) d h (a .step) (a .turn) r) t (λ y. turns-count t y o)
+    where
+      by : {i s : ℕ} {x : Outcome} → Goes D n d s i x → Turns n d k (after n a x) b
+          → (Sized n D (after n a x .image) → at n (b .image) (field Count d) ≡ at n (after n a x .image) (field Count d))
+          → at n (b .image) (field Count d) ≡ at n (a .image) (field Count d)
+      by (stores p v c q u) t more =
+          more (sized-store n D (a .left) (a .image) p v z) ∙ at-other D n (a .left) (a .image) z p (field Count d) v (q .there) (q .counts d)
+      by (ends v) t more = absurd (o (idle-last t refl))
+      by (passes why c u) t more = more z
+      by (waits c) t more = more z
 
 -- room for one turn fewer
 room-counted : (x : Answer) (r : ℕ) (t : Tally) → 1 ≤ r → RoomFor r t → RoomFor (r - 1) (counted x t)

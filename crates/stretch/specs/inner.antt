@@ -3,3 +3,4 @@ pub mod Single
 pub mod Logged
 pub mod Locks
 pub mod Stretch
+pub mod Whole

@@ -1,8 +1,10 @@
 // Turns of one worker back to back, in a run in which no other is open: an instruction's turns at once, or one turn as it is.
+mod assigning;
 mod locks;
 mod logged;
-mod whole;
+pub mod whole;
 
+use tally::Passes;
 use tally::Tally;
 use turn::Did;
 ghost use mathlib.Core.Path.{_≡_};
@@ -12,7 +14,8 @@ ghost use Rattle.image.specs.Image.{at};
 ghost use Rattle.image.specs.inner.Inside.{Inside};
 ghost use Rattle.plan.specs.Turn.{ready};
 ghost use Rattle.tally.specs.Tally.{RoomFor};
-ghost use Rattle.stretch.specs.inner.Stretch.{tallied, takenBy, Stretched, Attempted};
+ghost use Rattle.stretch.specs.inner.Stretch.{refusedAt, tallied, takenBy, Stretched, Attempted};
+ghost use Rattle.stretch.specs.inner.Whole.{noTurns};
 
 // So many turns, and what they leave beside the image: the worker's step and turn, the locks held, and the tally.
 pub struct Stretch {
@@ -29,10 +32,32 @@ pub struct Attempt {
     pub stretch: Stretch,
 }
 
+// What whole instructions leave beside the image: so many turns, those of them that passed, the worker's step and turn, and the locks held. Their tally is
+// worked out by the caller: a record of five words that is handed back in memory would be waited for.
+pub struct Walk {
+    pub turns: u64,
+    pub step: u8,
+    pub turn: u8,
+    pub passes: Passes,
+    pub held: u64,
+}
+
+// No turn, at step s, turn t.
+fn none(s: u8, t: u8, held: u64, passes: Passes) -> Walk
+    ensures { λ r. ⌜ r ≡ noTurns s t held passes ⌝ }
+{
+    Walk {
+        turns: 0,
+        step: s,
+        turn: t,
+        passes: passes,
+        held: held,
+    }
+}
+
 // It is refused, at step s, turn t.
 fn refused(s: u8, t: u8, held: u64, tally: Tally) -> Attempt
-    ensures made { λ r. ⌜ r .made ≡ false ⌝ }
-    ensures turns { λ r. ⌜ r .stretch .turns ≡ 1 ⌝ }
+    ensures { λ r. ⌜ r ≡ refusedAt s t held tally ⌝ }
 {
     Attempt {
         made: false,
@@ -46,16 +71,16 @@ fn refused(s: u8, t: u8, held: u64, tally: Tally) -> Attempt
     }
 }
 
-// The tally after k turns of which the one of note did this: the others stored a word each, or waited as it did.
+// The tally after a turn that did this; where it waited, after k that did.
 fn tallied(x: Did, k: u16, t: Tally) -> Tally
     requires { ⌜ RoomFor k t × (1 ≤ k) ⌝ }
     ensures { λ r. ⌜ r ≡ tallied x k t ⌝ }
 {
     match x {
-        Did::Stored(_) => tally::stores(t, k as u64),
-        Did::Took(_) => tally::stores(t, k as u64),
-        Did::Freed(_) => tally::stores(t, k as u64),
-        Did::Passed(why) => turn::passed(why, tally::stores(t, k as u64 - 1)),
+        Did::Stored(_) => tally::stored(t),
+        Did::Took(_) => tally::stored(t),
+        Did::Freed(_) => tally::stored(t),
+        Did::Passed(why) => turn::passed(why, t),
         Did::Waiting(_) => tally::waits(t, k as u64),
     }
 }
@@ -101,8 +126,8 @@ fn one(
     }
 }
 
-// One turn, where it is ready.
-fn plain(
+// One turn of worker d, which is open at step s, turn t, where it is ready.
+pub fn plain(
     image: &mut [u64],
     d: usize,
     s: u8,
@@ -124,32 +149,4 @@ fn plain(
         made: true,
         stretch: one(image, d, s, t, own, rounds, held, tally, left),
     }
-}
-
-// Turns of worker d, which is open at step s, turn t: whole instructions, where one begins here and as many rounds are left; else one.
-pub fn next(
-    image: &mut [u64],
-    d: usize,
-    s: u8,
-    t: u8,
-    own: usize,
-    rounds: u16,
-    held: u64,
-    tally: Tally,
-    left: &mut u64,
-) -> Attempt
-    requires { ⌜ (Inside own (now image) d) × (1 ≤ rounds) × RoomFor rounds tally ⌝ }
-    ensures attempt { λ r. ⌜ Attempted own d s t held tally (now (image .entry)) (now (left .entry)) (now (image .exit)) (now (left .exit)) r ⌝ }
-    ensures most { λ r. ⌜ r .stretch .turns ≤ rounds ⌝ }
-{
-    if t == 0 {
-        let x = whole::instructions(image, d, s, own, rounds, held, tally, left);
-        if x.turns != 0 {
-            return Attempt {
-                made: true,
-                stretch: x,
-            };
-        }
-    }
-    plain(image, d, s, t, own, rounds, held, tally, left)
 }

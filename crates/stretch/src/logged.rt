@@ -14,7 +14,7 @@ pub fn stores(image: &mut [u64], d: usize, s: u8, own: usize, target: usize, v: 
     ensures left { λ r. ⌜ now (left .exit) ≡ now (left .entry) - 1 - 1 - 1 - 1 ⌝ }
 {
     let address = image::field_index(log::spare_addr(image, d, own), d, own);
-    let value = image::field_index(log::spare_val(image, d, own), d, own);
+    let value = image::value_index(address);
     let pc = log::switched(image, d, own, s);
     let mut rest = *left;
     image::store_inside(image, address, target as u64, &mut rest);

@@ -26,10 +26,7 @@ withOthers t = record { turns = t .turns + 1; waits = t .waits; stores = t .stor
 abbrev pub withWaiting : Tally → Tally
 withWaiting t = record { turns = t .turns + 1; waits = t .waits + 1; stores = t .stores; free = t .free; others = t .others }
 
--- so many turns that stored a word, and so many that waited
-abbrev pub withStores : ℕ → Tally → Tally
-withStores k t = record { turns = t .turns + k; waits = t .waits; stores = t .stores + k; free = t .free; others = t .others }
-
+-- so many turns that waited
 abbrev pub withWaits : ℕ → Tally → Tally
 withWaits k t = record { turns = t .turns + k; waits = t .waits + k; stores = t .stores; free = t .free; others = t .others }
 

@@ -2,8 +2,10 @@
 // tally record. The record is lent by &mut to one thin counting function for each answer of a turn, over a core that counts by
 // value. Several turns of a kind are counted at once by value alone.
 ghost use mathlib.Core.Path.{_≡_};
+ghost use Prim.Native.Nat.{_<_, _≤_};
 ghost use Rattle.tally.specs.Tally.{none, withStored, withJump, withAlreadyFree, withOthers, withWaiting, Room};
-ghost use Rattle.tally.specs.Tally.{withStores, withWaits, RoomFor};
+ghost use Rattle.tally.specs.Tally.{withWaits, RoomFor};
+ghost use Rattle.tally.specs.inner.Passes.{noPasses, passed, withPassedJump, withPassedFree, withPassedOthers, withTurns};
 
 pub struct Tally {
     // The turns taken.
@@ -16,6 +18,13 @@ pub struct Tally {
     pub free: u64,
     // The releases that found their lock another's.
     pub others: u64,
+}
+
+// Of several turns those that stored nothing and did not wait: jumps, and releases that found their lock already free, or another's.
+pub struct Passes {
+    pub jumps: u16,
+    pub free: u16,
+    pub others: u16,
 }
 
 // The tally before the first turn.
@@ -191,20 +200,6 @@ pub fn waiting(t: Tally) -> Tally
     u
 }
 
-// The tally after k turns that stored a word each.
-pub fn stores(t: Tally, k: u64) -> Tally
-    requires { ⌜ RoomFor k t ⌝ }
-    ensures { λ r. ⌜ r ≡ withStores k t ⌝ }
-{
-    Tally {
-        turns: t.turns + k,
-        waits: t.waits,
-        stores: t.stores + k,
-        free: t.free,
-        others: t.others,
-    }
-}
-
 // The tally after k turns that waited.
 pub fn waits(t: Tally, k: u64) -> Tally
     requires { ⌜ RoomFor k t ⌝ }
@@ -216,5 +211,67 @@ pub fn waits(t: Tally, k: u64) -> Tally
         stores: t.stores,
         free: t.free,
         others: t.others,
+    }
+}
+
+// No turn that passed.
+pub fn no_passes() -> Passes
+    ensures { λ r. ⌜ r ≡ noPasses ⌝ }
+{
+    Passes {
+        jumps: 0,
+        free: 0,
+        others: 0,
+    }
+}
+
+// One more: a jump.
+pub fn passed_jump(p: Passes) -> Passes
+    requires { ⌜ passed p < 65535 ⌝ }
+    ensures { λ r. ⌜ r ≡ withPassedJump p ⌝ }
+{
+    Passes {
+        jumps: p.jumps + 1,
+        free: p.free,
+        others: p.others,
+    }
+}
+
+// A release that found its lock already free.
+pub fn passed_free(p: Passes) -> Passes
+    requires { ⌜ passed p < 65535 ⌝ }
+    ensures { λ r. ⌜ r ≡ withPassedFree p ⌝ }
+{
+    Passes {
+        jumps: p.jumps,
+        free: p.free + 1,
+        others: p.others,
+    }
+}
+
+// One that found its lock another's.
+pub fn passed_others(p: Passes) -> Passes
+    requires { ⌜ passed p < 65535 ⌝ }
+    ensures { λ r. ⌜ r ≡ withPassedOthers p ⌝ }
+{
+    Passes {
+        jumps: p.jumps,
+        free: p.free,
+        others: p.others + 1,
+    }
+}
+
+// The tally after k turns of which these passed and the others stored a word each.
+pub fn turns(t: Tally, k: u64, p: Passes) -> Tally
+    requires { ⌜ RoomFor k t × (passed p ≤ k) ⌝ }
+    ensures { λ r. ⌜ r ≡ withTurns k p t ⌝ }
+{
+    let passed = p.jumps as u64 + p.free as u64 + p.others as u64;
+    Tally {
+        turns: t.turns + k,
+        waits: t.waits,
+        stores: t.stores + (k - passed),
+        free: t.free + p.free as u64,
+        others: t.others + p.others as u64,
     }
 }

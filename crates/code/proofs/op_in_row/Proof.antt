@@ -6,20 +6,14 @@ use Rattle.code.proofs.op_in_row.Tie as tie
 enum-told : tie.Need-enum-told
 enum-told c = search needs
 
-array-copy-out-in-row : tie.Need-array-copy-out-in-row
-array-copy-out-in-row c = search needs
-
-in-row-requires : tie.Need-in-row-requires
-in-row-requires c κs = search needs
+acquire-fits-requires : tie.Need-acquire-fits-requires
+acquire-fits-requires c κs = search needs
 
 enum-told-2 : tie.Need-enum-told-2
 enum-told-2 c = search needs
 
-array-copy-out-in-row-2 : tie.Need-array-copy-out-in-row-2
-array-copy-out-in-row-2 c = search needs
-
-in-row-requires-2 : tie.Need-in-row-requires-2
-in-row-requires-2 c κs = search needs
+release-fits-requires : tie.Need-release-fits-requires
+release-fits-requires c κs = search needs
 
 enum-known-x : tie.Need-enum-known-x
 enum-known-x c = search needs
@@ -27,121 +21,95 @@ enum-known-x c = search needs
 enum-told-3 : tie.Need-enum-told-3
 enum-told-3 c = search needs
 
-array-copy-out-in-row-3 : tie.Need-array-copy-out-in-row-3
-array-copy-out-in-row-3 c = search needs
-
-in-row-requires-3 : tie.Need-in-row-requires-3
-in-row-requires-3 c κs = search needs
+literal-fits-requires : tie.Need-literal-fits-requires
+literal-fits-requires c κs = search needs
 
 enum-told-4 : tie.Need-enum-told-4
 enum-told-4 c = search needs
 
-array-copy-out-in-row-4 : tie.Need-array-copy-out-in-row-4
-array-copy-out-in-row-4 c = search needs
-
-in-row-requires-4 : tie.Need-in-row-requires-4
-in-row-requires-4 c κs = search needs
+sum-fits-requires : tie.Need-sum-fits-requires
+sum-fits-requires c κs = search needs
 
 enum-told-5 : tie.Need-enum-told-5
 enum-told-5 c = search needs
 
-array-copy-out-in-row-5 : tie.Need-array-copy-out-in-row-5
-array-copy-out-in-row-5 c = search needs
-
-in-row-requires-5 : tie.Need-in-row-requires-5
-in-row-requires-5 c κs = search needs
+difference-fits-requires : tie.Need-difference-fits-requires
+difference-fits-requires c κs = search needs
 
 enum-told-6 : tie.Need-enum-told-6
 enum-told-6 c = search needs
 
-array-copy-out-in-row-6 : tie.Need-array-copy-out-in-row-6
-array-copy-out-in-row-6 c = search needs
-
-in-row-requires-6 : tie.Need-in-row-requires-6
-in-row-requires-6 c κs = search needs
+less-fits-requires : tie.Need-less-fits-requires
+less-fits-requires c κs = search needs
 
 enum-told-7 : tie.Need-enum-told-7
 enum-told-7 c = search needs
 
-array-copy-out-in-row-7 : tie.Need-array-copy-out-in-row-7
-array-copy-out-in-row-7 c = search needs
-
-in-row-requires-7 : tie.Need-in-row-requires-7
-in-row-requires-7 c κs = search needs
+jump-fits-requires : tie.Need-jump-fits-requires
+jump-fits-requires c κs = search needs
 
 enum-told-8 : tie.Need-enum-told-8
 enum-told-8 c = search needs
 
-array-copy-out-in-row-8 : tie.Need-array-copy-out-in-row-8
-array-copy-out-in-row-8 c = search needs
-
-in-row-requires-8 : tie.Need-in-row-requires-8
-in-row-requires-8 c κs = search needs
+finish-fits-requires : tie.Need-finish-fits-requires
+finish-fits-requires c κs = search needs
 
 enum-told-9 : tie.Need-enum-told-9
 enum-told-9 c = search needs
 
-in-row-requires-9 : tie.Need-in-row-requires-9
-in-row-requires-9 c κs = search needs
+in-row-requires : tie.Need-in-row-requires
+in-row-requires c κs = search needs
 
 returns : tie.Need-returns
-returns c = rw (c .before .before .enum-told .given .1) (c .in-row .ensures)
+returns c = rw (c .before .enum-told .given .1) (c .acquire-fits .ensures 0)
 
 returns-2 : tie.Need-returns-2
-returns-2 c = rw (c .before .before .enum-told2 .given .1) (c .in-row2 .ensures)
+returns-2 c = rw (c .before .enum-told2 .given .1) (c .release-fits .ensures 0)
 
 returns-3 : tie.Need-returns-3
-returns-3 c = rw (c .before .before .before .before .before .x .given .1, c .before .before .enum-told3 .given .1) (c .in-row3 .ensures)
+returns-3 c = rw (c .before .before .before .before .x .given .1, c .before .enum-told3 .given .1) (c .literal-fits .ensures 0 0)
 
 returns-4 : tie.Need-returns-4
-returns-4 c = rw (c .before .before .before .before .before .x .given .1, c .before .before .enum-told4 .given .1) (c .in-row4 .ensures)
+returns-4 c = rw (c .before .before .before .before .x .given .1, c .before .enum-told4 .given .1) (c .sum-fits .ensures 0 0)
 
 returns-5 : tie.Need-returns-5
-returns-5 c = rw (c .before .before .before .before .before .x .given .1, c .before .before .enum-told5 .given .1) (c .in-row5 .ensures)
+returns-5 c = rw (c .before .before .before .before .x .given .1, c .before .enum-told5 .given .1) (c .difference-fits .ensures 0 0)
 
 returns-6 : tie.Need-returns-6
-returns-6 c = rw (c .before .before .before .before .before .x .given .1, c .before .before .enum-told6 .given .1) (c .in-row6 .ensures)
+returns-6 c = rw (c .before .before .before .before .x .given .1, c .before .enum-told6 .given .1) (c .less-fits .ensures 0 0)
 
 returns-7 : tie.Need-returns-7
-returns-7 c = rw (c .before .before .enum-told7 .given .1) (c .in-row7 .ensures)
+returns-7 c = rw (c .before .enum-told7 .given .1) (c .jump-fits .ensures 0 0)
 
 returns-8 : tie.Need-returns-8
-returns-8 c = rw (c .before .before .enum-told8 .given .1) (c .in-row8 .ensures)
+returns-8 c = rw (c .before .enum-told8 .given .1) (c .finish-fits .ensures)
 
 returns-9 : tie.Need-returns-9
-returns-9 c = rw (c .before .enum-told9 .given .1) (c .in-row9 .ensures)
+returns-9 c = rw (c .before .enum-told9 .given .1) (c .in-row .ensures)
 
 pub op-in-row-spec : {M : Type 1} → statement M
 op-in-row-spec =
     tie.close
     (tie.spec
     enum-told
-    array-copy-out-in-row
-    in-row-requires
+    acquire-fits-requires
     enum-told-2
-    array-copy-out-in-row-2
-    in-row-requires-2
+    release-fits-requires
     enum-known-x
     enum-told-3
-    array-copy-out-in-row-3
-    in-row-requires-3
+    literal-fits-requires
     enum-told-4
-    array-copy-out-in-row-4
-    in-row-requires-4
+    sum-fits-requires
     enum-told-5
-    array-copy-out-in-row-5
-    in-row-requires-5
+    difference-fits-requires
     enum-told-6
-    array-copy-out-in-row-6
-    in-row-requires-6
+    less-fits-requires
     enum-told-7
-    array-copy-out-in-row-7
-    in-row-requires-7
+    jump-fits-requires
     enum-told-8
-    array-copy-out-in-row-8
-    in-row-requires-8
+    finish-fits-requires
     enum-told-9
-    in-row-requires-9
+    in-row-requires
     returns
     returns-2
     returns-3

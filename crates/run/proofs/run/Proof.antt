@@ -1,12 +1,15 @@
 -- `run::run` meets its contract: the header test, then the rounds over the workers that the header names, or over the one that is open where it is alone.
 use borrow.Author.Needs.{needs}
 use mathlib.Core.Path.{sym, _∙_}
+use Prim.Native.Nat.{_-_, _<_}
+use native.Mathlib.Omega.{arith}
 use denote.Ref.{now}
 use Rattle.base.proofs.Bools.{denied, granted}
+use Rattle.image.specs.Image.{workers}
 use Rattle.image.proofs.Header.{header-true, header-workers, header-inside}
 use Rattle.working.specs.World.{world}
 use Rattle.run.proofs.Rounds.{run-refused, run-rounds}
-use Rattle.run.proofs.Next.{next-alone}
+use Rattle.run.proofs.Idling.{to-most, to-alone}
 use Rattle.run.proofs.run.Statement.{statement}
 use Rattle.run.proofs.run.Tie as tie
 
@@ -28,30 +31,35 @@ returns c =
 workers-requires : tie.Need-workers-requires
 workers-requires c κs = search needs
 
-next-open-requires : tie.Need-next-open-requires
-next-open-requires c κs =
+open-to-requires : tie.Need-open-to-requires
+open-to-requires c κs =
     let e = granted (c .before .before .before .header-ok .ensures) (c .before .before .if1 .left) in
     rw (c .workers .ensures) (header-workers _ _ _ e .1)
 
-add-next-open : tie.Need-add-next-open
-add-next-open c = search needs
+sub-open-to : tie.Need-sub-open-to
+sub-open-to c = search needs
 
-next-open-requires-2 : tie.Need-next-open-requires-2
-next-open-requires-2 c κs =
+open-to-requires-2 : tie.Need-open-to-requires-2
+open-to-requires-2 c κs =
     let W = c .before .before in
     let e = granted (W .before .before .before .header-ok .ensures) (W .before .before .if1 .left) in
-    rw (W .workers .ensures) (header-workers _ _ _ e .1)
+    let S = W .before .before .before .before .before .before in
+    omega (arith, c .before .open-to .ensures, to-most (S .args .c) (W .workers .result), W .workers .ensures, header-workers _ _ _ e .1)
+
+sub-rounds : tie.Need-sub-rounds
+sub-rounds c = search needs
 
 rounds-requires : tie.Need-rounds-requires
 rounds-requires c κs =
-    let T = c .before .before in
-    let K = T .before .before .before in
-    let W = K .before in
+    let W = c .before .before .before .before .before .before in
     let S = W .before .before .before .before .before .before in
     let n = W .workers .ensures in
-    let e = granted (W .before .before .before .header-ok .ensures) (W .before .before .if1 .left) in (
-      header-inside _ _ _ _ (S .pre) e (rw n at (T .before .before .if2 .taken)),
-      rw (← n) (next-alone (S .args .c) _ (K .next-open .ensures) (sym (T .before .next-open2 .ensures) ∙ T .if3 .taken)),
+    let to = c .before .before .before .before .before .open-to in
+    let e = granted (W .before .before .before .header-ok .ensures) (W .before .before .if1 .left) in
+    let i2 = c .before .before .before .before in
+    let last : to .result - 1 < workers (now (S .args .image)) = omega (arith, to .ensures, to-most (S .args .c) (W .workers .result), n, i2 .if2 .taken) in (
+      header-inside _ _ _ _ (S .pre) e last,
+      rw (← n) (to-alone (S .args .c) _ (to .ensures) (i2 .if2 .taken) (sym (c .before .before .before .open-to2 .ensures) ∙ c .before .before .if3 .taken)),
     )
 
 same-length-2 : tie.Need-same-length-2
@@ -72,8 +80,7 @@ rounds-of-requires c κs =
     let S = W .before .before .before .before .before .before in
     let A = S .args in
     let n = W .workers .ensures in
-    let h = header-true (A .mark) (A .own) (now (A .image))
-    (granted (W .before .before .before .header-ok .ensures) (W .before .before .if1 .left)) in
+    let h = header-true (A .mark) (A .own) (now (A .image)) (granted (W .before .before .before .header-ok .ensures) (W .before .before .if1 .left)) in
     (S .pre, n, rw n (h .few), rw n (h .size))
 
 same-length-3 : tie.Need-same-length-3
@@ -97,9 +104,10 @@ run-spec =
     same-length
     returns
     workers-requires
-    next-open-requires
-    add-next-open
-    next-open-requires-2
+    open-to-requires
+    sub-open-to
+    open-to-requires-2
+    sub-rounds
     rounds-requires
     same-length-2
     returns-2

@@ -1,5 +1,6 @@
 -- `stretch::plain` meets its contract: one turn is refused where it is not ready.
 use borrow.Author.Needs.{needs}
+use mathlib.Core.Path.{refl}
 use native.Mathlib.Omega.{arith}
 use Rattle.base.proofs.Bools.{denied, granted}
 use Rattle.stretch.proofs.Fetching.{attempt-refused, attempt-made}
@@ -19,7 +20,7 @@ returns : tie.Need-returns
 returns c =
     let r = c .before .before in
     let no = denied (r .ready .ensures) (c .before .if1 .taken) in
-    (attempt-refused (c .refused .ensures .0) no, omega (arith, c .refused .ensures .1, r .before .before .before .pre .1))
+    rw (c .refused .ensures) (attempt-refused refl no, omega (arith, r .before .before .before .pre .1))
 
 one-requires : tie.Need-one-requires
 one-requires c κs =

@@ -1,16 +1,10 @@
--- What the code says of a stretch, that is, of turns of one worker that it makes back to back.
-use Prim.Native.Nat.{ℕ, _-_, _≤_}
+-- What the code says of one turn made as it is, or of as many waits: a stretch of turns.
+use Prim.Native.Nat.{ℕ, _≤_}
 use mathlib.Core.Path.{_≡_}
-use mathlib.Core.Bool.{Bool, true, false, cond}
-use Rattle.image.specs.Place.{Memory}
+use mathlib.Core.Bool.{true, false}
 use Rattle.image.specs.Image.{Image, at}
-use Rattle.image.specs.inner.Inside.{Inside}
-use Rattle.code.specs.declared.Op.{Op}
-use Rattle.code.specs.declared.Op.the-variants.{Acquire, Release, Assign, Jump, Finish, Unknown}
-use Rattle.code.specs.Op.{opOf}
-use Rattle.log.specs.Log.{codeIn}
 use Rattle.tally.specs.declared.Tally.{Tally}
-use Rattle.tally.specs.Tally.{withStores, withWaits}
+use Rattle.tally.specs.Tally.{withStored, withWaits}
 use Rattle.plan.specs.Turn.{ready}
 use Rattle.turn.specs.declared.Answer.the-variants.{Passed as PassedTurn}
 use Rattle.turn.specs.declared.Did.{Did}
@@ -20,12 +14,16 @@ use Rattle.stretch.specs.declared.Stretch.{Stretch}
 use Rattle.stretch.specs.declared.Attempt.{Attempt}
 use Rattle.stretch.specs.inner.Single.{single, Turns}
 
--- the tally after k turns: all stored a word, or all but one that passed, or all waited
+-- a turn that is refused, at step s, turn t, with these locks held: all as it was
+abbrev pub refusedAt : ℕ → ℕ → ℕ → Tally → Attempt
+refusedAt s t h y = record { made = false; stretch = record { turns = 1; step = s; turn = t; held = h; tally = y } }
+
+-- the tally after a turn that did this; where it waited, after k that did
 abbrev pub tallied : Did → ℕ → Tally → Tally
-tallied (Stored i) k t = withStores k t
-tallied (Took b) k t = withStores k t
-tallied (Freed b) k t = withStores k t
-tallied (Passed why) k t = counted (PassedTurn why) (withStores (k - 1) t)
+tallied (Stored i) k t = withStored t
+tallied (Took b) k t = withStored t
+tallied (Freed b) k t = withStored t
+tallied (Passed why) k t = counted (PassedTurn why) t
 tallied (Waiting b) k t = withWaits k t
 
 -- how many of so many rounds a turn alone takes: one, or all where it waits
@@ -35,24 +33,6 @@ takenBy (Took b) r = 1
 takenBy (Freed b) r = 1
 takenBy (Passed why) r = 1
 takenBy (Waiting b) r = r
-
--- worker d's record has instruction x at step s, and its first turn is ready; n: own words in a record
-pub record Fetched (n d s : ℕ) (m : Image) (x : Op) : Type 0 where
-  pub inside : Inside n m d
-  pub ready : ready n (at n m) d s 0 ≡ true
-  pub op : opOf (codeIn n (at n m) d s) ≡ x
-
--- the instruction there, where its first turn is ready; else the unknown one
-abbrev pub fetchedOp : ℕ → Memory → ℕ → ℕ → Op
-fetchedOp n rd d s = cond (ready n rd d s 0) (opOf (codeIn n rd d s)) Unknown
-
-abbrev pub isUnknown : Op → Bool
-isUnknown (Acquire a) = false
-isUnknown (Release a) = false
-isUnknown (Assign a e) = false
-isUnknown (Jump a b) = false
-isUnknown Finish = false
-isUnknown Unknown = true
 
 -- the image was m with so many stores left and worker d at step s, turn t, with the locks held and the tally so far, and is v
 pub record Stretched (n d s t h : ℕ) (y : Tally) (m : Image) (left : ℕ) (v : Image) (rest : ℕ) (r : Stretch) : Type 0 where

@@ -1,107 +1,74 @@
--- `run::alone::rounds` meets its contract: its loop keeps what Solo says of the worker's turns so far, and each way on or out of it is one of its laws.
+-- `run::alone::rounds` meets its contract: the turns of its callee are as many rounds, and the record is that of the worker's place.
 use borrow.Author.Needs.{needs}
-use mathlib.Core.Path.{_≡_, sym, _∙_}
-use mathlib.Core.Logic.{⊎-elim}
+use mathlib.Core.Path.{_≡_, sym, ap, _∙_}
 use native.Mathlib.Omega.{arith}
+use denote.Ref.{now}
 use lib.ListN.{length}
-use borrow.Author.Tests.{not-true, not-false}
 use Rattle.image.specs.Image.{workers}
 use Rattle.tally.specs.Tally.{none}
+use Rattle.working.specs.declared.Cursors.{Cursors}
+use Rattle.working.specs.Cursor.{holding}
 use Rattle.working.specs.World.{world}
-use Rattle.stretch.specs.inner.Single.{single}
-use Rattle.run.specs.Run.{counting}
-use Rattle.run.proofs.Solo.{Solo, solo-starts, solo-inside, solo-again, solo-idle, solo-spent, solo-halts}
+use Rattle.run.specs.Run.{counting, ran}
+use Rattle.run.specs.inner.Alone.{standing}
+use Rattle.run.proofs.Solo.{Solo, solo-starts, solo-again}
+use Rattle.run.proofs.Standing.{solo-ends}
 use Rattle.run.proofs.alone.rounds.Statement.{statement}
 use Rattle.run.proofs.alone.rounds.Tie as tie
 
-abbrev Inv-loop : tie.InvT-loop
-Inv-loop image₀ d own rounds left₀ cursors s₀ t₀ held₀ tally₀ rest₀ image left s t held tally rest =
-    Solo own (workers image₀) rounds cursors d (counting (world image₀ cursors left₀) none) (single image left s t held tally) rest
+put-requires : tie.Need-put-requires
+put-requires c κs = search needs
 
-abbrev μ-loop : tie.MeasureT-loop
-μ-loop image₀ d own rounds left₀ cursors s₀ t₀ held₀ tally₀ rest₀ image left s t held tally rest = rest
+element-copy-out-t21 : tie.Need-element-copy-out-t21
+element-copy-out-t21 c = search needs
 
-element-copy-out-s : tie.Need-element-copy-out-s Inv-loop μ-loop
-element-copy-out-s c = let i = c .before .pre .0 in omega (arith, i .below, i .most)
+element-copy-out-t24 : tie.Need-element-copy-out-t24
+element-copy-out-t24 c = search needs
 
-element-copy-out-t : tie.Need-element-copy-out-t Inv-loop μ-loop
-element-copy-out-t c = let i = c .before .before .pre .0 in omega (arith, i .below, i .most)
-
-zero-requires : tie.Need-zero-requires Inv-loop μ-loop
+zero-requires : tie.Need-zero-requires
 zero-requires c κs = search needs
 
-loop-holds : tie.Need-loop-holds Inv-loop μ-loop
-loop-holds c =
-    let S = c .before .before .before .before in
-    let s : length (S .args .t2 .step) ≡ 8 = search (needs, S .good .1 .0) in
-    let t : length (S .args .t2 .turn) ≡ 8 = search (needs, S .good .1 .0) in
-    solo-starts _ _ _ _ _ _ (record { steps = s; turns = t }) (S .pre .0) (S .pre .1) (c .zero .ensures) (omega (arith, S .fits .rounds))
+to-end-requires : tie.Need-to-end-requires
+to-end-requires c κs =
+    let z = c .before .before in
+    let S = z .before .before .before .before .before .before .before .before .before in
+    let r = S .fits .rounds in
+    (S .pre .0, rw (z .zero .ensures) (omega (arith, r), omega (arith, r), omega (arith, r), omega (arith, r), omega (arith, r)))
 
-next-requires : tie.Need-next-requires Inv-loop μ-loop
-next-requires c κs =
-    let two = c .before .before in
-    let L = two .before .before in
-    let S = L .before .before .before .before .before in
-    let l = L .loop .inv in (
-      solo-inside _ _ _ _ _ _ _ _ l (S .pre .0 .few),
-      omega (arith, two .if2 .left),
-      l .room,
-    )
+settle-requires : tie.Need-settle-requires
+settle-requires c κs = search needs
 
-sub-rest : tie.Need-sub-rest Inv-loop μ-loop
-sub-rest c = c .before .before .before .before .before .before .before .next .ensures .1
+same-length : tie.Need-same-length
+same-length c = search needs
 
-loop-less : tie.Need-loop-less Inv-loop μ-loop
-loop-less c =
-    let N = c .before .before .before .before .before .before .before .next .ensures in
-    let some = N .0 .stretch (not-false _ (c .before .before .before .if3 .left)) .some in omega (arith, some, N .1)
-
-loop-again : tie.Need-loop-again Inv-loop μ-loop
-loop-again c =
-    let N = c .before .before .before .before .before .before .before in
-    let s = N .next .ensures .0 .stretch (not-false _ (c .before .before .before .if3 .left)) in
-    solo-again _ _ _ _ _ _ _ _ (N .before .before .before .before .before .loop .inv) _ _ (s .made) (N .next .ensures .1)
-
-place-requires : tie.Need-place-requires Inv-loop μ-loop
-place-requires c κs = search needs
-
-same-length : tie.Need-same-length Inv-loop μ-loop
-same-length c =
-    let L = c .before .before in
-    let same = L .loop .inv .size .size ∙ sym (L .before .before .before .before .before .pre .0 .whole) in
-    ⊎-elim (λ w. rw (w .1) same)
-    (⊎-elim (λ w. rw (w .2) same) (λ w. rw (w .9, w .4 .ensures .0 .stays (not-true _ (w .8 .taken)) .0) same))
-    (c .before .if1 .came)
-
-returns : tie.Need-returns Inv-loop μ-loop
+returns : tie.Need-returns
 returns c =
-    let l = c .before .before .loop .inv in
-    rw (c .place .ensures)
-    (⊎-elim
-    (λ w. rw (w .1, w .2, w .3) (solo-idle _ _ _ _ _ _ _ _ l (w .0 .taken)))
-    (⊎-elim
-    (λ w. rw (w .2, w .3, w .4) (solo-spent _ _ _ _ _ _ _ _ l (w .0 .left) (w .1 .taken)))
-    (λ w.
-    let no = not-true _ (w .8 .taken) in
-    let stays = w .4 .ensures .0 .stays no in
-    rw (w .9, w .10, w .11, stays .0, stays .1)
-    (solo-halts _ _ _ _ _ _ _ _ l (w .0 .left) (w .1 .left) (sym (w .4 .ensures .0 .made) ∙ no))))
-    (c .before .if1 .came))
+    let T = c .before .before .before .before .before .before .before in
+    let P = T .before .before .before .before .before .before in
+    let S = P .before .before .before .before .before .before in
+    let A = S .args in
+    let s : length (A .t2 .step) ≡ 8 = search (needs, S .good .1 .0) in
+    let t : length (A .t2 .turn) ≡ 8 = search (needs, S .good .1 .0) in
+    let x = T .to-end .ensures .0 in
+    let y = T .to-end .result .stand in
+    let v = T .to-end .last .0 in
+    let rest = T .to-end .last .1 .1 .1 .1 .0 in
+    let begun = solo-starts (A .own) (A .rounds) (A .t2) (A .d) (now (A .image)) (now (A .left)) (record { steps = s; turns = t }) (S .pre .0) (S .pre .1)
+    (T .before .before .before .zero .ensures) in
+    let solo = rw (← x .rounds) at (solo-again _ _ _ _ _ _ _ _ begun (x .turns) _ (x .made) (x .few)) in
+    let ends = solo-ends _ _ _ _ _ _ v rest y solo (T .to-end .result .end) (T .to-end .ensures .1) in
+    let settled = c .before .settle .ensures (A .t2) (P .put .ensures (A .t2 .held)) in
+    ap (λ (k : Cursors). ran (T .to-end .result .end) (counting (world v (holding (y .held) k) rest) (y .tally))) settled ∙ ends
 
 pub rounds-spec : {M : Type 1} → statement M
 rounds-spec =
     tie.close
     (tie.spec
-    Inv-loop
-    μ-loop
-    element-copy-out-s
-    element-copy-out-t
+    put-requires
+    element-copy-out-t21
+    element-copy-out-t24
     zero-requires
-    loop-holds
-    next-requires
-    sub-rest
-    loop-less
-    loop-again
-    place-requires
+    to-end-requires
+    settle-requires
     same-length
     returns)

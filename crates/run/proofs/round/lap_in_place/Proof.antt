@@ -1,6 +1,6 @@
 -- `run::round::lap_in_place` meets its contract, as `turn` does: ready it is the worker's turn, and else nothing.
 use borrow.Author.Needs.{needs}
-use mathlib.Core.Path.{sym, _∙_}
+use mathlib.Core.Path.{refl, sym, _∙_}
 use Rattle.run.proofs.Lapped.{lapped-refused, lapped-made}
 use Rattle.run.proofs.round.lap_in_place.Statement.{statement}
 use Rattle.run.proofs.round.lap_in_place.Tie as tie
@@ -30,8 +30,7 @@ same-length-2 c = search needs
 
 returns-2 : tie.Need-returns-2
 returns-2 c =
-    let r = c .refused .ensures in
-    lapped-refused _ _ _ _ _ _ _ (sym (c .before .before .ready-in .ensures) ∙ c .before .if1 .left) (r .0) (r .1)
+    rw (c .refused .ensures) (lapped-refused _ _ _ _ _ _ _ (sym (c .before .before .ready-in .ensures) ∙ c .before .if1 .left) refl tt)
 
 pub lap-in-place-spec : {M : Type 1} → statement M
 lap-in-place-spec =

@@ -1,5 +1,6 @@
 -- `run::round::turn` meets its contract: ready it is the worker's turn, and else nothing.
 use borrow.Author.Needs.{needs}
+use mathlib.Core.Path.{refl}
 use Rattle.base.proofs.Bools.{denied, granted}
 use Rattle.run.proofs.Lapped.{lapped-refused, lapped-made}
 use Rattle.run.proofs.round.turn.Statement.{statement}
@@ -16,8 +17,7 @@ same-length c = search needs
 
 returns : tie.Need-returns
 returns c =
-    let r = c .refused .ensures in
-    lapped-refused _ _ _ _ _ _ _ (denied (c .before .before .ready-in .ensures) (c .before .if1 .taken)) (r .0) (r .1)
+    rw (c .refused .ensures) (lapped-refused _ _ _ _ _ _ _ (denied (c .before .before .ready-in .ensures) (c .before .if1 .taken)) refl tt)
 
 turn-on-requires : tie.Need-turn-on-requires
 turn-on-requires c κs =

@@ -26,7 +26,8 @@ returns : tie.Need-returns
 returns c =
     let k = c .before .before in
     let w = k .before .before .before .before in
-    rw (k .stores .ensures .0, k .stores .ensures .1, w .without .ensures, w .before .read-field .ensures, k .before .before .field-index .ensures) (refl, refl)
+    let fi = k .before .before in
+    rw (k .stores .ensures .0, k .stores .ensures .1, w .without .ensures, w .before .read-field .ensures, fi .field-index .ensures) (refl, refl)
 
 pub disown-spec : {M : Type 1} → statement M
 disown-spec =

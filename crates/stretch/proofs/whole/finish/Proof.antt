@@ -1,80 +1,64 @@
--- `stretch::whole::finish` meets its contract: its stores are those of `finish-turns`.
+-- `stretch::whole::finish` meets its contract: no turn where its word does not fit, else its stores are those of `finish-turns`.
 use borrow.Author.Needs.{needs}
+use Prim.Native.Nat.{_+_}
+use mathlib.Core.Path.{sym}
 use native.Mathlib.Omega.{arith}
+use borrow.Author.Tests.{eq-eqb}
+use Rattle.base.proofs.Bools.{granted}
 use Rattle.stretch.proofs.ByKind.{finish-turns}
+use Rattle.stretch.proofs.Fetching.{here-fetched}
+use Rattle.stretch.proofs.Counting.{made-none, made-stores}
 use Rattle.stretch.proofs.whole.finish.Statement.{statement}
 use Rattle.stretch.proofs.whole.finish.Tie as tie
 
-read-field-requires : tie.Need-read-field-requires
-read-field-requires c κs = search needs
+cast-finish-fits : tie.Need-cast-finish-fits
+cast-finish-fits c = search needs
 
-field-index-requires : tie.Need-field-index-requires
-field-index-requires c κs = search needs
+finish-fits-requires : tie.Need-finish-fits-requires
+finish-fits-requires c κs = search needs
 
-store-requires : tie.Need-store-requires
-store-requires c κs = search needs
+none-requires : tie.Need-none-requires
+none-requires c κs = search needs
 
-field-index-requires-2 : tie.Need-field-index-requires-2
-field-index-requires-2 c κs = search needs
+returns : tie.Need-returns
+returns c = rw (c .none .ensures) (made-none _ _ _ _ _ _ _, λ q. c .before .before .before .before .pre .0 .below)
 
-store-requires-2 : tie.Need-store-requires-2
-store-requires-2 c κs = search needs
+add-if2 : tie.Need-add-if2
+add-if2 c = search needs
 
-field-index-requires-3 : tie.Need-field-index-requires-3
-field-index-requires-3 c κs = search needs
+none-requires-2 : tie.Need-none-requires-2
+none-requires-2 c κs = search needs
 
-store-requires-3 : tie.Need-store-requires-3
-store-requires-3 c κs = search needs
+returns-2 : tie.Need-returns-2
+returns-2 c = rw (c .none2 .ensures) (made-none _ _ _ _ _ _ _, λ q. c .before .before .before .before .before .pre .0 .below)
 
-stores-requires : tie.Need-stores-requires
-stores-requires c κs = search needs
+close-requires : tie.Need-close-requires
+close-requires c κs = search needs
 
 same-length : tie.Need-same-length
 same-length c = search needs
 
-returns : tie.Need-returns
-returns c =
-    let c3 = c .before .before .before in
-    let i3 = c3 .before .before in
-    let c2 = i3 .before .before .before .before in
-    let i2 = c2 .before .before in
-    let c1 = i2 .before .before .before .before in
-    let i1 = c1 .before .before in
-    let number = i1 .before .before in
-    let s3 = c3 .store3 .ensures in
-    let s2 = c2 .store2 .ensures in
-    let s1 = c1 .store .ensures in (
-      record {
-        some = omega arith;
-        made = rw (
-          c .stores .ensures,
-          s3 .0,
-          s3 .1,
-          s2 .0,
-          s2 .1,
-          s1 .0,
-          s1 .1,
-          i3 .field-index3 .ensures,
-          i2 .field-index2 .ensures,
-          i1 .field-index .ensures,
-          number .read-field .ensures,
-        )
-            (finish-turns _ _ _ _ _ _ _ (number .before .before .before .pre .0));
-      },
-      omega arith,
-    )
+returns-3 : tie.Need-returns-3
+returns-3 c =
+    let k = c .before .before in
+    let S = c .before .before .before .before .before .before .before .before .before in
+    let place = eq-eqb (S .args .s + 1) (S .args .k) (sym (c .before .before .before .before .before .if2 .left)) in
+    let ff = c .before .before .before .before .before .before .before in
+    let i1 = c .before .before .before .before .before .before in
+    let f = here-fetched _ _ _ _ _ _ _ (S .pre .0) (granted (ff .finish-fits .ensures) (i1 .if1 .left)) place in
+    (made-stores 3 (λ y. rw (k .close .ensures .0, k .close .ensures .1) (finish-turns _ _ _ _ _ _ y f)) (omega arith), λ q. absurd (omega (arith, q)))
 
 pub finish-spec : {M : Type 1} → statement M
 finish-spec =
     tie.close
     (tie.spec
-    read-field-requires
-    field-index-requires
-    store-requires
-    field-index-requires-2
-    store-requires-2
-    field-index-requires-3
-    store-requires-3
-    stores-requires
+    cast-finish-fits
+    finish-fits-requires
+    none-requires
+    returns
+    add-if2
+    none-requires-2
+    returns-2
+    close-requires
     same-length
-    returns)
+    returns-3)

@@ -1,101 +1,93 @@
--- `stretch::whole::instructions` meets its contract: its loop keeps that the turns so far are turns one after another, and goes on by the next instruction's.
-use mathlib.Core.Path.{_≡_, refl, sym, _∙_}
-use mathlib.Core.Logic.{⊎-elim}
-use Prim.Native.Nat.{_+_, _-_, _≤_}
+-- `stretch::whole::instructions` meets its contract: none where t is amid an instruction, the count is no section's, or step s is not in it.
+use borrow.Author.Needs.{needs}
+use mathlib.Core.Path.{sym}
 use native.Mathlib.Omega.{arith}
-use borrow.Author.Tests.{not-true, not-false}
-use Rattle.image.specs.Image.{workers}
-use Rattle.image.proofs.Header.{Sized, sized-inside}
-use Rattle.tally.specs.Tally.{RoomFor}
-use Rattle.stretch.specs.inner.Single.{single, Turns, none}
-use Rattle.stretch.proofs.Alone.{room-less}
-use Rattle.stretch.proofs.Sequence.{turns-append, turns-sized, turns-room}
+use Rattle.stretch.specs.inner.Single.{none}
+use Rattle.stretch.proofs.Counting.{turns-counted, no-turns}
 use Rattle.stretch.proofs.whole.instructions.Statement.{statement}
 use Rattle.stretch.proofs.whole.instructions.Tie as tie
 
-abbrev Inv-loop : tie.InvT-loop
-Inv-loop image₀ d s own rounds held left₀ step₀ turn₀ locks₀ count₀ rest₀ image left step turn locks count rest =
-    (rest ≤ rounds) × Sized own (workers image₀) image × RoomFor rest count
-    × Turns own d (rounds - rest) (single image₀ left₀ s 0 held count₀) (single image left step turn locks count)
+read-field-requires : tie.Need-read-field-requires
+read-field-requires c κs = search needs
 
-abbrev μ-loop : tie.MeasureT-loop
-μ-loop image₀ d s own rounds held left₀ step₀ turn₀ locks₀ count₀ rest₀ image left step turn locks count rest = rest
+no-passes-requires : tie.Need-no-passes-requires
+no-passes-requires c κs = search needs
 
-loop-holds : tie.Need-loop-holds Inv-loop μ-loop
-loop-holds c =
-    let S = c .before in
-    let e : S .args .rounds - S .args .rounds ≡ 0 = omega arith in
-    (omega arith, record { size = S .pre .0 .whole; has = refl }, S .pre .1, rw e (none _))
+none-requires : tie.Need-none-requires
+none-requires c κs = search needs
 
-instruction-requires : tie.Need-instruction-requires Inv-loop μ-loop
-instruction-requires c κs =
-    let L = c .before .before .before .before in
-    let i = L .before .before .pre .0 in
-    let l = L .loop .inv in
-    (sized-inside _ _ _ _ (i .few) (l .1) (i .most) (i .below), room-less 6 _ (L .loop .count) (omega (arith, c .before .before .if1 .left)) (l .2))
+same-length : tie.Need-same-length
+same-length c = search needs
 
-sub-rest : tie.Need-sub-rest Inv-loop μ-loop
-sub-rest c =
-    let K = c .before .before .before .before .before .before .before in
-    omega (arith, K .instruction .ensures .1, K .before .before .before .if1 .left)
+returns : tie.Need-returns
+returns c = rw (c .none .ensures, c .before .no-passes .ensures) (λ y. turns-counted (sym (no-turns y)) (none _), (omega arith, omega arith))
 
-loop-less : tie.Need-loop-less Inv-loop μ-loop
-loop-less c =
-    let K = c .before .before .before .before .before .before .before in
-    let some = K .instruction .ensures .0 .stretch (not-false _ (c .before .before .before .if2 .left)) .some in
-    omega (arith, some, K .instruction .ensures .1, K .before .before .before .if1 .left)
+no-passes-requires-2 : tie.Need-no-passes-requires-2
+no-passes-requires-2 c κs = search needs
 
-loop-again : tie.Need-loop-again Inv-loop μ-loop
-loop-again c =
-    let K = c .before .before .before .before .before .before .before in
-    let L = K .before .before .before .before .before in
-    let l = L .loop .inv in
-    let x = K .instruction .ensures .0 .stretch (not-false _ (c .before .before .before .if2 .left)) in
-    let few : K .instruction .result .stretch .turns ≤ L .loop .rest = omega (arith, K .instruction .ensures .1, K .before .before .before .if1 .left) in
-    let rounds = L .before .before .args .rounds in
-    let q : rounds - L .loop .rest + K .instruction .result .stretch .turns ≡ rounds - (L .loop .rest - K .instruction .result .stretch .turns) =
-    omega (arith, few, l .0) in (
-      omega (arith, l .0),
-      turns-sized _ _ _ (x .made) (l .1),
-      turns-room _ _ (x .made) _ few (l .2),
-      rw q at (turns-append _ _ (rw (K .before .before .before .before .loop-test .left) at (l .3)) (x .made)),
-    )
+none-requires-2 : tie.Need-none-requires-2
+none-requires-2 c κs = search needs
 
-sub-t20 : tie.Need-sub-t20 Inv-loop μ-loop
-sub-t20 c = c .before .loop .inv .0
+same-length-2 : tie.Need-same-length-2
+same-length-2 c = search needs
 
-same-length : tie.Need-same-length Inv-loop μ-loop
-same-length c =
-    let L = c .before in
-    let same = L .loop .inv .1 .size ∙ sym (L .before .before .pre .0 .whole) in
-    ⊎-elim (λ w. rw (w .1) same)
-    (⊎-elim (λ w. rw (w .2) same) (λ w. rw (w .9, w .4 .ensures .0 .stays (not-true _ (w .8 .taken)) .0) same))
-    (c .loop-test .came)
+returns-2 : tie.Need-returns-2
+returns-2 c = rw (c .none2 .ensures, c .before .no-passes2 .ensures) (λ y. turns-counted (sym (no-turns y)) (none _), (omega arith, omega arith))
 
-returns : tie.Need-returns Inv-loop μ-loop
-returns c =
-    let l = c .before .loop .inv in (
-      ⊎-elim (λ w. rw (w .1, w .2) (l .3))
-          (⊎-elim
-          (λ w. rw (w .2, w .3) (l .3))
-          (λ w.
-          let stays = w .4 .ensures .0 .stays (not-true _ (w .8 .taken)) in
-          rw (w .9, w .10, stays .0, stays .1) (l .3)))
-          (c .loop-test .came),
-      omega arith,
-    )
+no-passes-requires-3 : tie.Need-no-passes-requires-3
+no-passes-requires-3 c κs = search needs
+
+none-requires-3 : tie.Need-none-requires-3
+none-requires-3 c κs = search needs
+
+same-length-3 : tie.Need-same-length-3
+same-length-3 c = search needs
+
+returns-3 : tie.Need-returns-3
+returns-3 c = rw (c .none3 .ensures, c .before .no-passes3 .ensures) (λ y. turns-counted (sym (no-turns y)) (none _), (omega arith, omega arith))
+
+no-passes-requires-4 : tie.Need-no-passes-requires-4
+no-passes-requires-4 c κs = search needs
+
+none-requires-4 : tie.Need-none-requires-4
+none-requires-4 c κs = search needs
+
+same-length-4 : tie.Need-same-length-4
+same-length-4 c = search needs
+
+returns-4 : tie.Need-returns-4
+returns-4 c = rw (c .none4 .ensures, c .before .no-passes4 .ensures) (λ y. turns-counted (sym (no-turns y)) (none _), (omega arith, omega arith))
+
+instructions-of-requires : tie.Need-instructions-of-requires
+instructions-of-requires c κs = search needs
+
+same-length-5 : tie.Need-same-length-5
+same-length-5 c = search needs
+
+returns-5 : tie.Need-returns-5
+returns-5 c = rw (c .before .before .before .before .before .before .before .before .if1 .left) (c .before .before .instructions-of .ensures)
 
 pub instructions-spec : {M : Type 1} → statement M
 instructions-spec =
     tie.close
     (tie.spec
-    Inv-loop
-    μ-loop
-    loop-holds
-    instruction-requires
-    sub-rest
-    loop-less
-    loop-again
-    sub-t20
+    read-field-requires
+    no-passes-requires
+    none-requires
     same-length
-    returns)
+    returns
+    no-passes-requires-2
+    none-requires-2
+    same-length-2
+    returns-2
+    no-passes-requires-3
+    none-requires-3
+    same-length-3
+    returns-3
+    no-passes-requires-4
+    none-requires-4
+    same-length-4
+    returns-4
+    instructions-of-requires
+    same-length-5
+    returns-5)
