@@ -8,9 +8,7 @@ use Rattle.base.proofs.Counting.{left-step, left-none}
 use Rattle.image.specs.Image.{workers, headerOk}
 use Rattle.tally.specs.declared.Tally.{Tally}
 use Rattle.tally.specs.Tally.{none, Room}
-use Rattle.log.specs.declared.Passing.the-variants.{Jump, AlreadyFree, Others}
 use Rattle.turn.specs.declared.Answer.{Answer}
-use Rattle.turn.specs.declared.Answer.the-variants.{Stored, Passed, Waiting, Idle, Refused}
 use Rattle.working.specs.declared.Refusal.{Refusal}
 use Rattle.working.specs.declared.Refusal.the-variants.{Image as ImageRefused}
 use Rattle.run.specs.declared.End.the-variants.{AllIdle, Spent, Halted}
@@ -19,6 +17,7 @@ use Rattle.turn.specs.Call.{isRefused}
 use Rattle.working.specs.World.{World}
 use Rattle.turn.specs.Call.{answerOf, leaves, outcomeAt}
 use Rattle.turn.specs.Counted.{counted}
+use Rattle.turn.proofs.Counting.{counted-most}
 use Rattle.run.specs.Run.{anyOpen, Counting, counting, Course, ran, Sweep, through, halted, turned, swept, sweep, afterSweep, roundsOf, runOf}
 
 -- ---- a turn by its answer
@@ -39,14 +38,9 @@ most-more k m b h = record { turns = omega arith; waits = omega arith; stores = 
 
 -- a count adds at most one to each
 pub most-counted : (k : ℕ) (a : Answer) {t : Tally} → Most k t → Most (k + 1) (counted a t)
-most-counted k (Stored i) b = record { turns = omega arith; waits = omega arith; stores = omega arith; free = omega arith; others = omega arith }
-most-counted k (Passed Jump) b = record { turns = omega arith; waits = omega arith; stores = omega arith; free = omega arith; others = omega arith }
-most-counted k (Passed AlreadyFree) b =
-    record { turns = omega arith; waits = omega arith; stores = omega arith; free = omega arith; others = omega arith }
-most-counted k (Passed Others) b = record { turns = omega arith; waits = omega arith; stores = omega arith; free = omega arith; others = omega arith }
-most-counted k (Waiting l) b = record { turns = omega arith; waits = omega arith; stores = omega arith; free = omega arith; others = omega arith }
-most-counted k Idle b = record { turns = omega arith; waits = omega arith; stores = omega arith; free = omega arith; others = omega arith }
-most-counted k (Refused r) b = record { turns = omega arith; waits = omega arith; stores = omega arith; free = omega arith; others = omega arith }
+most-counted k a {t} b =
+    let m = counted-most a t in
+    record { turns = omega (arith, m .0); waits = omega (arith, m .1); stores = omega (arith, m .2); free = omega (arith, m .3); others = omega (arith, m .4) }
 
 pub most-room : (k : ℕ) {t : Tally} → Most k t → k + 1 < 2 ^ 64 → Room t
 most-room k b h = (omega arith, omega arith, omega arith, omega arith, omega arith)

@@ -11,15 +11,15 @@ use Rattle.image.proofs.Header.{Sized}
 use Rattle.image.proofs.Stores.{sized-store}
 use Rattle.tally.specs.declared.Tally.{Tally}
 use Rattle.tally.specs.Tally.{RoomFor}
-use Rattle.log.specs.declared.Passing.the-variants.{Jump, AlreadyFree, Others}
 use Rattle.working.specs.Cursor.{on}
 use Rattle.plan.specs.Turn.{Outcome, stored, passed, waiting, resting, refused, turnAt}
 use Rattle.plan.proofs.Planned.{ready-says}
 use Rattle.plan.proofs.Quiet.{at-other}
 use Rattle.plan.proofs.Going.{Goes, stores, ends, passes, waits, goes-ready}
 use Rattle.turn.specs.declared.Answer.{Answer}
-use Rattle.turn.specs.declared.Answer.the-variants.{Stored, Passed, Waiting, Idle, Refused}
+use Rattle.turn.specs.declared.Answer.the-variants.{Stored, Passed, Waiting, Idle}
 use Rattle.turn.specs.Counted.{counted}
+use Rattle.turn.proofs.Counting.{counted-most}
 use Rattle.stretch.specs.inner.Single.{Single, single, after, Turns, none, then}
 
 module _ (n d : ℕ) where
@@ -69,13 +69,9 @@ module _ (D n d : ℕ) (h : d < D) where
 
 -- room for one turn fewer
 room-counted : (x : Answer) (r : ℕ) (t : Tally) → 1 ≤ r → RoomFor r t → RoomFor (r - 1) (counted x t)
-room-counted (Stored i) r t l h = (omega (arith, h .0), omega (arith, h .1), omega (arith, h .2), omega (arith, h .3), omega (arith, h .4))
-room-counted (Passed Jump) r t l h = (omega (arith, h .0), omega (arith, h .1), omega (arith, h .2), omega (arith, h .3), omega (arith, h .4))
-room-counted (Passed AlreadyFree) r t l h = (omega (arith, h .0), omega (arith, h .1), omega (arith, h .2), omega (arith, h .3), omega (arith, h .4))
-room-counted (Passed Others) r t l h = (omega (arith, h .0), omega (arith, h .1), omega (arith, h .2), omega (arith, h .3), omega (arith, h .4))
-room-counted (Waiting b) r t l h = (omega (arith, h .0), omega (arith, h .1), omega (arith, h .2), omega (arith, h .3), omega (arith, h .4))
-room-counted Idle r t l h = (omega (arith, h .0), omega (arith, h .1), omega (arith, h .2), omega (arith, h .3), omega (arith, h .4))
-room-counted (Refused q) r t l h = (omega (arith, h .0), omega (arith, h .1), omega (arith, h .2), omega (arith, h .3), omega (arith, h .4))
+room-counted x r t l h =
+    let m = counted-most x t in
+    (omega (arith, h .0, m .0), omega (arith, h .1, m .1), omega (arith, h .2, m .2), omega (arith, h .3, m .3), omega (arith, h .4, m .4))
 
 pub turns-room : (n d : ℕ) {k : ℕ} {a b : Single} → Turns n d k a b → (r : ℕ) → k ≤ r → RoomFor r (a .tally) → RoomFor (r - k) (b .tally)
 turns-room n d (none a) r l h = let e : r - 0 ≡ r = omega arith in rw e h

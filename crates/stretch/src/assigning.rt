@@ -26,7 +26,7 @@ struct Value {
 
 // They are not.
 fn unfit() -> Value
-    ensures { λ r. ⌜ r .fits ≡ false ⌝ }
+    ensures { λ r. ⌜ r ≡ record { fits = false; word = 0 } ⌝ }
 {
     Value {
         fits: false,

@@ -1,3 +1,4 @@
 pub mod Turns
 pub mod Holding
 pub mod Ready
+pub mod Counting

@@ -1,12 +1,16 @@
 -- `stretch::assigning::value_of` meets its contract: an arm for each expression, whose ranges are tested before its words are read.
 use borrow.Author.Needs.{needs}
-use mathlib.Core.Path.{sym, _∙_}
-use mathlib.Core.Bool.{true≢false}
+use mathlib.Core.Path.{_≡_, ap, sym, _∙_}
+use mathlib.Core.Bool.{false, true≢false}
 use native.Mathlib.Omega.{arith}
 use Rattle.base.proofs.Bools.{denied, granted}
 use Rattle.code.specs.Op.{eval}
+use Rattle.stretch.specs.declared.assigning.Value.{Value}
 use Rattle.stretch.proofs.assigning.value_of.Statement.{statement}
 use Rattle.stretch.proofs.assigning.value_of.Tie as tie
+
+unfit-says : {v : Value} → v ≡ record { fits = false; word = 0 } → v .fits ≡ false
+unfit-says e = ap (λ v. v .fits) e
 
 enum-known-e : tie.Need-enum-known-e
 enum-known-e c = search needs
@@ -24,8 +28,8 @@ returns : tie.Need-returns
 returns c =
     let e' = c .before .before .before .before in
     let lf = c .before .before in (
-      rw (e' .e .given .1) (c .unfit .ensures ∙ sym (denied (lf .literal-fits .ensures 0 0) (c .before .if1 .taken))),
-      λ q. absurd (true≢false (sym q ∙ c .unfit .ensures)),
+      rw (e' .e .given .1) (unfit-says (c .unfit .ensures) ∙ sym (denied (lf .literal-fits .ensures 0 0) (c .before .if1 .taken))),
+      λ q. absurd (true≢false (sym q ∙ unfit-says (c .unfit .ensures))),
     )
 
 mul-t18 : tie.Need-mul-t18
@@ -56,8 +60,8 @@ returns-2 : tie.Need-returns-2
 returns-2 c =
     let e2 = c .before .before .before .before in
     let sf = c .before .before in (
-      rw (e2 .e2 .given .1) (c .unfit2 .ensures ∙ sym (denied (sf .sum-fits .ensures 0 0) (c .before .if2 .taken))),
-      λ q. absurd (true≢false (sym q ∙ c .unfit2 .ensures)),
+      rw (e2 .e2 .given .1) (unfit-says (c .unfit2 .ensures) ∙ sym (denied (sf .sum-fits .ensures 0 0) (c .before .if2 .taken))),
+      λ q. absurd (true≢false (sym q ∙ unfit-says (c .unfit2 .ensures))),
     )
 
 of-two-requires : tie.Need-of-two-requires
@@ -82,8 +86,8 @@ returns-3 : tie.Need-returns-3
 returns-3 c =
     let e3 = c .before .before .before .before in
     let df = c .before .before in (
-      rw (e3 .e3 .given .1) (c .unfit3 .ensures ∙ sym (denied (df .difference-fits .ensures 0 0) (c .before .if3 .taken))),
-      λ q. absurd (true≢false (sym q ∙ c .unfit3 .ensures)),
+      rw (e3 .e3 .given .1) (unfit-says (c .unfit3 .ensures) ∙ sym (denied (df .difference-fits .ensures 0 0) (c .before .if3 .taken))),
+      λ q. absurd (true≢false (sym q ∙ unfit-says (c .unfit3 .ensures))),
     )
 
 of-two-requires-2 : tie.Need-of-two-requires-2
@@ -108,8 +112,8 @@ returns-4 : tie.Need-returns-4
 returns-4 c =
     let e4 = c .before .before .before .before in
     let lf = c .before .before in (
-      rw (e4 .e4 .given .1) (c .unfit4 .ensures ∙ sym (denied (lf .less-fits .ensures 0 0) (c .before .if4 .taken))),
-      λ q. absurd (true≢false (sym q ∙ c .unfit4 .ensures)),
+      rw (e4 .e4 .given .1) (unfit-says (c .unfit4 .ensures) ∙ sym (denied (lf .less-fits .ensures 0 0) (c .before .if4 .taken))),
+      λ q. absurd (true≢false (sym q ∙ unfit-says (c .unfit4 .ensures))),
     )
 
 of-two-requires-3 : tie.Need-of-two-requires-3
