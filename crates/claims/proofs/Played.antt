@@ -61,7 +61,7 @@ module _ (mark n D : ℕ) (cells : List ℕ) where
   unfolding outcome
   outcome-above w d r l = rw (r .header, r .many, l)
 
-  turn-whole : (w : Traced) (d : ℕ) → Running mark n D cells w → 0 < w .world .left → Running mark n D cells (turnBy mark n w d (outcome mark n (w .world) d))
+  pub turn-whole : (w : Traced) (d : ℕ) → Running mark n D cells w → 0 < w .world .left → Running mark n D cells (turnBy mark n w d (outcome mark n (w .world) d))
   turn-whole w d r l = by (ltb d D) refl
     where
       by : (b : Bool) → ltb d D ≡ b → Running mark n D cells (turnBy mark n w d (outcome mark n (w .world) d))

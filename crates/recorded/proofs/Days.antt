@@ -38,7 +38,7 @@ use Rattle.recorded.proofs.Machine.{moves-machine, moves-legal, moves-u
 -- ---- a line
 
 -- where the header is right
-later-line : (m : Image) (c : Cursors) (l : List ℕ) → headerOk mark ownWords m ≡ true → wholeLine m c l ≡ lineWhole m c l (frameOf l)
+pub later-line : (m : Image) (c : Cursors) (l : List ℕ) → headerOk mark ownWords m ≡ true → wholeLine m c l ≡ lineWhole m c l (frameOf l)
 unfolding wholeLine
 later-line m c l h =
     let s = header-true mark ownWords m h .size in
@@ -60,7 +60,7 @@ Goes ls =
     → Ends ts (linesWhole ls (w .world .image) (w .world .cursors) .output) (play mark ownWords (movesOf ls) w)
 
 module _ (w : Traced) (ts : List Took) (g : Good ts w) where
-  frame-played : (l : List ℕ) (f : Frame) → timesIn f ≤ 65535
+  pub frame-played : (l : List ℕ) (f : Frame) → timesIn f ≤ 65535
       → Ends ts (lineWhole (w .world .image) (w .world .cursors) l f .output) (play mark ownWords (frameMoves l f) w)
   unfolding play
   frame-played l (Submit d k) h = submit-played w ts l d k g

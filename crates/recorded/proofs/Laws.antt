@@ -80,7 +80,7 @@ every-turn-summed bytes =
     record {
       each = λ d l w m.
           let z : 0 + d ≡ d = omega arith in
-          ap₂ _+_ (rw z at (number-count waitOf ts 8 0 d l w)) (rw z at (number-count moveOf ts 8 0 d l m)) ∙ private-open d ts;
+          ap₂ _+_ (rw z at (number-count waitOf ts 8 0 d l (rw z w))) (rw z at (number-count moveOf ts 8 0 d l (rw z m))) ∙ private-open d ts;
       none-past = private-none-past ts (day-kept bytes);
       none-refused = private-none-refused ts (day-kept bytes);
     }
@@ -134,4 +134,5 @@ unfolding WaitsAddUp sumsOf
 waits-add-up bytes l w =
     let ts = dayTurns bytes in
     let k = day-kept bytes in
-    total-counts waitOn ts 64 0 l ∙ private-locks ts k ∙ sym (private-waited ts k) ∙ sym (total-counts waitOf ts 8 0 w)
+    total-counts waitOn ts 64 0 (λ b z i. l b (omega arith)) ∙ private-locks ts k ∙ sym (private-waited ts k)
+    ∙ sym (total-counts waitOf ts 8 0 (λ d z i. w d (omega arith)))

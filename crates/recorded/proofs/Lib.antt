@@ -9,3 +9,4 @@ pub mod Rounds
 pub mod Others
 pub mod Machine
 pub mod Days
+pub mod Unhalted

@@ -68,7 +68,7 @@ one-machine : (c : Call) → callable c ≡ true → machine (whole c ∷ []) �
 unfolding machine
 one-machine c h = rw h
 
-frame-machine : (l : List ℕ) → machine (frameMoves l (frameOf l)) ≡ true
+pub frame-machine : (l : List ℕ) → machine (frameMoves l (frameOf l)) ≡ true
 unfolding machine
 frame-machine l =
     by-frame (λ f. machine (frameMoves l f) ≡ true) l refl
@@ -87,7 +87,7 @@ unfolding endsCut
 turns-uncut d zero = refl
 turns-uncut d (suc k) = turns-uncut d k
 
-frame-legal : (l : List ℕ) (f : Frame) → legal false (frameMoves l f) ≡ true
+pub frame-legal : (l : List ℕ) (f : Frame) → legal false (frameMoves l f) ≡ true
 unfolding legal
 frame-legal l (Submit d k) = refl
 frame-legal l (Turns d k) = turns-legal d k
@@ -95,7 +95,7 @@ frame-legal l Recover = refl
 frame-legal l (Rounds r) = refl
 frame-legal l Malformed = refl
 
-frame-uncut : (l : List ℕ) (f : Frame) → endsCut false (frameMoves l f) ≡ false
+pub frame-uncut : (l : List ℕ) (f : Frame) → endsCut false (frameMoves l f) ≡ false
 unfolding endsCut
 frame-uncut l (Submit d k) = refl
 frame-uncut l (Turns d k) = turns-uncut d k

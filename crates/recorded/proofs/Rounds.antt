@@ -29,7 +29,7 @@ turn-left w d (waiting b) = omega arith
 turn-left w d resting = omega arith
 turn-left w d (refused r) = omega arith
 
-turned-left : (w : Traced) (d : ℕ) → w .world .left ≤ turnedAt mark ownWords w d .world .left + 1
+pub turned-left : (w : Traced) (d : ℕ) → w .world .left ≤ turnedAt mark ownWords w d .world .left + 1
 unfolding turnedAt
 turned-left w d = turn-left w d (outcomeAt ownWords (w .world) d)
 

@@ -1,4 +1,4 @@
--- Numbers of which none has stopped at the largest: each is its count (`number-count`), and they add up to the counts (`total-counts`). A turn that is in the
+-- Numbers whose counts have not passed the largest: each is its count (`number-count`), and they add up to the counts (`total-counts`). A turn that is in the
 -- count of precisely one of them adds one to all (`one-more`), a turn that is in none adds nothing (`none-more`).
 use Prim.Native.Nat.{ℕ, zero, suc, _+_, _<_, _≤_, min}
 use mathlib.Core.Path.{_≡_, refl, _∙_}
@@ -15,7 +15,7 @@ use Rattle.recorded.specs.Laws.{total}
 
 -- ---- one number
 
-private-below : (x m : ℕ) → min x m ≢ m → min x m ≡ x
+private-below : (x m : ℕ) → x ≤ m → min x m ≡ x
 private-below x m h = omega arith
 
 module _ (P : ℕ → Took → Bool) (ts : List Took) where
@@ -25,10 +25,8 @@ module _ (P : ℕ → Took → Bool) (ts : List Took) where
   private-number (suc n) s zero h = let z : s + 0 ≡ s = omega arith in rw z
   private-number (suc n) s (suc i) h = let z : s + suc i ≡ s + 1 + i = omega arith in rw z (private-number n (s + 1) i (omega arith))
 
-  pub number-count : (n s i : ℕ) → i < n → getD (numbers P ts s n) i 0 ≢ top → getD (numbers P ts s n) i 0 ≡ count (P (s + i)) ts
-  number-count n s i h k =
-      let e = private-number n s i h in
-      e ∙ private-below (count (P (s + i)) ts) top (λ z. k (e ∙ z))
+  pub number-count : (n s i : ℕ) → i < n → count (P (s + i)) ts ≤ top → getD (numbers P ts s n) i 0 ≡ count (P (s + i)) ts
+  number-count n s i h k = private-number n s i h ∙ private-below (count (P (s + i)) ts) top k
 
 -- ---- all of them
 
@@ -37,12 +35,12 @@ unfoldable pub counts : (ℕ → Took → Bool) → List Took → ℕ → ℕ �
 counts P ts i zero = 0
 counts P ts i (suc k) = count (P i) ts + counts P ts (i + 1) k
 
-pub total-counts : (P : ℕ → Took → Bool) (ts : List Took) (n s : ℕ) → ((i : ℕ) → i < n → getD (numbers P ts s n) i 0 ≢ top)
+pub total-counts : (P : ℕ → Took → Bool) (ts : List Took) (n s : ℕ) → ((i : ℕ) → s ≤ i → i < s + n → count (P i) ts ≤ top)
     → total (numbers P ts s n) ≡ counts P ts s n
 unfolding numbers counts
 total-counts P ts zero s h = refl
 total-counts P ts (suc n) s h =
-    rw (private-below (count (P s) ts) top (h 0 (omega arith)), total-counts P ts n (s + 1) (λ i l. h (suc i) (omega arith)))
+    rw (private-below (count (P s) ts) top (h s (omega arith) (omega arith)), total-counts P ts n (s + 1) (λ i l m. h i (omega arith) (omega arith)))
 
 module _ (P : ℕ → Took → Bool) (t : Took) (ts : List Took) where
   pub none-more : (n s : ℕ) → ((j : ℕ) → s ≤ j → P j t ≡ false) → counts P (t ∷ ts) s n ≡ counts P ts s n

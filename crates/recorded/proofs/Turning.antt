@@ -50,7 +50,7 @@ module _ (w : Traced) (d : ℕ) (some-left : 0 < w .world .left) where
   turn-good : (ts : List Took) (o : Outcome) → Good ts w → Good (ts ++ (took d (answerOf ownWords o) ∷ [])) (turnBy mark ownWords w d o)
   turn-good ts o g = record { header = turn-header o (g .header); told = told-turn w d ts some-left (g .told) o }
 
-  same-image : (o : Outcome) → leaves ownWords (uncut (w .world .image) (w .world .cursors)) d o .image ≡ leaves ownWords (w .world) d o .image
+  pub same-image : (o : Outcome) → leaves ownWords (uncut (w .world .image) (w .world .cursors)) d o .image ≡ leaves ownWords (w .world) d o .image
   same-image (stored p v c) =
       put-lots 18446744073709551615 (w .world .image) (indexOf ownWords p) v (omega arith)
       ∙ sym (put-lots (w .world .left) (w .world .image) (indexOf ownWords p) v some-left)
@@ -59,7 +59,7 @@ module _ (w : Traced) (d : ℕ) (some-left : 0 < w .world .left) where
   same-image resting = refl
   same-image (refused r) = refl
 
-  same-cursors : (o : Outcome) → leaves ownWords (uncut (w .world .image) (w .world .cursors)) d o .cursors ≡ leaves ownWords (w .world) d o .cursors
+  pub same-cursors : (o : Outcome) → leaves ownWords (uncut (w .world .image) (w .world .cursors)) d o .cursors ≡ leaves ownWords (w .world) d o .cursors
   same-cursors (stored p v c) = refl
   same-cursors (passed why c) = refl
   same-cursors (waiting b) = refl

@@ -1,6 +1,7 @@
 -- A day is a list of calls as in demand 3, so that every claim over such lists holds of it; and what a day then prints and counts.
 use Prim.Native.Nat.{ℕ, suc, _≤_}
 use mathlib.Core.Path.{_≡_}
+use mathlib.Core.Logic.{_≢_}
 use mathlib.Core.List.{List, [], _∷_}
 use mathlib.Core.Bool.{Bool, true, false, cond}
 use lib.Dec.{eqb}
@@ -16,6 +17,9 @@ use Rattle.buffers.specs.Input.{linesOf}
 use Rattle.claims.specs.Calls.{Traced, legal, endsCut, machine}
 use Rattle.claims.specs.Claims.{after}
 use Rattle.claims.specs.Events.{Event, taken, moved, waited, recorded, ended, lost}
+use Rattle.told.specs.Turns.{All}
+use Rattle.frames.specs.declared.Printed.{Printed}
+use Rattle.frames.specs.Print.{refusal}
 use Rattle.lines.specs.Whole.{Output}
 use Rattle.stages.specs.Lines.{linesWhole}
 use Rattle.sums.specs.Sums.{waitOn, waitOf, moveOf, count}
@@ -89,3 +93,15 @@ DaysAreLists = (D : ℕ) → 1 ≤ D → D ≤ 8 → (ls : List (List ℕ)) → 
 -- so a recovery behind any lines is accepted: no 03 prints a refusal
 unfoldable pub RecoveriesAccepted : Type 0
 RecoveriesAccepted = (D : ℕ) → 1 ≤ D → D ≤ 8 → (ls : List (List ℕ)) → answerOf (recovery mark ownWords (played D ls .image)) ≡ Done
+
+-- the cause of a turn that is refused where its worker stands, or for its count
+abbrev pub halting : ℕ
+halting = 11
+
+-- what is printed is no refusal with it
+abbrev pub Clear : Printed → Type 0
+Clear p = p ≢ refusal halting
+
+-- and no turn of a worker of the image is refused: no line of any bytes prints ffff and 11
+unfoldable pub NoneHalted : Type 0
+NoneHalted = (bytes : List ℕ) → All Clear (dayReading bytes .output .lines)

@@ -13,6 +13,10 @@ use Rattle.told.specs.Tallies.{RunsTallied}
 use Rattle.told.specs.Held.{LocksCounted}
 use Rattle.told.specs.Enough.{EnoughIsWhole}
 use Rattle.told.specs.Turns.{TurnsExact, UncutSpanned}
+use Rattle.told.specs.Spanned.{EverySpanned, EachFated}
+use Rattle.told.specs.Treads.{StepsExact, LastTurns}
+use Rattle.told.specs.Tied.{FollowedAlways, ReadingsTied, BegunFifth}
+use Rattle.told.specs.Prefixes.{CutsArePrefixes, FormatCutsArePrefixes}
 use Rattle.told.specs.Between.{PathsBetween, TurnsBetween, LeftTold}
 use Rattle.told.specs.Changing.{ChangesOver, CountsAnew, Anew, RestRecovered, LoggedStored}
 use Rattle.intake.specs.Split.{SubmitsSplit}
@@ -28,7 +32,12 @@ use Rattle.told.proofs.Tallies.{runs-tallied}
 use Rattle.told.proofs.Held as held
 use Rattle.told.proofs.Enough.{enough-is-whole}
 use Rattle.told.proofs.Turns as turns
-use Rattle.told.proofs.Complete as complete
+use Rattle.told.proofs.Spanned as spanned
+use Rattle.told.proofs.Fated as fated
+use Rattle.told.proofs.Treads as treads
+use Rattle.told.proofs.LastTurns as lasts
+use Rattle.told.proofs.Tied as tied
+use Rattle.told.proofs.Prefixes as prefixes
 use Rattle.told.proofs.Between as between
 use Rattle.told.proofs.Left as left
 use Rattle.told.proofs.Changing as changing
@@ -88,6 +97,25 @@ locks-counted = held.locks-counted mark ownWords (omega arith) (omega arith)
 pub enough-stores : EnoughIsWhole mark ownWords
 enough-stores = enough-is-whole mark ownWords (omega arith) (omega arith)
 
+-- a call given k leaves the image with the first k of its stores made, and so does a formatting
+pub cuts-prefixes : CutsArePrefixes mark ownWords
+cuts-prefixes = prefixes.cuts-are-prefixes mark ownWords (omega arith) (omega arith)
+
+pub format-prefixes : FormatCutsArePrefixes mark ownWords
+format-prefixes = prefixes.format-cuts-are-prefixes mark ownWords
+
+-- the reference machine, fed the sections begun, follows the order so far, and each pc says where it stands
+pub machine-follows : FollowedAlways mark ownWords
+machine-follows = tied.followed-always mark ownWords (omega arith) (omega arith)
+
+-- a worker's reading of the events is that of its record
+pub readings-tied : ReadingsTied mark ownWords
+readings-tied = tied.readings-tied mark ownWords (omega arith) (omega arith)
+
+-- a section is begun with the fifth store that its turns make
+pub begun-fifth : BegunFifth mark ownWords
+begun-fifth = tied.begun-fifth mark ownWords (omega arith) (omega arith)
+
 -- ---- turns to the end
 
 -- a section that is over took just the turns of its path on the reference machine; resumed, those from its target store on
@@ -96,7 +124,23 @@ turns-exact = turns.turns-exact mark ownWords (omega arith) (omega arith)
 
 -- with no cut and no recovery, and the worker idle, these are all sections taken from it
 pub uncut-spanned : UncutSpanned mark ownWords
-uncut-spanned = complete.uncut-spanned mark ownWords (omega arith) (omega arith)
+uncut-spanned = spanned.uncut-spanned mark ownWords (omega arith) (omega arith)
+
+-- and where no cut and no recovery comes behind a moment, all that was under way then or taken since
+pub every-spanned : EverySpanned mark ownWords
+every-spanned = spanned.every-spanned mark ownWords (omega arith) (omega arith)
+
+-- whatever is cut, each section taken is over, withdrawn, closed by a loss, or under way
+pub each-fated : EachFated mark ownWords
+each-fated = fated.each-fated mark ownWords (omega arith) (omega arith)
+
+-- the steps that a section's turns named are those of its path, one by one
+pub steps-exact : StepsExact mark ownWords
+steps-exact = treads.steps-exact mark ownWords (omega arith) (omega arith)
+
+-- and the last is the finish's third
+pub last-turns : LastTurns mark ownWords
+last-turns = lasts.last-turns mark ownWords (omega arith) (omega arith)
 
 -- whatever path the reference machine takes lies between the fewest turns and the most
 pub paths-between : PathsBetween mark ownWords

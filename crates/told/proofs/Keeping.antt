@@ -90,7 +90,7 @@ module _ (mark n D : ℕ) (cells : List ℕ) (R C : Traced → Type 0) (A : Move
         by false h = rw (outcome-above mark n D cells w d (r .reached) h) x
 
     -- running with R, or still with C
-    abbrev Caught : Traced → Type 0
+    abbrev pub Caught : Traced → Type 0
     Caught w = (Running mark n D cells w × R w) ⊎ ((w .world .left ≡ 0) × C w)
 
     caught-worth : (w : Traced) → Caught w → C w
@@ -107,7 +107,7 @@ module _ (mark n D : ℕ) (cells : List ℕ) (R C : Traced → Type 0) (A : Move
             inr (still-none mark n w d (nextTurn n w d) z, K .still w d (nextTurn n w d) z (K .worth w x))
     caught-turn w d l (inr (z, c)) = inr (still-none mark n w d (nextTurn n w d) z, K .still w d (nextTurn n w d) z c)
 
-    caught-turned : (w : Traced) (d : ℕ) → d < D → Caught w → Caught (turnedAt mark n w d)
+    pub caught-turned : (w : Traced) (d : ℕ) → d < D → Caught w → Caught (turnedAt mark n w d)
     unfolding turnedAt outcomeAt
     caught-turned w d l x = caught-turn w d l x
 

@@ -18,17 +18,28 @@ pub mod Reports
 -- How many locks are held, by the mask alone.
 pub mod Held
 -- Turns to the end, exactly.
+pub mod Chains
 pub mod Walking
 pub mod Strides
 pub mod WalkTurn
 pub mod Pacing
 pub mod Strode
+pub mod Trails
 pub mod Passages
 pub mod OnTrack
 pub mod TurnTrack
+pub mod TrailEvents
+pub mod TrailTurn
 pub mod Spanning
 pub mod Turns
-pub mod Complete
+pub mod Quieting
+pub mod Spanned
+pub mod Fated
+pub mod Gathering
+pub mod Tied
+pub mod Treads
+pub mod LastTurns
+pub mod Prefixes
 pub mod Trodden
 pub mod PathWays
 pub mod Between

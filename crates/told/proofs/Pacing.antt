@@ -58,7 +58,7 @@ pub starts-last : (code : Code) (s : ℕ) (u : List ℕ) → isLogged (opOf (cod
 starts-last code s u l = (among-last s u, l)
 
 -- a path that goes on behind a step of it
-after-more : (r : ℕ) (xs ys : List ℕ) → among r xs ≡ true → afterStep r (xs ++ ys) ≡ afterStep r xs ++ ys
+pub after-more : (r : ℕ) (xs ys : List ℕ) → among r xs ≡ true → afterStep r (xs ++ ys) ≡ afterStep r xs ++ ys
 after-more r [] ys h = let z : _≡_ {A = ℕ} 0 1 = cc in absurd (omega arith)
 after-more r (x ∷ xs) ys h = by (eqb x r) h (after-more r xs ys)
   where

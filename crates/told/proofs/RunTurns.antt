@@ -29,12 +29,12 @@ module _ (mark n : ℕ) where
   one-turn d w u v e t = (d ∷ t .0, t .1 ∙ ap (turnsBy mark n (t .0)) e)
 
   -- a right header with D workers
-  record Headed (D : ℕ) (w : Traced) : Type 0 where
-    header : headerOk mark n (w .world .image) ≡ true
-    many : workers (w .world .image) ≡ D
+  pub record Headed (D : ℕ) (w : Traced) : Type 0 where
+    pub header : headerOk mark n (w .world .image) ≡ true
+    pub many : workers (w .world .image) ≡ D
 
   module _ (D : ℕ) where
-    turn-headed : (w : Traced) (d : ℕ) (o : Outcome) → Headed D w → Headed D (turnBy mark n w d o)
+    pub turn-headed : (w : Traced) (d : ℕ) (o : Outcome) → Headed D w → Headed D (turnBy mark n w d o)
     turn-headed w d (stored p v c) h =
         record {
           header = header-store n mark (w .world .left) (w .world .image) p v ∙ h .header;

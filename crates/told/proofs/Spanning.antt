@@ -188,7 +188,7 @@ module _ (mark n D : ℕ) (cells : List ℕ) where
 
   -- ---- a loss
 
-  passage-lost :
+  pub passage-lost :
       (w v : Traced) (e : ℕ) → v .trace .events ≡ w .trace .events ++ (lost ∷ [])
       → passageOf e (v .trace .events)
       ≡ (let c = passageOf e (w .trace .events) in passage (c .ends) (losing (c .now)) (c .spans))
@@ -215,7 +215,7 @@ module _ (mark n D : ℕ) (cells : List ℕ) where
         (plan-kept n (workers m) (at n m) (crashed-parts n (workers m) (at n m) c) (w .world .left) .count e)
 
     -- a begun section stays in its record
-    recovered-held : (e : ℕ) → Tied w e (memory w) (passageOf e (w .trace .events)) → Tied w e (memory mended) (passageOf e (w .trace .events))
+    pub recovered-held : (e : ℕ) → Tied w e (memory w) (passageOf e (w .trace .events)) → Tied w e (memory mended) (passageOf e (w .trace .events))
     recovered-held e a = by (counts-kept e)
       where
         code : codeIn n (memory mended) e ≡ codeIn n (memory w) e
@@ -245,7 +245,7 @@ module _ (mark n D : ℕ) (cells : List ℕ) where
       unfolding resumed
       resumed-off z = rw z
 
-      resumed-on : (s : ℕ) → rd (field Pc e) % 2 ^ 63 ≡ suc s → resumed n rd e ≡ on s (targetTurn (namedOp n rd e))
+      pub resumed-on : (s : ℕ) → rd (field Pc e) % 2 ^ 63 ≡ suc s → resumed n rd e ≡ on s (targetTurn (namedOp n rd e))
       unfolding resumed
       resumed-on s q = rw (ne-eqb (rd (field Pc e)) 0 (λ z. omega arith), named-step n rd e s q)
 
@@ -254,14 +254,14 @@ module _ (mark n D : ℕ) (cells : List ℕ) where
           let c = crashed-parts n D rd (k .crashed) in
           ok-entry n rd e (ok-named n rd e (c .pc e l) (ne-eqb (rd (field Pc e)) 0 (λ z. omega arith)))
 
-      entry-turns : (s : ℕ) → rd (field Pc e) % 2 ^ 63 ≡ suc s → turnsOf (rd (step e s)) ≡ resumedTurns (opOf (rd (step e s))) + targetTurn (namedOp n rd e)
+      pub entry-turns : (s : ℕ) → rd (field Pc e) % 2 ^ 63 ≡ suc s → turnsOf (rd (step e s)) ≡ resumedTurns (opOf (rd (step e s))) + targetTurn (namedOp n rd e)
       unfolding namedOp
       entry-turns s q =
           let f = named-step n rd e s q in
           rw f (resumed-turns n rd e s (opAt n rd e s) (rw f at (entry s q .logs)) (rd (step e s)) refl)
 
     -- the count of a begun section stays
-    begun-below : (e : ℕ) → e < D → (s : ℕ) → memory w (field Pc e) % 2 ^ 63 ≡ suc s → s < memory mended (field Count e)
+    pub begun-below : (e : ℕ) → e < D → (s : ℕ) → memory w (field Pc e) % 2 ^ 63 ≡ suc s → s < memory mended (field Count e)
     begun-below e l s q = by (counts-kept e)
       where
         by :

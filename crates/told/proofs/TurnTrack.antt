@@ -86,7 +86,7 @@ module _ (mark n D : ℕ) (cells : List ℕ) (w : Traced) (d : ℕ) (r : Running
   jumped = w .trace .jumps d
 
   -- the passage behind a turn
-  passage-by : (o : Outcome) (es : List Event) (c : Passage) → eventsBy mark n w d o ≡ es → heedAll d now es ≡ c
+  pub passage-by : (o : Outcome) (es : List Event) (c : Passage) → eventsBy mark n w d o ≡ es → heedAll d now es ≡ c
       → passageOf d (turnBy mark n w d o .trace .events) ≡ c
   passage-by o es c e f =
       ap (passageOf d) (events-by mark n w d o) ∙ (heed-append d _ (w .trace .events) (eventsBy mark n w d o) ∙ (ap (heedAll d now) e ∙ f))
@@ -129,7 +129,7 @@ module _ (mark n D : ℕ) (cells : List ℕ) (w : Traced) (d : ℕ) (r : Running
   fed-followed : last .worker ≡ d → follow (initial n D cells (w .trace .begun ++ (last ∷ []))) (w .trace .order) ≡ some (enqueue n (r .reached .state) last)
   fed-followed m = initial-more n D cells (w .trace .begun) last (w .trace .order) (r .reached .state) (r .reached .followed) (rw m dl)
 
-  first-path :
+  pub first-path :
       (a : ℕ) → last .worker ≡ d → getD (last .code) 0 0 ≡ rd (step d 0) → pc ≡ 0 → opAt n rd d 0 ≡ Acquire a
       → pathsOf d (initial n D cells (w .trace .begun ++ (last ∷ []))) (w .trace .order ++ (d ∷ [])) ≡ longer trail (0 ∷ [])
   first-path a m code z o =
@@ -163,7 +163,7 @@ module _ (mark n D : ℕ) (cells : List ℕ) (w : Traced) (d : ℕ) (r : Running
 
   -- ---- the strides
 
-  no-finish : (x : Op) → isLogged x ≡ true → isFinish x ≡ false
+  pub no-finish : (x : Op) → isLogged x ≡ true → isFinish x ≡ false
   no-finish (Acquire a) h = refl
   no-finish (Release a) h = refl
   no-finish (Assign a e) h = refl
@@ -172,7 +172,7 @@ module _ (mark n D : ℕ) (cells : List ℕ) (w : Traced) (d : ℕ) (r : Running
   no-finish Unknown h = refl
 
   -- the events of a store that names a step
-  named-events :
+  pub named-events :
       (v i t : ℕ) (c : Cursor) → cursor ≡ on i t → v ≢ 0 → 0 < w .world .left
       → eventsBy mark n w d (stored (field Pc d) v c) ≡ moved d i ∷ recorded d i ∷ []
   named-events v i t c q z left = pc-store mark n w d (field Pc d) v c left refl .events ∙ here
@@ -201,7 +201,7 @@ module _ (mark n D : ℕ) (cells : List ℕ) (w : Traced) (d : ℕ) (r : Running
       (H .code) (now .ends) (now .now) (now .spans) z (x .anchor) (x .pace)))
 
   -- a later step's pc finds the section begun
-  same-begun : (s : ℕ) → pc % 2 ^ 63 ≡ suc s
+  pub same-begun : (s : ℕ) → pc % 2 ^ 63 ≡ suc s
       → cond (eqb pc 0) (w .trace .begun ++ (last ∷ [])) (w .trace .begun) ≡ w .trace .begun
   same-begun s e = rw (ne-eqb pc 0 (λ z. omega arith))
 
@@ -288,7 +288,7 @@ module _ (mark n D : ℕ) (cells : List ℕ) (w : Traced) (d : ℕ) (r : Running
 
   module _ (e : ℕ) (i : e ≢ d) where
     -- an order that grows by worker d's instructions, with its section fed before or not
-    path-aside :
+    pub path-aside :
         (starts : Bool) → (starts ≡ true → last .worker ≡ d) → (k : ℕ)
         → pathsOf e (initial n D cells (cond starts (w .trace .begun ++ (last ∷ [])) (w .trace .begun))) (w .trace .order ++ replicate k d)
         ≡ pathsIn mark n D cells w e
@@ -309,7 +309,7 @@ module _ (mark n D : ℕ) (cells : List ℕ) (w : Traced) (d : ℕ) (r : Running
     begun-aside true m = of-snoc-other e (w .trace .begun) last (λ q. i (sym q ∙ m refl))
     begun-aside false m = refl
 
-    passage-aside : (o : Outcome) → passageOf e (turnBy mark n w d o .trace .events) ≡ passageOf e (w .trace .events)
+    pub passage-aside : (o : Outcome) → passageOf e (turnBy mark n w d o .trace .events) ≡ passageOf e (w .trace .events)
     passage-aside o =
         ap (passageOf e) (events-by mark n w d o)
         ∙ (heed-append e _ (w .trace .events) (eventsBy mark n w d o) ∙ heed-aside e _ (eventsBy mark n w d o) (own-by mark n w d o e i))

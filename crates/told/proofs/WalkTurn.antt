@@ -31,6 +31,7 @@ use Rattle.claims.proofs.Apart.{Busy, busy-between, reads-same}
 use Rattle.told.specs.Paths.{Paths, paths, further, gone, entered, thenOn, walk}
 use Rattle.told.specs.Turns.{All}
 use Rattle.told.proofs.Strides.{Coming}
+use Rattle.told.proofs.Chains.{chain, lands}
 use Rattle.told.proofs.Walking.{walk-none, walk-append}
 
 -- ---- sums and lists
@@ -117,6 +118,7 @@ module _ (n : ℕ) (rd : Memory) (d : ℕ) (val : Valid n (rd (field Count d)) (
       walks : walk d p (standing S d c o h i) (replicate j d) ≡ longer p steps
       turns : turnsAlong words steps ≡ j
       inside : All (FromTo i k) steps
+      chained : steps ≡ chain n rd d i j
 
     -- the worker's queue before step k
     at-step : (k : ℕ) → getD (standing S d c o h k .queues) d [] ≡ job c k o h ∷ []
@@ -128,7 +130,8 @@ module _ (n : ℕ) (rd : Memory) (d : ℕ) (val : Valid n (rd (field Count d)) (
 
     jumped : {j k : ℕ} → Jumps n rd d i j k → Jumped j k
     unfolding turnsAlong
-    jumped stay = record { steps = []; walks = walk-none d p _ ∙ ap (paths (p .ended)) (sym (append-nil (p .under))); turns = refl; inside = tt }
+    jumped stay =
+        record { steps = []; walks = walk-none d p _ ∙ ap (paths (p .ended)) (sym (append-nil (p .under))); turns = refl; inside = tt; chained = refl }
     jumped (leap j k a b J l e) =
         let x = jumped J in
         let up = leap-on k a b l e in
@@ -142,6 +145,7 @@ module _ (n : ℕ) (rd : Memory) (d : ℕ) (val : Valid n (rd (field Count d)) (
           inside =
               all-append (FromTo i _) (x .steps) (k ∷ []) (all-map (FromTo i k) (FromTo i _) (x .steps) (λ y q. (q .0, omega arith)) (x .inside))
               ((jumps-rise J, up), tt);
+          chained = rw (x .chained, lands n rd d J);
         }
 
 -- ---- the store of a pc
@@ -165,6 +169,7 @@ module _ (n D : ℕ) (rd : Memory) (cursor : ℕ → Cursor) (locks jumps : ℕ 
       pub walks : walk d p S (replicate (suc j) d) ≡ further (longer p steps) i (opAt n rd d i)
       pub turns : turnsAlong words steps ≡ j
       pub inside : All (FromTo (suc s) i) steps
+      pub chained : steps ≡ chain n rd d (suc s) j
 
     pub walk-later : (s i t j : ℕ) → Coming n rd d (locks d) s i t j → PathGrows s i j
     walk-later s i t j C =
@@ -193,4 +198,5 @@ module _ (n D : ℕ) (rd : Memory) (cursor : ℕ → Cursor) (locks jumps : ℕ 
                   (C .below) refl));
               turns = x .turns;
               inside = x .inside;
+              chained = x .chained;
             }

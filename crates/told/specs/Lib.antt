@@ -7,6 +7,10 @@ pub mod Held
 pub mod Enough
 pub mod Paths
 pub mod Turns
+pub mod Spanned
+pub mod Tied
+pub mod Prefixes
+pub mod Treads
 pub mod Between
 pub mod Changing
 pub mod Checking
