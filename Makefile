@@ -31,7 +31,7 @@ WARNINGS = -Wall -Wextra -Wpedantic -Wconversion -Wsign-conversion -Wshadow -Wca
 C99 = $(CC) -std=c99 $(WARNINGS) -Wstrict-prototypes -Wmissing-prototypes $(CFLAGS) -Iinclude
 CXX17 = $(CXX) -std=c++17 $(WARNINGS) -Wold-style-cast $(CXXFLAGS) -Iinclude
 
-.PHONY: all library board stow help check tools header example rust_examples messages stores wrapper planners manuals
+.PHONY: all library board stow help check tools claims header example rust_examples messages stores wrapper planners manuals
 .PHONY: crosscheck powercut install clean
 .NOTPARALLEL:
 .SUFFIXES:
@@ -76,7 +76,7 @@ help:
 
 # The stores are made beside the others: a child is stepped there, which waits more than it works. What rt makes is then
 # made, and given to both.
-CHECKS = header example messages wrapper planners manuals crosscheck powercut
+CHECKS = claims header example messages wrapper planners manuals crosscheck powercut
 GIVEN = --no-print-directory LIB='$(LIB)' BOARD='$(BOARD)'
 
 check: tools library board | $(OUT)
@@ -96,6 +96,11 @@ tools:
 
 $(OUT):
 	@mkdir -p $(OUT)
+
+# where docs/CLAIMS.md says that a statement stands
+
+claims:
+	@sh checks/claims.sh
 
 # the header, as C99 and as C++17
 
