@@ -10,7 +10,7 @@ shift
 rows='and rows.py the rows of the sweep'
 if ! command -v python3 >/dev/null 2>&1; then
     rows='but rows.py was not run: there is no python3'
-elif ! python3 "$folder/asked_sweep/rows.py" | cmp - "$folder/asked_sweep/stdout"; then
+elif ! python3 "$folder/asked_sweep/rows.py" | diff - "$folder/asked_sweep/stdout" >&2; then
     echo 'trials: rows.py does not print asked_sweep/stdout' >&2
     exit 1
 fi
