@@ -1,4 +1,4 @@
-"""What asked_sweep must print, from document 01 alone: an image of one desk, hand-in, turns, recovery, and the question.
+"""What the sweep of src/asked.rs must print, from document 01 alone: an image of one desk, hand-in, turns, recovery, and the question.
 
 A ticket is finished if its number is at most the last finished one, begun if place is not 0 and the record has its number.
 Document 01's words are used, its numbers too; causes that no row meets are left out.
