@@ -32,7 +32,7 @@ C99 = $(CC) -std=c99 $(WARNINGS) -Wstrict-prototypes -Wmissing-prototypes $(CFLA
 CXX17 = $(CXX) -std=c++17 $(WARNINGS) -Wold-style-cast $(CXXFLAGS) -Iinclude
 
 .PHONY: all library board stow help check tools claims header example rust_examples messages stores wrapper planners manuals
-.PHONY: crosscheck powercut install clean
+.PHONY: twin trials crosscheck powercut install clean
 .NOTPARALLEL:
 .SUFFIXES:
 
@@ -76,7 +76,7 @@ help:
 
 # The stores are made beside the others: a child is stepped there, which waits more than it works. What rt makes is then
 # made, and given to both.
-CHECKS = claims header example messages wrapper planners manuals crosscheck powercut
+CHECKS = claims header example messages wrapper twin trials planners manuals crosscheck powercut
 GIVEN = --no-print-directory LIB='$(LIB)' BOARD='$(BOARD)'
 
 check: tools library board | $(OUT)
@@ -159,10 +159,19 @@ stores: $(OUT)/stores
 # what is in Rust; nothing is fetched, and no lock file is changed
 
 AS_IS = --offline --locked
-RUST = env ZILPANUD_LIB="$$(cd '$(LIB)' && pwd)" CARGO_TARGET_DIR="$$(pwd)/$(OUT)/cargo" $(CARGO)
+WITHOUT = env CARGO_TARGET_DIR="$$(pwd)/$(OUT)/cargo" $(CARGO)
+RUST = env ZILPANUD_LIB="$$(cd '$(LIB)' && pwd)" $(WITHOUT)
 
 wrapper: $(ARCHIVE) | $(OUT)
 	@sh checks/quiet.sh wrapper tests rust/zilpanud $(RUST) test $(AS_IS)
+
+# the twin by itself, against its plain machine: without the library
+twin: | $(OUT)
+	@sh checks/quiet.sh twin 'its own check' rust/twin $(WITHOUT) run $(AS_IS) --bin selfcheck
+
+# the scripts of calls, and the sweep: on the library and on the twin, against what is stored
+trials: $(ARCHIVE) | $(OUT)
+	@sh checks/trials.sh rust/trials $(RUST)
 
 # stow: its tests, any bytes among them, and the waits of days worked out by hand
 planners: stow

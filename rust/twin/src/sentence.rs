@@ -1,5 +1,6 @@
 //! What a planner is told of a ticket that fails the check (6/14): one sentence to each refusal, in the papers' words.
-use crate::{bays, bit, check, held_sets, loose, Step};
+use crate::check::{check, held_sets};
+use crate::step::{bays, bit, loose, Step};
 
 /// The sentence of the first of causes 4 to 9 that the steps fail, without a full stop; none where they pass.
 pub fn of(steps: &[u64]) -> Option<String> {

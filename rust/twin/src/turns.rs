@@ -1,7 +1,11 @@
 //! Turns to the end (4/14), none of them waiting: the turn table summed along a path, what a section needs from a step on, and
 //! what a begun one needs after a recovery. Document 01's ticket is a section here, its desk a worker, its place a pc, its drop
 //! a release and its skip a jump.
-use crate::{check, no, sound, Image, Refusal, Step, COUNT, STEPS, TABLE};
+use crate::answers::{no, Refusal};
+use crate::check::check;
+use crate::layout::{Image, COUNT, STEPS};
+use crate::recovery::sound;
+use crate::step::{Step, TABLE};
 
 /// A cause's number and the step that goes with it; a step that was only asked for may be any number.
 #[derive(Clone, Copy, PartialEq, Eq, Debug)]

@@ -1,2 +1,0 @@
-// The calls of a script: what one is, and how it is made.
-pub mod calls;
