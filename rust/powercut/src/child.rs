@@ -1,6 +1,6 @@
 //! The process that is killed.
 
-use crate::locks::locks_held;
+use crate::board::{locks_held, opened};
 use crate::moves::Move;
 use crate::rng::Rng;
 use std::convert::Infallible;
@@ -49,7 +49,7 @@ impl Work {
         let mut r = Rng::of(&[self.seed, self.manner]);
         let parent = parent_id();
         let longest = 1 + r.below(60);
-        let mut board = Board::open_or_create(&self.path, self.workers)?;
+        let mut board = opened(&self.path, self.workers)?;
         io::stdout().write_all(STARTED)?;
         io::stdout().flush()?;
         loop {
@@ -61,7 +61,7 @@ impl Work {
             if parent_id() != parent {
                 exit(1); // nobody is left who would kill it
             }
-            board = Board::open(&self.path)?;
+            board = opened(&self.path, self.workers)?;
         }
     }
 

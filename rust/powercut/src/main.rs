@@ -3,9 +3,9 @@
 //! all workers are idle, and each of its 512 cells is compared with what the finished numbers alone say. On the way the
 //! board's count of the locks held is compared with its owner words. See usage().
 
+mod board;
 mod child;
 mod image;
-mod locks;
 mod moves;
 mod rng;
 mod trial;

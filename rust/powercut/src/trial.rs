@@ -1,8 +1,8 @@
 //! The process that kills: a child at work, a kill, a recovery, a check.
 
+use crate::board::{locks_held, opened};
 use crate::child::{Work, STARTED};
 use crate::image::Image;
-use crate::locks::locks_held;
 use crate::moves::{count_cell, Move, MOVED};
 use crate::rng::Rng;
 use std::error::Error;
@@ -132,7 +132,7 @@ impl Trial {
     /// Recovers the board, runs it until all workers are idle, and compares it with what must be on it.
     fn check(&mut self, left: Option<Image>) -> Result<(), Box<dyn Error>> {
         let workers = self.board.workers();
-        let mut board = Board::open_or_create(&self.board.path, workers)?;
+        let mut board = opened(&self.board.path, workers)?;
         self.met.holding += (locks_held(&board)? > 0) as u64;
         let run = board.run_to_idle()?;
         if run.end != End::AllIdle {
@@ -143,7 +143,7 @@ impl Trial {
             let due = left.as_ref().map_or(0, |image| image.due(worker));
             self.carry_on(&board, worker, due)?;
         }
-        self.compare(board.cells())?;
+        self.compare(&board.cells())?;
         drop(board);
         let after = Image::read(&self.board.path, workers)?.ok_or("the file is gone")?;
         match after.under_way() {
@@ -155,7 +155,7 @@ impl Trial {
     /// Brings what must be on the board up to the number that a worker has finished, which must be the one due.
     fn carry_on(&mut self, board: &Board, worker: usize, due: u64) -> Result<(), Box<dyn Error>> {
         let (before, finished) = (self.board.finished[worker], board.finished(worker)?);
-        let counted = board.cells()[count_cell(worker)];
+        let counted = board.cell(count_cell(worker)).ok_or("there is no such cell")?;
         if finished != due || finished < before || finished != counted {
             return Err(format!(
                 "worker {worker} has finished {finished} and must have {due}; it had {before} before this kill, and \

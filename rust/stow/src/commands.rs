@@ -9,7 +9,7 @@ use crate::look::Look;
 use crate::refusal::of_image;
 use crate::run::Run;
 use crate::trouble::{located, Trouble};
-use crate::{day_file, picture, terminal};
+use crate::{day_file, picture, system, terminal};
 use std::fs;
 use std::io::{self, BufWriter, IsTerminal, Read, Write};
 use std::path::{Path, PathBuf};
@@ -186,7 +186,7 @@ fn watch(arguments: &Arguments, path: &Path, names: &Names) -> Result<(), Troubl
             Err(trouble) => trouble.lines().join("\n"),
         };
         if text != drawn {
-            terminal::redraw(&terminal::fitted(&text, terminal::size().unwrap_or((24, 80))))?;
+            terminal::redraw(&terminal::fitted(&text, system::terminal_size().unwrap_or((24, 80))))?;
             drawn = text;
         }
         thread::sleep(Duration::from_millis(200));

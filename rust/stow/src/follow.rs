@@ -19,7 +19,9 @@ use zilpanud::{cell_index, Board, Cause, Cursors, Record, Refusal, Turn, CELLS};
 
 /// The board that a day is played on: what is asked of it, and the three calls that are made.
 pub trait Kept {
-    fn image(&self) -> &[u64];
+    /// A copy.
+    fn image(&self) -> Vec<u64>;
+    fn record(&self, desk: usize) -> Option<Record>;
     fn cursors(&self) -> &Cursors;
     fn submit(&mut self, ticket: &Ticket) -> Result<(), Refusal>;
     fn turn(&mut self, desk: usize) -> Result<(), Refusal>;
@@ -27,8 +29,12 @@ pub trait Kept {
 }
 
 impl Kept for Board {
-    fn image(&self) -> &[u64] {
+    fn image(&self) -> Vec<u64> {
         Board::image(self)
+    }
+
+    fn record(&self, desk: usize) -> Option<Record> {
+        Board::record(self, desk).ok()
     }
 
     fn cursors(&self) -> &Cursors {
@@ -51,8 +57,12 @@ impl Kept for Board {
 
 /// A board in memory: for trying whether a day that was cut can be gone on with, before any of its turns is made.
 impl Kept for Player {
-    fn image(&self) -> &[u64] {
-        &self.image
+    fn image(&self) -> Vec<u64> {
+        self.image.clone()
+    }
+
+    fn record(&self, desk: usize) -> Option<Record> {
+        Player::record(self, desk)
     }
 
     fn cursors(&self) -> &Cursors {
@@ -116,7 +126,7 @@ fn refused(what: &str, cause: Cause) -> Trouble {
 
 impl<K: Kept> Following<'_, K> {
     fn at(&self, desk: usize) -> Option<At> {
-        at(self.board.image(), self.board.cursors(), desk)
+        at(self.board.record(desk)?, self.board.cursors(), desk)
     }
 
     /// A ticket that the day takes is handed in, unless the board has it or is past it.
@@ -124,7 +134,7 @@ impl<K: Kept> Following<'_, K> {
         let (desk, number) = (ticket.desk as usize, ticket.number);
         self.report.taken += 1;
         self.open.insert(desk, number);
-        let finished = Record::of(self.board.image(), desk).map_or(0, |record| record.finished);
+        let finished = self.board.record(desk).map_or(0, |record| record.finished);
         if number <= finished || self.at(desk).is_some() {
             return Ok(());
         }
@@ -197,17 +207,17 @@ impl<K: Kept> Watch for Following<'_, K> {
 
 /// Whether a desk stands where the day leaves it; or its ticket is finished, and a recovery has made its last store.
 fn stands(board: &impl Kept, player: &Player, desk: usize) -> bool {
-    let finished = |image: &[u64]| Record::of(image, desk).map_or(0, |record| record.finished);
-    let (is, must) = (finished(board.image()), finished(&player.image));
-    let at = at(board.image(), board.cursors(), desk);
+    let finished = |record: Option<Record>| record.map_or(0, |record| record.finished);
+    let (is, must) = (finished(board.record(desk)), finished(player.record(desk)));
+    let at = board.record(desk).and_then(|record| at(record, board.cursors(), desk));
     let is_ended = at.is_none() && player.at(desk).is_some_and(|at| at.number == must);
     is == must && (at == player.at(desk) || is_ended)
 }
 
 /// Where a board is not what the day leaves.
 fn differs(board: &impl Kept, player: &Player) -> Option<String> {
-    let cells = cell_index(0)..cell_index(CELLS);
-    let mut words = board.image()[cells.clone()].iter().zip(&player.image[cells]).enumerate();
+    let (image, cells) = (board.image(), cell_index(0)..cell_index(CELLS));
+    let mut words = image[cells.clone()].iter().zip(&player.image[cells]).enumerate();
     if let Some((word, (is, must))) = words.find(|(_, (is, must))| is != must) {
         return Some(format!("word {word} is {is}, and the day leaves {must}"));
     }

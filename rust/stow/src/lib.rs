@@ -1,7 +1,7 @@
 //! `stow`: one program for planners, with the proved library inside.
 
 #![warn(clippy::all, clippy::undocumented_unsafe_blocks)]
-#![deny(unsafe_op_in_unsafe_fn)]
+#![deny(unsafe_code)]
 
 mod arguments;
 pub mod cli;
@@ -18,6 +18,8 @@ pub mod refusal;
 pub mod run;
 pub mod say;
 pub mod show;
+#[allow(unsafe_code)]
+mod system;
 pub mod terminal;
 pub mod ticket;
 pub mod trouble;

@@ -69,7 +69,7 @@ impl Player {
 
     /// Where a desk stands; none if it is idle, or there is no such desk.
     pub fn at(&self, desk: usize) -> Option<At> {
-        at(&self.image, &self.cursors, desk)
+        at(self.record(desk)?, &self.cursors, desk)
     }
 
     pub fn record(&self, desk: usize) -> Option<Record> {
@@ -161,10 +161,9 @@ enum Went {
     Refused,
 }
 
-/// Where a desk of an image stands.
-pub fn at(image: &[u64], cursors: &Cursors, desk: usize) -> Option<At> {
+/// Where a desk with this record stands.
+pub fn at(record: Record, cursors: &Cursors, desk: usize) -> Option<At> {
     let (step, turn) = (*cursors.step.get(desk)?, *cursors.turn.get(desk)?);
-    let record = Record::of(image, desk).ok()?;
     (turn != IDLE).then_some(At { desk, number: record.number, step: step as usize, turn })
 }
 

@@ -8,12 +8,13 @@ use crate::language::names::Names;
 use crate::player::Player;
 use crate::refusal::of_image;
 use crate::say::counted;
+use crate::system;
 use crate::terminal::Progress;
 use crate::trouble::{located, Trouble};
 use std::path::Path;
 use std::thread;
 use std::time::Duration;
-use zilpanud::{Board, BoardError, Refusal, WORKERS};
+use zilpanud::{image_len, Board, BoardError, Refusal, WORKERS};
 
 /// The frames of a whole day behind its first line, and its number of desks.
 fn read(day: &[u8]) -> Result<(usize, Vec<Frame>), String> {
@@ -57,16 +58,16 @@ fn start(path: &Path, day: &[u8], desks: usize) -> Result<(Board, Underway, bool
         let what = format!("{}: the board is gone, and a day is under way on it", path.display());
         return Err(Trouble::Wrong(vec![what, given_up(path, "bring the board back")]));
     }
-    let board = Board::open_or_create(path, desks).map_err(no_board)?;
+    let board = system::board(path, desks).map_err(no_board)?;
     // once more, now that the board is locked: another run may just have come to its end
     match Underway::read(path)? {
-        Some(kept) if kept.day == day && kept.start.len() == board.image().len() => Ok((board, kept, true)),
+        Some(kept) if kept.day == day && kept.start.len() == image_len(desks) => Ok((board, kept, true)),
         Some(_) => {
             let what = format!("{}: another day was cut on this board, and is not over", path.display());
             Err(Trouble::Wrong(vec![what, given_up(path, "run that day again first")]))
         }
         None => {
-            let begun = Underway { start: board.image().to_vec(), day: day.to_vec() };
+            let begun = Underway { start: board.image(), day: day.to_vec() };
             begun.keep(path)?;
             Ok((board, begun, false))
         }
@@ -129,7 +130,7 @@ impl Run<'_> {
 
     /// Whether a day that was cut can be gone on with on this board: tried in memory, before any of its turns is made.
     fn try_out(&self, start: &Player, frames: &[Frame], board: &Board) -> Result<(), Trouble> {
-        let (image, cursors) = (board.image().to_vec(), *board.cursors());
+        let (image, cursors) = (board.image(), *board.cursors());
         let mut copy = Player { image, cursors, desks: start.desks };
         let tried = follow(start.clone(), frames, self.names, &mut copy, &mut |_| {});
         tried.map(|_| ()).map_err(|trouble| self.stopped(&trouble.lines().join("; ")))

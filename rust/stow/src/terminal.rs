@@ -1,31 +1,6 @@
-//! What a terminal is asked: its size, and to be redrawn.
+//! What a terminal is told: a text of its size, and a bar.
 
-use std::ffi::{c_int, c_ulong};
 use std::io::{self, IsTerminal, Write};
-
-/// The rows and columns of the terminal that is standard output; none where there is none, or it does not say.
-pub fn size() -> Option<(usize, usize)> {
-    #[repr(C)]
-    #[derive(Default)]
-    struct Size {
-        rows: u16,
-        columns: u16,
-        width: u16,
-        height: u16,
-    }
-    unsafe extern "C" {
-        fn ioctl(file: c_int, request: c_ulong, ...) -> c_int;
-    }
-    const STANDARD_OUTPUT: c_int = 1;
-    #[cfg(target_os = "linux")]
-    const TIOCGWINSZ: c_ulong = 0x5413;
-    #[cfg(not(target_os = "linux"))]
-    const TIOCGWINSZ: c_ulong = 0x4008_7468;
-    let mut size = Size::default();
-    // SAFETY: the request writes the four numbers of `size`, a live reference of its own, or nothing.
-    let answer = unsafe { ioctl(STANDARD_OUTPUT, TIOCGWINSZ, &mut size) };
-    (answer == 0 && size.rows > 0 && size.columns > 0).then_some((size.rows as usize, size.columns as usize))
-}
 
 /// A text cut to a terminal's size, the last row left free; where rows are left out, the last one says how many.
 pub fn fitted(text: &str, (rows, columns): (usize, usize)) -> String {

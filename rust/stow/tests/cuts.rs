@@ -14,7 +14,7 @@ use stow::language::names::Names;
 use stow::player::Player;
 use stow::trouble::Trouble;
 use zilpanud::cut::{self, ENOUGH};
-use zilpanud::{code, Cursors, Place, RecordWord, Refusal};
+use zilpanud::{code, Cursors, Place, Record, RecordWord, Refusal};
 
 /// A board in memory whose power goes when no store is left: from then on no call changes it.
 #[derive(Clone)]
@@ -25,8 +25,12 @@ struct Cuttable {
 }
 
 impl Kept for Cuttable {
-    fn image(&self) -> &[u64] {
-        &self.image
+    fn image(&self) -> Vec<u64> {
+        self.image.clone()
+    }
+
+    fn record(&self, desk: usize) -> Option<Record> {
+        Record::of(&self.image, desk).ok()
     }
 
     fn cursors(&self) -> &Cursors {

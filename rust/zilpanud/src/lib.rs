@@ -17,7 +17,8 @@
 //! // Document 01's ticket: acquire lock 3; cell 24 := 5; release lock 3; finish.
 //! let section = [acquire(3), set(24, 5), release(3), finish()];
 //!
-//! let mut board = Board::open_or_create(&path, 1)?;
+//! // SAFETY: nobody else writes to this file or shortens it.
+//! let mut board = unsafe { Board::open_or_create(&path, 1) }?;
 //! let number = board.submit_next(0, &[0; 8], &section)?;
 //! board.run_to_idle()?;
 //! assert_eq!((number, board.cell(24)), (1, Some(5)));
@@ -25,6 +26,9 @@
 //! # std::fs::remove_file(&path)?;
 //! # Ok::<(), Box<dyn std::error::Error>>(())
 //! ```
+//!
+//! To make and to open a board are the crate's only `unsafe` calls, since its file is mapped: what their caller owes stands
+//! [there](Board#safety).
 //!
 //! The functions of this page are the engine's calls themselves, on an *image* that the caller keeps: a slice of
 //! [`image_len`] words, with the [`Cursors`] of its workers beside it. They allocate nothing. Any arguments will do:

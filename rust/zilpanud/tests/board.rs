@@ -2,16 +2,16 @@
 
 mod common;
 
-use common::{Folder, FINISHED, TICKET};
+use common::{boards, Folder, CELL_24, FINISHED, TICKET};
 use std::fs;
 use std::path::Path;
-use zilpanud::{Board, Cause, End, Needs, Refusal, Run, Standing, Tally, Turn};
+use zilpanud::{image_len, Board, Cause, End, Needs, Refusal, Run, Standing, Tally, Turn};
 
 const NO_ARGS: [u64; 8] = [0; 8];
 
 /// A board of two workers, worker 0 with the ticket submitted and so many turns made; dropped there.
 fn left_after(path: &Path, turns: usize) {
-    let mut board = Board::create(path, 2).unwrap();
+    let mut board = boards::create(path, 2).unwrap();
     assert_eq!(board.submit_next(0, &NO_ARGS, &TICKET), Ok(1));
     for _ in 0..turns {
         assert!(matches!(board.turn(0).unwrap(), Turn::Stored(_)));
@@ -21,7 +21,7 @@ fn left_after(path: &Path, turns: usize) {
 #[test]
 fn a_new_board() {
     let folder = Folder::new("a-new-board");
-    let board = Board::create(folder.path("board"), 3).unwrap();
+    let board = boards::create(folder.path("board"), 3).unwrap();
     assert_eq!(board.workers(), 3);
     assert_eq!(board.cells(), [0; 512]);
     for worker in 0..3 {
@@ -35,7 +35,7 @@ fn a_new_board() {
 #[test]
 fn a_section_from_submit_to_finish() {
     let folder = Folder::new("a-section");
-    let mut board = Board::create(folder.path("board"), 2).unwrap();
+    let mut board = boards::create(folder.path("board"), 2).unwrap();
     board.submit(1, 4, &NO_ARGS, &TICKET).unwrap();
     assert_eq!(board.turn(0), Ok(Turn::Idle));
     for _ in 0..2 {
@@ -53,6 +53,22 @@ fn a_section_from_submit_to_finish() {
     assert_eq!(board.submit_next(1, &NO_ARGS, &TICKET), Ok(5));
 }
 
+/// What is asked of a board is a copy: what is done on it later does not change what was taken.
+#[test]
+fn cells_and_words_are_copies() {
+    let folder = Folder::new("copies");
+    let mut board = boards::create(folder.path("board"), 2).unwrap();
+    let (cells, image, record) = (board.cells(), board.image(), board.record(0).unwrap());
+    assert_eq!((cells, record.number, image.len()), ([0; 512], 0, image_len(2)));
+    board.submit(0, 7, &NO_ARGS, &TICKET).unwrap();
+    board.run_to_idle().unwrap();
+    assert_eq!((cells, record.number, image[CELL_24]), ([0; 512], 0, 0));
+    assert_eq!((board.cells()[24], board.cell(24), board.image()[CELL_24]), (5, Some(5), 5));
+    assert_eq!((board.record(0).unwrap().number, board.record(2)), (7, Err(Refusal(Cause::Worker))));
+    drop(board);
+    assert_eq!((cells[24], image[CELL_24]), (0, 0));
+}
+
 /// Dropped after each of the ticket's turns. The fifth makes it begun.
 #[test]
 fn a_begun_section_goes_on() {
@@ -60,7 +76,7 @@ fn a_begun_section_goes_on() {
     for turns in 0..=19 {
         let path = folder.path(&format!("board-{turns}"));
         left_after(&path, turns);
-        let mut board = Board::open(&path).unwrap();
+        let mut board = boards::open(&path).unwrap();
         let (standing, idle) = match turns {
             0..=4 => (Standing::NotBegun, true),
             5..=16 => (Standing::Begun, false),
@@ -89,7 +105,7 @@ fn opened_again_after_each_turn() {
     left_after(&path, 5);
     let mut opened = 0;
     loop {
-        let mut board = Board::open(&path).unwrap();
+        let mut board = boards::open(&path).unwrap();
         opened += 1;
         assert!(opened < 100, "it does not come to an end");
         // each opening goes on at the target store of the instruction that the pc names: so many turns pass it
@@ -110,9 +126,9 @@ fn recovered_while_it_is_open() {
     for turns in 0..=19 {
         let (path, other) = (folder.path(&format!("board-{turns}")), folder.path(&format!("other-{turns}")));
         left_after(&path, turns);
-        let opened = Board::open(&path).unwrap();
+        let opened = boards::open(&path).unwrap();
 
-        let mut board = Board::create(&other, 2).unwrap();
+        let mut board = boards::create(&other, 2).unwrap();
         board.submit(0, 1, &NO_ARGS, &TICKET).unwrap();
         for _ in 0..turns {
             board.turn(0).unwrap();
@@ -125,7 +141,7 @@ fn recovered_while_it_is_open() {
 #[test]
 fn workers_that_the_board_has_not() {
     let folder = Folder::new("no-such-worker");
-    let mut board = Board::create(folder.path("board"), 2).unwrap();
+    let mut board = boards::create(folder.path("board"), 2).unwrap();
     let no = Refusal(Cause::Worker);
     for worker in [2, 8, usize::MAX] {
         assert_eq!(board.submit(worker, 1, &NO_ARGS, &TICKET), Err(no));
@@ -141,7 +157,7 @@ fn workers_that_the_board_has_not() {
 #[test]
 fn cells_and_locks_that_the_board_has_not() {
     let folder = Folder::new("no-such-cell");
-    let board = Board::create(folder.path("board"), 2).unwrap();
+    let board = boards::create(folder.path("board"), 2).unwrap();
     for number in [512, 1000, usize::MAX] {
         assert_eq!(board.cell(number), None);
     }
@@ -155,11 +171,11 @@ fn cells_and_locks_that_the_board_has_not() {
 fn the_largest_number_has_no_next() {
     let folder = Folder::new("largest-number");
     let path = folder.path("board");
-    drop(Board::create(&path, 1).unwrap());
+    drop(boards::create(&path, 1).unwrap());
     let mut bytes = fs::read(&path).unwrap();
     bytes[8 * FINISHED..8 * FINISHED + 8].fill(0xff);
     fs::write(&path, bytes).unwrap();
-    let mut board = Board::open(&path).unwrap();
+    let mut board = boards::open(&path).unwrap();
     assert_eq!(board.finished(0), Ok(u64::MAX));
     assert_eq!(board.submit_next(0, &NO_ARGS, &TICKET), Err(Refusal(Cause::Number)));
 }

@@ -2,14 +2,15 @@
 
 mod common;
 
-use common::{Folder, COUNT, LOCK_3, TICKET};
+use common::{boards, Folder, COUNT, LOCK_3, TICKET};
 use std::error::Error;
-use std::fs;
+use std::fs::{self, File};
 use std::io::ErrorKind;
+use std::os::unix::fs::MetadataExt;
 use std::path::Path;
 use std::process;
 use std::thread;
-use zilpanud::{image_len, Board, BoardError, Cause, Refusal};
+use zilpanud::{image_len, BoardError, Cause, Refusal};
 
 fn put(path: &Path, index: usize, word: u64) {
     let mut bytes = fs::read(path).unwrap();
@@ -20,7 +21,7 @@ fn put(path: &Path, index: usize, word: u64) {
 /// The error of an opening, which leaves the file as it was.
 fn unopened(path: &Path) -> BoardError {
     let before = fs::read(path).unwrap();
-    let error = Board::open(path).unwrap_err();
+    let error = boards::open(path).unwrap_err();
     assert_eq!(fs::read(path).unwrap(), before);
     assert_eq!(error.path(), path);
     assert!(error.to_string().starts_with(&format!("{}: ", path.display())), "{error}");
@@ -32,7 +33,7 @@ fn a_file_is_the_formatted_image_and_nothing_else() {
     let folder = Folder::new("formatted");
     for workers in 1..=8 {
         let name = format!("board-{workers}");
-        drop(Board::create(folder.path(&name), workers).unwrap());
+        drop(boards::create(folder.path(&name), workers).unwrap());
         let mut image = vec![7; image_len(workers)];
         zilpanud::format(&mut image, workers).unwrap();
         let bytes: Vec<u8> = image.iter().flat_map(|word| word.to_ne_bytes()).collect();
@@ -45,7 +46,7 @@ fn a_file_is_the_formatted_image_and_nothing_else() {
 fn numbers_of_workers_that_no_board_has() {
     let folder = Folder::new("wrong-workers");
     for workers in [0, 9, usize::MAX] {
-        for made in [Board::create, Board::open_or_create] {
+        for made in [boards::create, boards::open_or_create] {
             let error = made(folder.path("board"), workers).unwrap_err();
             assert!(matches!(error, BoardError::Refused { refusal: Refusal(Cause::Image), .. }));
         }
@@ -59,7 +60,7 @@ fn what_is_there_is_not_made_again() {
     let path = folder.path("board");
     for words in [&b""[..], b"something else"] {
         fs::write(&path, words).unwrap();
-        let error = Board::create(&path, 1).unwrap_err();
+        let error = boards::create(&path, 1).unwrap_err();
         assert!(matches!(error, BoardError::Exists { .. }), "{error}");
         assert_eq!(fs::read(&path).unwrap(), words);
     }
@@ -69,7 +70,7 @@ fn what_is_there_is_not_made_again() {
 #[test]
 fn what_is_not_there_is_not_opened() {
     let folder = Folder::new("not-found");
-    let error = Board::open(folder.path("board")).unwrap_err();
+    let error = boards::open(folder.path("board")).unwrap_err();
     let BoardError::Io { action: "opened", source, .. } = &error else { panic!("{error}") };
     assert_eq!(source.kind(), ErrorKind::NotFound);
     assert!(error.source().is_some());
@@ -80,11 +81,11 @@ fn what_is_not_there_is_not_opened() {
 fn paths_where_no_file_can_be() {
     let folder = Folder::new("no-file");
     for path in [folder.path("no-such-folder/board"), folder.path(""), "/".into(), "..".into(), "".into()] {
-        for made in [Board::create, Board::open_or_create] {
+        for made in [boards::create, boards::open_or_create] {
             let error = made(path.clone(), 1).unwrap_err();
             assert!(matches!(error, BoardError::Io { .. } | BoardError::Exists { .. }), "{error}");
         }
-        assert!(matches!(Board::open(&path), Err(BoardError::Io { .. })));
+        assert!(matches!(boards::open(&path), Err(BoardError::Io { .. })));
     }
     assert!(folder.names().is_empty());
 }
@@ -93,17 +94,17 @@ fn paths_where_no_file_can_be() {
 fn open_or_create_does_either() {
     let folder = Folder::new("either");
     let path = folder.path("board");
-    let mut board = Board::open_or_create(&path, 2).unwrap();
+    let mut board = boards::open_or_create(&path, 2).unwrap();
     board.submit_next(1, &[0; 8], &TICKET).unwrap();
     board.run_to_idle().unwrap();
     drop(board);
-    let mut board = Board::open_or_create(&path, 2).unwrap();
+    let mut board = boards::open_or_create(&path, 2).unwrap();
     assert_eq!(board.finished(1), Ok(1));
     // a recovery would withdraw this one
     board.submit_next(0, &[0; 8], &TICKET).unwrap();
     drop(board);
     let before = fs::read(&path).unwrap();
-    let error = Board::open_or_create(&path, 3).unwrap_err();
+    let error = boards::open_or_create(&path, 3).unwrap_err();
     assert!(matches!(error, BoardError::Workers { found: 2, asked: 3, .. }), "{error}");
     assert_eq!(fs::read(&path).unwrap(), before);
     assert_eq!(folder.names(), ["board"]);
@@ -113,17 +114,17 @@ fn open_or_create_does_either() {
 fn one_at_a_time() {
     let folder = Folder::new("one-at-a-time");
     let path = folder.path("board");
-    let board = Board::create(&path, 1).unwrap();
-    for opened in [Board::open(&path), Board::open_or_create(&path, 1)] {
+    let board = boards::create(&path, 1).unwrap();
+    for opened in [boards::open(&path), boards::open_or_create(&path, 1)] {
         let error = opened.unwrap_err();
         assert!(matches!(error, BoardError::InUse { .. }), "{error}");
     }
-    assert!(matches!(Board::create(&path, 1), Err(BoardError::Exists { .. })));
+    assert!(matches!(boards::create(&path, 1), Err(BoardError::Exists { .. })));
     drop(board);
-    let board = Board::open(&path).unwrap();
+    let board = boards::open(&path).unwrap();
     assert!(matches!(unopened(&path), BoardError::InUse { .. }));
     drop(board);
-    Board::open(&path).unwrap();
+    boards::open(&path).unwrap();
 }
 
 /// All of them at once where there is no file: one makes it, and each gets the board or is told that it is in use.
@@ -132,7 +133,7 @@ fn many_at_once() {
     let folder = Folder::new("many-at-once");
     for round in 0..20 {
         let path = folder.path(&format!("board-{round}"));
-        let open = || match Board::open_or_create(&path, 1) {
+        let open = || match boards::open_or_create(&path, 1) {
             Ok(mut board) => {
                 board.submit_next(0, &[0; 8], &TICKET).unwrap();
                 board.run_to_idle().unwrap();
@@ -146,7 +147,7 @@ fn many_at_once() {
             threads.into_iter().map(|thread| thread.join().unwrap()).sum()
         });
         assert!(had >= 1);
-        assert_eq!(Board::open(&path).unwrap().finished(0), Ok(had));
+        assert_eq!(boards::open(&path).unwrap().finished(0), Ok(had));
     }
     assert_eq!(folder.names().len(), 20);
 }
@@ -163,11 +164,46 @@ fn lengths_that_no_board_has() {
     }
 }
 
+/// A file of which the system keeps only the first words, as a copy of a board may be: the rest reads as zeros.
+fn sparse(path: &Path, image: &[u64]) {
+    let words: Vec<u8> = image[..8].iter().flat_map(|word| word.to_ne_bytes()).collect();
+    fs::write(path, words).unwrap();
+    let file = File::options().write(true).open(path).unwrap();
+    file.set_len(8 * image.len() as u64).unwrap();
+}
+
+/// The bytes that a file has room for on the disk.
+fn room(path: &Path) -> u64 {
+    512 * fs::metadata(path).unwrap().blocks()
+}
+
+/// A store into a hole would end the process where the disk is full: opening fills them, whoever opens.
+#[test]
+fn holes_are_filled() {
+    let folder = Folder::new("holes");
+    let mut image = vec![7; image_len(8)];
+    zilpanud::format(&mut image, 8).unwrap();
+    let bytes: Vec<u8> = image.iter().flat_map(|word| word.to_ne_bytes()).collect();
+    for by_open in [true, false] {
+        let path = folder.path(&format!("board-{by_open}"));
+        sparse(&path, &image);
+        assert_eq!(fs::read(&path).unwrap(), bytes);
+        let before = room(&path);
+        let opened = if by_open { boards::open(&path) } else { boards::open_or_create(&path, 8) };
+        let mut board = opened.unwrap();
+        assert!(room(&path) >= bytes.len() as u64, "{} bytes of room, and {before} before", room(&path));
+        assert_eq!((board.image(), board.cells()), (image.clone(), [0; 512]));
+        board.submit_next(7, &[0; 8], &TICKET).unwrap();
+        board.run_to_idle().unwrap();
+        assert_eq!((board.cell(24), board.finished(7)), (Some(5), Ok(1)));
+    }
+}
+
 #[test]
 fn a_damaged_board_is_refused_and_left() {
     let folder = Folder::new("damaged");
     let path = folder.path("board");
-    let mut board = Board::create(&path, 1).unwrap();
+    let mut board = boards::create(&path, 1).unwrap();
     board.submit_next(0, &[0; 8], &TICKET).unwrap();
     board.run(6).unwrap();
     drop(board);
@@ -186,11 +222,11 @@ fn a_damaged_board_is_refused_and_left() {
         assert_eq!(refusal, Refusal(cause));
         assert!(error.source().unwrap().to_string().contains(&cause.to_string()));
         // neither does one who would make it
-        let error = Board::open_or_create(&path, 1).unwrap_err();
+        let error = boards::open_or_create(&path, 1).unwrap_err();
         assert!(matches!(error, BoardError::Refused { .. }), "{error}");
         fs::write(&path, &whole).unwrap();
     }
-    assert_eq!(Board::open(&path).unwrap().run_to_idle().unwrap().tally.turns, 14);
+    assert_eq!(boards::open(&path).unwrap().run_to_idle().unwrap().tally.turns, 14);
 }
 
 /// What a process that was killed while it made a board can leave: a part of the image under the other name, or the
@@ -203,14 +239,14 @@ fn a_killed_making_hurts_nobody() {
     for n in 0..3 {
         fs::write(folder.path(&other(n)), vec![0; 1000 * n]).unwrap();
     }
-    assert!(matches!(Board::open(&path), Err(BoardError::Io { .. })));
-    drop(Board::open_or_create(&path, 2).unwrap());
+    assert!(matches!(boards::open(&path), Err(BoardError::Io { .. })));
+    drop(boards::open_or_create(&path, 2).unwrap());
     assert_eq!(folder.names(), ["board".to_string(), other(0), other(1), other(2)]);
     fs::hard_link(&path, folder.path(&other(3))).unwrap();
-    let mut board = Board::open(&path).unwrap();
+    let mut board = boards::open(&path).unwrap();
     board.submit_next(0, &[0; 8], &TICKET).unwrap();
     board.run_to_idle().unwrap();
-    assert!(matches!(Board::create(&path, 2), Err(BoardError::Exists { .. })));
-    drop(Board::create(folder.path("another"), 1).unwrap());
+    assert!(matches!(boards::create(&path, 2), Err(BoardError::Exists { .. })));
+    drop(boards::create(folder.path("another"), 1).unwrap());
     assert_eq!((folder.names().len(), board.finished(0)), (6, Ok(1)));
 }

@@ -13,7 +13,7 @@ use common::*;
 use std::fs;
 use zilpanud::code::*;
 use zilpanud::cut::ENOUGH;
-use zilpanud::{cell_index, Board, Cause, Cursors, End, Needs, Refusal, Run, Standing, Tally, Turn};
+use zilpanud::{cell_index, Cause, Cursors, End, Needs, Refusal, Run, Standing, Tally, Turn};
 
 /// A worker's record has so many words.
 const WORDS: usize = 82;
@@ -195,12 +195,12 @@ fn a_word_that_went_round_stays() {
 fn a_board_in_a_file() {
     let folder = Folder::new("change-over");
     let path = folder.path("board");
-    drop(Board::create(&path, 6).unwrap());
+    drop(boards::create(&path, 6).unwrap());
     let old = at_rest(6).image;
     let bytes: Vec<u8> = old.iter().flat_map(|word| word.to_ne_bytes()).collect();
     fs::write(&path, &bytes).unwrap();
     for _ in 0..2 {
-        let mut board = Board::open(&path).unwrap();
+        let mut board = boards::open(&path).unwrap();
         assert_eq!(board.run_to_idle(), Ok(Run { end: End::AllIdle, tally: Tally::default() }));
         assert_eq!(board.cells(), &old[cell_index(0)..cell_index(512)]);
         for (worker, last) in LAST.into_iter().enumerate().take(6) {
@@ -209,7 +209,7 @@ fn a_board_in_a_file() {
         drop(board);
         assert_eq!(fs::read(&path).unwrap(), bytes);
     }
-    let mut board = Board::open(&path).unwrap();
+    let mut board = boards::open(&path).unwrap();
     assert_eq!(board.submit_next(0, &[0; 8], &TICKET), Ok(6));
     assert_eq!(board.submit_next(4, &[0; 8], &TICKET), Ok(TOP));
     assert_eq!(board.submit_next(5, &[0; 8], &TICKET), Err(Refusal(Cause::Number)));

@@ -10,7 +10,7 @@ use std::error::Error;
 use std::hash::Hash;
 use zilpanud::code::*;
 use zilpanud::cut::ENOUGH;
-use zilpanud::{Board, Cause, Cursors, End, Fault, Field, Refusal, Standing, Why};
+use zilpanud::{Cause, Cursors, End, Fault, Field, Refusal, Standing, Why};
 
 /// Wrong sections of every cause from 4 to 9, with the step.
 fn wrong() -> Vec<(Vec<u64>, Cause)> {
@@ -188,7 +188,7 @@ fn what_passes_is_taken_when_the_worker_is_free() {
 #[test]
 fn on_a_board_in_a_file() {
     let folder = Folder::new("checked");
-    let mut board = Board::create(folder.path("board"), 1).unwrap();
+    let mut board = boards::create(folder.path("board"), 1).unwrap();
     let wrong = [acquire(3), set(32, 5), release(3), finish()];
     let fault = zilpanud::check(&wrong).unwrap_err();
     assert_eq!(board.submit_next(0, &[0; 8], &wrong), Err(fault.into()));

@@ -10,7 +10,7 @@ mod common;
 use common::*;
 use zilpanud::code::*;
 use zilpanud::cut::ENOUGH;
-use zilpanud::{Board, Cause, End, Needs, Refusal, Turn};
+use zilpanud::{Cause, End, Needs, Refusal, Turn};
 
 unsafe extern "C" {
     /// As `include/zilpanud.h` declares it.
@@ -290,12 +290,12 @@ fn refused_in_this_order() {
 fn on_a_board() {
     let folder = Folder::new("turns-left");
     let path = folder.path("board");
-    let mut board = Board::create(&path, 2).unwrap();
+    let mut board = boards::create(&path, 2).unwrap();
     board.submit_next(1, &[0; 8], &TICKET).unwrap();
     assert_eq!(board.turns_left(1), Ok(Needs { fewest: 0, most: 0 }));
     board.run(5).unwrap();
     drop(board);
-    let mut board = Board::open(&path).unwrap();
+    let mut board = boards::open(&path).unwrap();
     assert_eq!(board.turns_left(0), Ok(Needs { fewest: 0, most: 0 }));
     assert_eq!(board.turns_left(1), Ok(Needs { fewest: 14, most: 14 }));
     assert_eq!(board.turns_left(2), Err(Refusal(Cause::Worker)));

@@ -1,12 +1,13 @@
 //! Why there is no board.
 
-use crate::{image_len, Refusal, WORKERS};
+use crate::{image_len, Refusal, VERSION, WORKERS};
 use std::error::Error;
 use std::fmt;
 use std::io;
 use std::path::{Path, PathBuf};
 
-/// Why a board was not made or opened. Each says which file; one that was there is as it was.
+/// Why a board was not made or opened. Each says which file; one that was there is as it was, and none is there that was
+/// not, but where the text says that it could not be removed.
 #[derive(Debug)]
 #[non_exhaustive]
 pub enum BoardError {
@@ -45,6 +46,14 @@ pub enum BoardError {
         /// The workers asked for.
         asked: usize,
     },
+    /// Another version of the library is linked than the one that this crate was written for
+    /// ([`VERSION`]).
+    Version {
+        /// The file.
+        path: PathBuf,
+        /// The version of the library, as [`version`](crate::version) says it.
+        linked: u64,
+    },
     /// The engine refused: the recovery of a file with causes 10, 12 or 13, the formatting of a new one with 10.
     Refused {
         /// The file.
@@ -80,9 +89,23 @@ impl BoardError {
             | BoardError::InUse { path }
             | BoardError::Length { path, .. }
             | BoardError::Workers { path, .. }
+            | BoardError::Version { path, .. }
             | BoardError::Refused { path, .. } => path,
         }
     }
+}
+
+/// Whether this is the version that the crate was written for; else the error of a board that is not made or opened.
+pub(super) fn same_version(linked: u64, path: &Path) -> Result<(), BoardError> {
+    match linked == VERSION {
+        true => Ok(()),
+        false => Err(BoardError::Version { path: path.to_path_buf(), linked }),
+    }
+}
+
+/// A version as it is written: major, minor and patch.
+fn dotted(version: u64) -> String {
+    format!("{}.{}.{}", version / 1_000_000, version / 1_000 % 1_000, version % 1_000)
 }
 
 /// The lengths that a board can have, in bytes.
@@ -108,6 +131,12 @@ impl fmt::Display for BoardError {
             BoardError::Workers { found, asked, .. } => {
                 write!(f, "the board has {found} workers, and {asked} are asked for")
             }
+            BoardError::Version { linked, .. } => write!(
+                f,
+                "the library that is linked is {}, and this wrapper was written for {}; link that one",
+                dotted(*linked),
+                dotted(VERSION)
+            ),
             BoardError::Refused { refusal, .. } => write!(f, "{refusal}"),
         }
     }
@@ -120,5 +149,28 @@ impl Error for BoardError {
             BoardError::Refused { refusal, .. } => Some(refusal),
             _ => None,
         }
+    }
+}
+
+#[cfg(test)]
+mod tests {
+    use super::*;
+
+    #[test]
+    fn another_version_has_no_board() {
+        let path = Path::new("harbour.board");
+        assert!(same_version(crate::version(), path).is_ok());
+        for linked in [0, 7_000, VERSION - 1, VERSION + 1, 1_002_003, u64::MAX] {
+            let error = same_version(linked, path).unwrap_err();
+            assert!(matches!(error, BoardError::Version { linked: found, .. } if found == linked));
+            assert_eq!(error.path(), path);
+        }
+        let error = same_version(1_002_003, path).unwrap_err().to_string();
+        assert!(error.starts_with("harbour.board: the library that is linked is 1.2.3, and"), "{error}");
+    }
+
+    #[test]
+    fn the_version_is_the_package_s() {
+        assert_eq!(dotted(VERSION), env!("CARGO_PKG_VERSION"));
     }
 }

@@ -26,7 +26,7 @@ unsafe extern "C" {
 }
 
 /// The first words of a file, shared with it: a store is one to the file's own memory, and stands if the process is
-/// killed right after it.
+/// killed right after it. `Board` lends none of them to its callers.
 #[derive(Debug)]
 pub struct Mapping {
     words: NonNull<u64>,
@@ -39,8 +39,13 @@ unsafe impl Send for Mapping {}
 unsafe impl Sync for Mapping {}
 
 impl Mapping {
-    /// Maps `len` words of a file that has at least so many.
-    pub fn of(file: &File, len: usize) -> io::Result<Mapping> {
+    /// Maps `len` words of a file.
+    ///
+    /// # Safety
+    ///
+    /// The file has so many words, and up to the mapping's drop nothing but the mapping writes to it, and nothing
+    /// shortens it.
+    pub unsafe fn of(file: &File, len: usize) -> io::Result<Mapping> {
         let (bytes, access) = (8 * len, PROT_READ | PROT_WRITE);
         // SAFETY: a new mapping, at an address that the system chooses, touches nothing that there is.
         let at = unsafe { mmap(null_mut(), bytes, access, MAP_SHARED, file.as_raw_fd(), 0) };
@@ -51,8 +56,8 @@ impl Mapping {
     }
 
     pub fn words(&self) -> &[u64] {
-        // SAFETY: `len` words are mapped here until the drop, aligned to a page; any bytes are words. The lock on the
-        // file, which `Board` has, keeps other processes that ask for it from writing.
+        // SAFETY: `len` words are mapped here until the drop, aligned to a page; any bytes are words. Nobody else writes
+        // or shortens them: that was promised to `of`.
         unsafe { slice::from_raw_parts(self.words.as_ptr(), self.len) }
     }
 

@@ -7,7 +7,8 @@ mod mapping;
 pub use error::BoardError;
 
 use crate::{cell_index, image_len, owner_index, CELLS, LOCKS, WORKERS};
-use crate::{Cursors, Needs, Refusal, RefusedRun, Run, Standing, Turn};
+use crate::{Cursors, Needs, Record, Refusal, RefusedRun, Run, Standing, Turn};
+use error::same_version;
 use mapping::Mapping;
 use std::fs::File;
 use std::path::Path;
@@ -37,14 +38,16 @@ use std::path::Path;
 /// ];
 /// let args = [7, 20, 0, 0, 0, 0, 0, 0];
 ///
-/// let mut board = Board::create(&path, 2)?;
+/// // SAFETY: nobody else writes to this file or shortens it.
+/// let mut board = unsafe { Board::create(&path, 2) }?;
 /// let number = board.finished(1)? + 1;
 /// board.submit(1, number, &args, &section)?;
 /// board.run(20)?;
 /// assert_eq!(board.locks_held(), 2);
 /// drop(board); // or the process is killed, here or anywhere
 ///
-/// let mut board = Board::open(&path)?;
+/// // SAFETY: as above.
+/// let mut board = unsafe { Board::open(&path) }?;
 /// match board.standing(1, number)? {
 ///     Standing::NotBegun => board.submit(1, number, &args, &section)?,
 ///     Standing::Begun | Standing::Finished => {} // it is not submitted again
@@ -74,7 +77,22 @@ use std::path::Path;
 /// the other name; nobody reads it, and it may be removed. The folder's file system must have hard links.
 ///
 /// The lock is the system's advisory one on the file. It goes when the board is dropped and when its process ends, and
-/// it binds those who ask for it: while a board is open, no other program may write or shorten its file.
+/// it binds those who ask for it.
+///
+/// # Safety
+///
+/// The file is mapped, and no lock of the system keeps others from a plain write to it, which would change words under a
+/// call, or from shortening it, which ends the process at the next load or store. So [`create`](Board::create),
+/// [`open`](Board::open) and [`open_or_create`](Board::open_or_create) are `unsafe`, and their caller owes this: from the
+/// call on, until the board is dropped, nobody else writes to the file or shortens it, neither another process nor this
+/// one by another way. (Those who open a board by this crate or lock the file are kept away by the lock, and to read the
+/// file does no harm.) All else is safe to call: what is asked of a board is copied out, and nothing borrows from the
+/// mapping beyond a call.
+///
+/// ```compile_fail,E0133
+/// # #[allow(unused_variables)]
+/// let board = zilpanud::Board::open("harbour.board"); // not without `unsafe`
+/// ```
 ///
 /// # A board that an earlier version kept
 ///
@@ -91,30 +109,51 @@ pub struct Board {
     _locked: File,
 }
 
-/// Making and opening.
+/// Making and opening. All compare the linked library's version with the crate's first.
 impl Board {
     /// Makes a board of 1 to 8 workers, all cells 0. Refuses a path where there is a file already.
-    pub fn create(path: impl AsRef<Path>, workers: usize) -> Result<Board, BoardError> {
+    ///
+    /// # Safety
+    ///
+    /// Until the board is dropped, nobody else writes to its file or shortens it: see [`Board`](Board#safety).
+    pub unsafe fn create(path: impl AsRef<Path>, workers: usize) -> Result<Board, BoardError> {
         let path = path.as_ref();
+        same_version(crate::version(), path)?;
         let mut words = vec![0; image_len(workers.min(WORKERS))];
         crate::format(&mut words, workers).map_err(BoardError::refused(path))?;
-        Board::recovered(file::make(path, &words)?, path, workers)
+        // SAFETY: what the caller owes; the file was written with so many words.
+        let open = |file| unsafe { Board::recovered(file, path, workers) };
+        file::make(path, &words, open, file::sync_folder)
     }
 
-    /// Opens and recovers the board in a file. One that is no board, or whose recovery is refused, is left as it was.
-    pub fn open(path: impl AsRef<Path>) -> Result<Board, BoardError> {
+    /// Opens and recovers the board in a file. One that is no board, or whose recovery is refused, is left as it was. Holes
+    /// of the file are filled first, or the error says that the disk has no room for them.
+    ///
+    /// # Safety
+    ///
+    /// Until the board is dropped, nobody else writes to its file or shortens it: see [`Board`](Board#safety).
+    pub unsafe fn open(path: impl AsRef<Path>) -> Result<Board, BoardError> {
         let path = path.as_ref();
+        same_version(crate::version(), path)?;
         let file = file::open(path)?;
         let workers = file::workers(&file, path)?;
-        Board::recovered(file, path, workers)
+        file::fill_holes(&file, path, workers)?;
+        // SAFETY: what the caller owes; the file's length is that of so many workers.
+        unsafe { Board::recovered(file, path, workers) }
     }
 
     /// Opens and recovers the board in a file, or makes it if there is no file. A board that is there must have this
     /// number of workers.
-    pub fn open_or_create(path: impl AsRef<Path>, workers: usize) -> Result<Board, BoardError> {
+    ///
+    /// # Safety
+    ///
+    /// Until the board is dropped, nobody else writes to its file or shortens it: see [`Board`](Board#safety).
+    pub unsafe fn open_or_create(path: impl AsRef<Path>, workers: usize) -> Result<Board, BoardError> {
         let path = path.as_ref();
+        same_version(crate::version(), path)?;
         let file = match file::open(path) {
-            Err(error) if error.is_not_found() => match Board::create(path, workers) {
+            // SAFETY: what the caller owes.
+            Err(error) if error.is_not_found() => match unsafe { Board::create(path, workers) } {
                 // another process was quicker
                 Err(BoardError::Exists { .. }) => file::open(path)?,
                 made => return made,
@@ -125,12 +164,20 @@ impl Board {
         if found != workers {
             return Err(BoardError::Workers { path: path.to_path_buf(), found, asked: workers });
         }
-        Board::recovered(file, path, workers)
+        file::fill_holes(&file, path, workers)?;
+        // SAFETY: as in `open`.
+        unsafe { Board::recovered(file, path, workers) }
     }
 
-    /// The board of a file that is locked and as long as one of so many workers.
-    fn recovered(file: File, path: &Path, workers: usize) -> Result<Board, BoardError> {
-        let mapped = Mapping::of(&file, image_len(workers));
+    /// The board of a file that is locked.
+    ///
+    /// # Safety
+    ///
+    /// The file is as long as one of so many workers, and nobody else writes to it or shortens it until the board is
+    /// dropped.
+    unsafe fn recovered(file: File, path: &Path, workers: usize) -> Result<Board, BoardError> {
+        // SAFETY: what the caller owes.
+        let mapped = unsafe { Mapping::of(&file, image_len(workers)) };
         let mut image = mapped.map_err(BoardError::io("mapped", path))?;
         let cursors = crate::recover(image.words_mut()).map_err(BoardError::refused(path))?;
         Ok(Board { image, cursors, workers, _locked: file })
@@ -221,9 +268,14 @@ impl Board {
         crate::turns_left(self.image.words(), worker)
     }
 
-    /// The image, to look at: [`Place`](crate::Place) says what its words are for.
-    pub fn image(&self) -> &[u64] {
-        self.image.words()
+    /// A copy of the image, to look at: [`Place`](crate::Place) says what its words are for.
+    pub fn image(&self) -> Vec<u64> {
+        self.image.words().to_vec()
+    }
+
+    /// A copy of a worker's record, as the image has it.
+    pub fn record(&self, worker: usize) -> Result<Record, Refusal> {
+        Record::of(self.image.words(), worker)
     }
 
     /// Where all workers stand.
@@ -231,14 +283,14 @@ impl Board {
         &self.cursors
     }
 
-    /// The 512 cells.
-    pub fn cells(&self) -> &[u64] {
-        &self.image.words()[cell_index(0)..cell_index(CELLS)]
+    /// A copy of the 512 cells.
+    pub fn cells(&self) -> [u64; CELLS] {
+        std::array::from_fn(|cell| self.image.words()[cell_index(cell)])
     }
 
     /// The value of a cell, 0 to 511; none for another number.
     pub fn cell(&self, cell: usize) -> Option<u64> {
-        self.cells().get(cell).copied()
+        (cell < CELLS).then(|| self.image.words()[cell_index(cell)])
     }
 
     /// How many locks are held, by all workers together: for a screen that shows it after each turn. The cursors have
@@ -249,8 +301,7 @@ impl Board {
 
     /// The worker that has a lock, 0 to 63; none if it is free, and for another number.
     pub fn owner(&self, lock: usize) -> Option<usize> {
-        let owners = &self.image.words()[owner_index(0)..owner_index(LOCKS)];
-        let word = owners.get(lock)?;
+        let word = (lock < LOCKS).then(|| self.image.words()[owner_index(lock)])?;
         word.checked_sub(1).map(|worker| worker as usize)
     }
 }

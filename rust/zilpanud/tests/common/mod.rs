@@ -2,6 +2,7 @@
 
 #![allow(dead_code)]
 
+pub mod boards;
 pub mod frames;
 pub mod held;
 pub mod says;
