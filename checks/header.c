@@ -83,7 +83,7 @@ static void texts_differ(void)
         const char *const text = zilpanud_text(known[i]);
         ensure(strlen(text) > 0 && strcspn(text, "\n") == strlen(text), "an answer has a text of one line");
         ensure(strcmp(text, unknown) != 0, "an answer is known");
-        ensure(known[i] == (i < 15 ? i : i + 1), "answers are 0 to 14 and 16 to 20");
+        ensure(known[i] == (i < 15 ? i : i - 15 + ZILPANUD_OTHER_ANSWERS), "answers are 0 to 14 and 32 to 36");
         for (size_t j = 0; j < i; j++) {
             ensure(strcmp(text, zilpanud_text(known[j])) != 0, "no two answers have one text");
         }

@@ -42,10 +42,13 @@
  *
  * 8000 answers and stores as 7000 did, and adds zilpanud_day_sums. Its program board plays frame lines of kind 04,
  * which that of 7000 called malformed.
+ *
+ * 9000 stores as 8000 did. The answers of turns and runs that are no causes are 32 to 36; they were 16 to 20, among
+ * numbers that the papers have for causes.
  */
 
-#define ZILPANUD_VERSION 8000
-#define ZILPANUD_VERSION_TEXT "0.8.0"
+#define ZILPANUD_VERSION 9000
+#define ZILPANUD_VERSION_TEXT "0.9.0"
 
 /* ---- sizes */
 
@@ -99,7 +102,11 @@
 /* the word number of own word i, 0 to 7 */
 #define ZILPANUD_OWN(i) (512 + (i))
 
-/* ---- what a call returns: done, the cause of a refusal, or another answer; zilpanud_text() has a line for each */
+/* ---- what a call returns: done, the cause of a refusal, or another answer; zilpanud_text() has a line for each
+ *
+ * A cause is below ZILPANUD_OTHER_ANSWERS, and every other answer but 0 is not. zilpanud_turn and zilpanud_run alone
+ * have such answers: a turn returns one or a cause, a run 0, spent or a cause. All other calls return 0 or a cause.
+ */
 
 #define ZILPANUD_DONE 0            /* formatted, passed the check, sets or turns given, taken, recovered, all idle; a
                                       question answered; a day read to its end */
@@ -127,13 +134,14 @@
 #define ZILPANUD_LINE 14           /* day_sums: a frame line is malformed. detail: which, from 1. The program board
                                       prints it for such a line */
 
-#define ZILPANUD_STORED 16         /* turn: one word was stored. detail: its index */
-#define ZILPANUD_PASSED 17         /* turn: there was nothing to store. detail: why, as below */
-#define ZILPANUD_WAITING 18        /* turn: the lock is another's. detail: the lock */
-#define ZILPANUD_IDLE_WORKER 19    /* turn: the worker is idle */
-#define ZILPANUD_SPENT 20          /* run: the rounds are over and a worker is not idle */
+#define ZILPANUD_OTHER_ANSWERS 32
+#define ZILPANUD_STORED 32         /* turn: one word was stored. detail: its index */
+#define ZILPANUD_PASSED 33         /* turn: there was nothing to store. detail: why, as below */
+#define ZILPANUD_WAITING 34        /* turn: the lock is another's. detail: the lock */
+#define ZILPANUD_IDLE_WORKER 35    /* turn: the worker is idle */
+#define ZILPANUD_SPENT 36          /* run: the rounds are over and a worker is not idle */
 
-/* Why a turn passed: the detail of 17. Where only this library changes the image, a release passes only where a
+/* Why a turn passed: the detail of 33. Where only this library changes the image, a release passes only where a
  * recovery resumed it: its lock was freed before that or by it, and another worker may have it by now. */
 #define ZILPANUD_PASSED_JUMP 0            /* a jump, which never stores */
 #define ZILPANUD_PASSED_ALREADY_FREE 1    /* a release that found its lock's owner word 0 */
@@ -278,12 +286,12 @@ uint64_t zilpanud_turns_of_path(const uint64_t *words, size_t words_len, const u
 uint64_t zilpanud_turns_from(const uint64_t *words, size_t words_len, uint64_t step, uint64_t *fewest, uint64_t *most,
                              uint64_t *detail);
 
-/* One turn of a worker, with at most one store: 16 to 19, or 10, 1, 11. A release that frees its lock answers 16; one
- * that finds it already free or another's leaves it so and answers 17, and detail says which. */
+/* One turn of a worker, with at most one store: 32 to 35, or 10, 1, 11. A release that frees its lock answers 32; one
+ * that finds it already free or another's leaves it so and answers 33, and detail says which. */
 uint64_t zilpanud_turn(uint64_t *image, size_t image_words, uint8_t *step, uint8_t *turn, uint64_t *held,
                        size_t worker, uint64_t *left, uint64_t *detail);
 
-/* Rounds of turns until all workers are idle: 0, 20, or 10, 11. tally: what this run counts, by ZILPANUD_TALLY_TURNS to
+/* Rounds of turns until all workers are idle: 0, 36, or 10, 11. tally: what this run counts, by ZILPANUD_TALLY_TURNS to
  * ZILPANUD_TALLY_OTHERS. 384 rounds for each worker of the image end any sections; more cost nothing, since a run stops
  * where all are idle. */
 uint64_t zilpanud_run(uint64_t *image, size_t image_words, uint8_t *step, uint8_t *turn, uint64_t *held,

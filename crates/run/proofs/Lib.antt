@@ -1,3 +1,4 @@
+pub mod Apart
 pub mod Idling
 pub mod Rounds
 pub mod Next

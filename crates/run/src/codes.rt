@@ -3,12 +3,15 @@ use crate::End;
 ghost use mathlib.Core.Path.{_≡_};
 ghost use Rattle.run.specs.Codes.{endCode, endDetail};
 
+// Ours, behind those of a turn's answers.
+const SPENT: u64 = 36;
+
 pub fn end_code(e: End) -> u64
     ensures { λ n. ⌜ n ≡ endCode e ⌝ }
 {
     match e {
         End::AllIdle => 0,
-        End::Spent => 20,
+        End::Spent => SPENT,
         End::Halted(r) => working::cause(r),
     }
 }

@@ -2,3 +2,4 @@ pub mod Turns
 pub mod Holding
 pub mod Ready
 pub mod Counting
+pub mod Apart

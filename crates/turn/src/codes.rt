@@ -4,14 +4,23 @@ use log::Passing;
 ghost use mathlib.Core.Path.{_≡_};
 ghost use Rattle.turn.specs.Codes.{turnCode, passingOf, turnDetail};
 
+// Ours, from 32 up: the papers' causes are below.
+const STORED: u64 = 32;
+
+const PASSED: u64 = 33;
+
+const WAITING: u64 = 34;
+
+const IDLE: u64 = 35;
+
 pub fn turn_code(a: Answer) -> u64
     ensures { λ n. ⌜ n ≡ turnCode a ⌝ }
 {
     match a {
-        Answer::Stored(_) => 16,
-        Answer::Passed(_) => 17,
-        Answer::Waiting(_) => 18,
-        Answer::Idle => 19,
+        Answer::Stored(_) => STORED,
+        Answer::Passed(_) => PASSED,
+        Answer::Waiting(_) => WAITING,
+        Answer::Idle => IDLE,
         Answer::Refused(r) => working::cause(r),
     }
 }

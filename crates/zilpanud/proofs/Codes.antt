@@ -1,13 +1,11 @@
--- What the numbers say: a turn's answer is read back from its code and its detail, a refusal is told from any other answer, and 0
--- is returned where the call is done and nowhere else.
-use Prim.Native.Nat.{ℕ, zero, suc, _+_, _<_}
+-- What the numbers say: a turn's answer is read back from its code and its detail, and 0 is returned where the call is done and nowhere
+-- else. That a refusal is told from any other answer is in Apart.antt.
+use Prim.Native.Nat.{ℕ, zero, suc, _+_}
 use mathlib.Core.Path.{_≡_, refl, _∙_}
 use mathlib.Core.Bool.{Bool, true, false, cond, true≢false}
 use mathlib.Core.List.{List}
-use native.Mathlib.Omega.{arith}
 use lib.ListN.{length}
 use lib.Dec.{eqb, ltb}
-use borrow.Author.Tests.{lt-ltb}
 use Rattle.image.specs.declared.Field.the-variants.{Finished}
 use Rattle.image.specs.Place.{Place, lock, field, Memory}
 use Rattle.image.specs.Image.{Image, at, workers, headerOk}
@@ -18,8 +16,7 @@ use Rattle.section.specs.declared.Verdict.the-variants.{Pass, Length, Malformed
 use Rattle.code.specs.Op.{opOf}
 use Rattle.section.specs.Check.{codeOf, check, passes, causeOf as checkCause}
 use Rattle.tally.specs.Tally.{none}
-use Rattle.working.specs.declared.Refusal.{Refusal}
-use Rattle.working.specs.declared.Refusal.the-variants.{Worker, Busy, Number, Section, Image as ImageRefused, Cursor as CursorRefused}
+use Rattle.working.specs.declared.Refusal.the-variants.{Image as ImageRefused}
 use Rattle.turn.specs.declared.Answer.{Answer}
 use Rattle.log.specs.declared.Passing.{Passing}
 use Rattle.log.specs.declared.Passing.the-variants.{Jump as PassedJump, AlreadyFree, Others}
@@ -44,7 +41,7 @@ use Rattle.formatting.specs.Codes.{formatCode}
 use Rattle.intake.specs.Codes.{submitCode}
 use Rattle.intake.proofs.Submission.{verdict-taken}
 use Rattle.intake.proofs.Split.{verdict-cause}
-use Rattle.turn.specs.Codes.{turnCode, turnDetail}
+use Rattle.turn.specs.Codes.{storedNo, passedNo, waitingNo, turnCode, turnDetail}
 use Rattle.run.specs.Codes.{endCode}
 use Rattle.soundness.specs.declared.Refusal.the-variants.{Image as NotAnImage, Record, Lock}
 use Rattle.soundness.specs.declared.Answer.{Answer as Recovery}
@@ -55,39 +52,13 @@ use Rattle.zilpanud.specs.Lent.{formatting, submitting, running}
 
 -- ---- turns
 
--- a cause is below 16
-private-section : (v : Verdict) → checkCause v < 16
-private-section Pass = omega arith
-private-section Length = omega arith
-private-section (Malformed i) = omega arith
-private-section (Unbracketed i) = omega arith
-private-section (Unordered i) = omega arith
-private-section (Unguarded i) = omega arith
-private-section (Unlevel i) = omega arith
-
-pub cause-below : (r : Refusal) → causeOf r < 16
-cause-below Worker = omega arith
-cause-below Busy = omega arith
-cause-below Number = omega arith
-cause-below (Section v) = private-section v
-cause-below ImageRefused = omega arith
-cause-below (CursorRefused d) = omega arith
-
--- so a refusal is told by it
-pub turn-refused : (a : Answer) → isRefused a ≡ ltb (turnCode a) 16
-turn-refused (Stored i) = refl
-turn-refused (Passed why) = refl
-turn-refused (Waiting b) = refl
-turn-refused Idle = refl
-turn-refused (Refused r) = rw (lt-ltb (causeOf r) 16 (cause-below r))
-
 -- why a turn passed, with this detail
 abbrev pub passRead : ℕ → Passing
 passRead v = cond (eqb v 0) PassedJump (cond (eqb v 1) AlreadyFree Others)
 
 -- the answer with this code and detail, where it is no refusal
 unfoldable pub turnRead : ℕ → ℕ → Answer
-turnRead k v = cond (eqb k 16) (Stored v) (cond (eqb k 17) (Passed (passRead v)) (cond (eqb k 18) (Waiting v) Idle))
+turnRead k v = cond (eqb k storedNo) (Stored v) (cond (eqb k passedNo) (Passed (passRead v)) (cond (eqb k waitingNo) (Waiting v) Idle))
 
 pub turn-read : (a : Answer) → isRefused a ≡ false → turnRead (turnCode a) (turnDetail a) ≡ a
 unfolding turnRead

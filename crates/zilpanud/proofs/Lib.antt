@@ -1,3 +1,4 @@
+pub mod Apart
 pub mod Asked
 pub mod Codes
 pub mod Counts

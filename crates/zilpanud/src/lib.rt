@@ -1,6 +1,7 @@
 // What C and Rust link: the engine's entry points, four questions about a worker, the turns that a section needs, the count of the locks held and the sums of
-// a day, over slices, arrays and numbers. An answer crosses as a number and a detail (`codes` of the crates that answer, `cause` and `step` of section); the
-// working record as two arrays, a step and a turn for each worker, and the mask of the locks held.
+// a day, over slices, arrays and numbers. An answer crosses as a number and a detail (`codes` of the crates that answer, `cause` and `step` of section): 0, a
+// cause, which is below 32, or another answer of a turn or a run, which is not (proofs/Apart.antt). The working record crosses
+// as two arrays, a step and a turn for each worker, and the mask of the locks held.
 mod answers;
 mod cursors;
 
@@ -144,7 +145,7 @@ pub extern "C" fn zilpanud_submit(
     intake::codes::submit_code(a)
 }
 
-// One turn of a worker: 16 stored, with the index, 17 passed, 18 waiting, with the lock, 19 idle; or 10, 1, 11 with the worker.
+// One turn of a worker: 32 stored, with the index, 33 passed, with why, 34 waiting, with the lock, 35 idle; or 10, 1, 11 with the worker.
 #[no_mangle]
 pub extern "C" fn zilpanud_turn(
     image: &mut [u64],
@@ -171,7 +172,7 @@ pub extern "C" fn zilpanud_turn(
     turn::codes::turn_code(a)
 }
 
-// Rounds of turns until all workers are idle: 0, 20 spent; or 10, 11 with the worker. The tally: turns, waits, stores, and the
+// Rounds of turns until all workers are idle: 0, 36 spent; or 10, 11 with the worker. The tally: turns, waits, stores, and the
 // releases that found their lock already free, and another's.
 #[no_mangle]
 pub extern "C" fn zilpanud_run(
@@ -330,5 +331,5 @@ pub extern "C" fn zilpanud_day_sums(
 pub extern "C" fn zilpanud_version() -> u64
     ensures { λ r. ⌜ r ≡ version ⌝ }
 {
-    8_000
+    9_000
 }

@@ -204,7 +204,7 @@ impl Asking {
             Call::Submit { worker, number, args, section } if accepted => {
                 follow.taken(*worker, *number, *args, section);
             }
-            Call::Turn { worker } if given.answer >= 16 => {
+            Call::Turn { worker } if given.answer >= call::STORED => {
                 follow.turn(*worker, (given.answer, given.detail), lent.left > 0, mine)?;
             }
             Call::Run { rounds } => {

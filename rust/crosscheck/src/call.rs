@@ -36,6 +36,12 @@ impl Call {
     }
 }
 
+pub const STORED: u64 = 32;
+pub const PASSED: u64 = 33;
+pub const WAITING: u64 = 34;
+pub const IDLE: u64 = 35;
+pub const SPENT: u64 = 36;
+
 /// What a call is lent beside the image, and what it leaves there.
 #[derive(Clone, Copy, PartialEq, Eq, Debug)]
 pub struct Lent {
@@ -47,7 +53,7 @@ pub struct Lent {
 }
 
 /// All that a call gives, but the image. Answers have the numbers of the exported functions: 0 done, 1 to 13 the
-/// causes, 16 to 20 the other answers; `detail` is what goes with it, or what a question answers.
+/// causes, 32 to 36 the other answers; `detail` is what goes with it, or what a question answers.
 #[derive(Clone, Copy, PartialEq, Eq, Debug)]
 pub struct Given {
     pub answer: u64,
@@ -67,12 +73,12 @@ fn of_ours<T>(result: Result<T, zilpanud::Refusal>, told: impl Fn(T) -> (u64, u6
 
 pub fn told_turn(answer: Turn) -> (u64, u64) {
     match answer {
-        Turn::Stored(index) => (16, index as u64),
-        Turn::Passed(Passing::Jump) => (17, 0),
-        Turn::Passed(Passing::AlreadyFree) => (17, 1),
-        Turn::Passed(Passing::Others) => (17, 2),
-        Turn::Waiting(lock) => (18, lock as u64),
-        Turn::Idle => (19, 0),
+        Turn::Stored(index) => (STORED, index as u64),
+        Turn::Passed(Passing::Jump) => (PASSED, 0),
+        Turn::Passed(Passing::AlreadyFree) => (PASSED, 1),
+        Turn::Passed(Passing::Others) => (PASSED, 2),
+        Turn::Waiting(lock) => (WAITING, lock as u64),
+        Turn::Idle => (IDLE, 0),
     }
 }
 
@@ -93,7 +99,7 @@ pub fn ours(call: &Call, image: &mut [u64], lent: Lent) -> Given {
         Call::Run { rounds } => {
             let run = cut::run(image, &mut at, *rounds, &mut left);
             tally = run.map_or_else(|no| no.tally, |run| run.tally);
-            of_ours(run.map_err(|no| no.refusal), |run| (if run.end == End::Spent { 20 } else { 0 }, 0))
+            of_ours(run.map_err(|no| no.refusal), |run| (if run.end == End::Spent { SPENT } else { 0 }, 0))
         }
         Call::Recover => of_ours(cut::recover(image, &mut at, &mut left), done),
         Call::IsIdle { worker } => of_ours(zilpanud::is_idle(image, &at, *worker), |idle| (0, idle as u64)),
@@ -145,7 +151,7 @@ fn twin_told(
         Call::Turn { worker } => {
             let (answer, after) = twin::turn(image, at, *worker as u64, left);
             let told = answer.map_or_else(refused, told_desk);
-            (told, after, (told.0 == 16) as u64)
+            (told, after, (told.0 == STORED) as u64)
         }
         Call::Run { rounds } => {
             let (end, after) = twin::run(image, at, *rounds, left, tally);
@@ -180,18 +186,18 @@ pub fn twins(call: &Call, image: &mut [u64], lent: Lent) -> Given {
 fn told_end(end: twin::End) -> (u64, u64) {
     match end {
         twin::End::Idle => (0, 0),
-        twin::End::Spent => (20, 0),
+        twin::End::Spent => (SPENT, 0),
     }
 }
 
 fn told_desk(answer: twin::Answer) -> (u64, u64) {
     match answer {
-        twin::Answer::Stored(index) => (16, index as u64),
-        twin::Answer::Passed(twin::Passing::Jump) => (17, 0),
-        twin::Answer::Passed(twin::Passing::AlreadyFree) => (17, 1),
-        twin::Answer::Passed(twin::Passing::Others) => (17, 2),
-        twin::Answer::Waiting(bay) => (18, bay as u64),
-        twin::Answer::Idle => (19, 0),
+        twin::Answer::Stored(index) => (STORED, index as u64),
+        twin::Answer::Passed(twin::Passing::Jump) => (PASSED, 0),
+        twin::Answer::Passed(twin::Passing::AlreadyFree) => (PASSED, 1),
+        twin::Answer::Passed(twin::Passing::Others) => (PASSED, 2),
+        twin::Answer::Waiting(bay) => (WAITING, bay as u64),
+        twin::Answer::Idle => (IDLE, 0),
     }
 }
 

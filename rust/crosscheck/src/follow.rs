@@ -11,7 +11,7 @@
 //! what the last one left and a cut is followed by a recovery. The machine starts with the cells that there are then.
 //! Runs are made once more by single turns of the library, since their tally does not say whose they are.
 
-use crate::call::{told_turn, Given, Lent};
+use crate::call::{told_turn, Given, Lent, PASSED, STORED, WAITING};
 use crate::rest::finished_numbers;
 use crate::totals::{self, ENDS};
 use crate::turns::left_by_library;
@@ -235,10 +235,10 @@ impl Follow {
         image: &[u64],
     ) -> Result<(), Failure> {
         if let Some(section) = &mut self.sections[worker] {
-            section.moved += matches!(answer, 16 | 17) as u64;
-            section.waited += (answer == 18) as u64;
+            section.moved += matches!(answer, STORED | PASSED) as u64;
+            section.waited += (answer == WAITING) as u64;
         }
-        if answer == 16 && made {
+        if answer == STORED && made {
             return self.stored(worker, detail as usize, image);
         }
         Ok(())
@@ -265,8 +265,8 @@ impl Follow {
                 let answer = cut::turn(image, &mut at, worker, &mut left);
                 let told = answer.map(told_turn).map_err(|no| format!("a turn of a run: {no}"))?;
                 turns += 1;
-                waits += (told.0 == 18) as u64;
-                if told.0 == 16 && !made {
+                waits += (told.0 == WAITING) as u64;
+                if told.0 == STORED && !made {
                     return Ok(true); // nothing that comes now is stored
                 }
                 self.turn(worker, told, made, image)?;

@@ -282,7 +282,8 @@ impl Play<'_> {
         let images = (&mut self.mine[..], &mut self.other[..]);
         let given = both(call, images, self.lent, &mut self.met.verdicts)?;
         // with none left one cannot tell whether a store was wanted: taken for a cut where the call stores at all
-        let stores = matches!(given.answer, 0 | 16 | 20) && call.sort() < 6 && call.sort() != 1;
+        let stores =
+            matches!(given.answer, 0 | call::STORED | call::SPENT) && call.sort() < 6 && call.sort() != 1;
         self.was_cut = stores && before != u64::MAX && given.lent.left == 0;
         self.met.call(call, &given, self.was_cut, kind);
         self.met.kept_numbers += (given.answer == 3 && self.by_a_kept_number(call)) as u64;

@@ -1,6 +1,6 @@
 //! What was tried: counts, so that one sees that nothing is missing.
 
-use crate::call::{Call, Given, SORTS};
+use crate::call::{Call, Given, IDLE, PASSED, SORTS, SPENT, STORED, WAITING};
 use crate::counts::Counts;
 use crate::damage::DAMAGES;
 use crate::day_counts::DayCounts;
@@ -8,15 +8,21 @@ use crate::passes::Pass;
 use crate::verdicts::Verdicts;
 
 /// The answers' numbers, by column of the table.
-const ANSWERS: [u64; 19] = [0, 1, 2, 3, 4, 5, 6, 7, 8, 9, 10, 11, 12, 13, 16, 17, 18, 19, 20];
+const ANSWERS: [u64; 19] =
+    [0, 1, 2, 3, 4, 5, 6, 7, 8, 9, 10, 11, 12, 13, STORED, PASSED, WAITING, IDLE, SPENT];
+
+/// The column of an answer that both gave.
+fn column(answer: u64) -> usize {
+    ANSWERS.iter().position(|&one| one == answer).expect("an answer of the papers, or one of ours")
+}
 
 /// The answers that each sort of call can have, by document 01.
 const POSSIBLE: [&[u64]; 9] = [
     &[0, 10],
     &[0, 4, 5, 6, 7, 8, 9],
     &[0, 1, 2, 3, 4, 5, 6, 7, 8, 9, 10],
-    &[1, 10, 11, 16, 17, 18, 19],
-    &[0, 10, 11, 20],
+    &[1, 10, 11, STORED, PASSED, WAITING, IDLE],
+    &[0, 10, 11, SPENT],
     &[0, 10, 12, 13],
     &[0, 1, 10],
     &[0, 1, 10],
@@ -33,8 +39,8 @@ const SETS_GIVEN: [usize; 5] = [0, 6, 7, 8, 9];
 #[derive(Default)]
 pub struct Met {
     pub lists: u64,
-    /// Calls by sort and answer.
-    calls: [[u64; 21]; 9],
+    /// Calls by sort and column of the answer.
+    calls: [[u64; ANSWERS.len()]; 9],
     /// Calls that were given fewer stores than they make, by sort.
     cut: [u64; 9],
     /// Calls that were tried with every number of stores from 0 to all that they make, and these tries.
@@ -71,17 +77,17 @@ pub struct Met {
 
 impl Met {
     pub fn call(&mut self, call: &Call, given: &Given, cut: bool, kind: u64) {
-        self.calls[call.sort()][given.answer as usize] += 1;
+        self.calls[call.sort()][column(given.answer)] += 1;
         self.cut[call.sort()] += cut as u64;
         if matches!(call, Call::Standing { .. }) && given.answer == 0 {
             self.standings[given.detail as usize] += 1;
         }
-        if matches!(call, Call::Turn { .. }) && given.answer == 17 {
+        if matches!(call, Call::Turn { .. }) && given.answer == PASSED {
             self.passed[given.detail as usize] += 1;
         }
         self.counted[0] += given.tally.already_free;
         self.counted[1] += given.tally.others;
-        let turned = matches!(call, Call::Turn { .. }) && (16..19).contains(&given.answer);
+        let turned = matches!(call, Call::Turn { .. }) && (STORED..IDLE).contains(&given.answer);
         if turned && kind < 9 {
             self.kinds[kind as usize] += 1;
         }
@@ -107,7 +113,7 @@ impl Met {
         let mut lines = vec![];
         for (sort, answers) in POSSIBLE.iter().enumerate() {
             for &answer in answers.iter() {
-                if self.calls[sort][answer as usize] == 0 {
+                if self.calls[sort][column(answer)] == 0 {
                     lines.push(format!("{} never answered {answer}", SORTS[sort]));
                 }
             }
@@ -149,7 +155,7 @@ impl Met {
             print!("{answer:>9}");
             for (calls, possible) in self.calls.iter().zip(POSSIBLE) {
                 match possible.contains(&answer) {
-                    true => print!(" {:>9}", calls[answer as usize]),
+                    true => print!(" {:>9}", calls[column(answer)]),
                     false => print!(" {:>9}", "-"),
                 }
             }
@@ -163,10 +169,10 @@ impl Met {
     pub fn report(&self) {
         let calls: u64 = self.calls.iter().flatten().sum();
         println!(
-            "{} lists, {calls} calls by sort and answer (0 done, 1 to 13 causes, 16 stored, 17 passed,",
+            "{} lists, {calls} calls by sort and answer (0 done, 1 to 13 causes, 32 stored, 33 passed,",
             self.lists
         );
-        println!("18 waiting, 19 idle, 20 spent; '-' is an answer that the call does not have):");
+        println!("34 waiting, 35 idle, 36 spent; '-' is an answer that the call does not have):");
         self.answers();
         println!("{} calls with every number of stores from 0 to all: {} tries", self.swept, self.sweeps);
         let (odd_cursors, odd_masks) = (self.odd_cursors, self.odd_masks);

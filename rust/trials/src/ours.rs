@@ -85,6 +85,13 @@ fn no(Refusal(cause): Refusal) -> No {
     No { cause: cause.number(), at: cause.detail().unwrap_or(0) }
 }
 
+// The answers that are no causes, as the header has them.
+const STORED: u64 = 32;
+const PASSED: u64 = 33;
+const WAITING: u64 = 34;
+const IDLE: u64 = 35;
+const SPENT: u64 = 36;
+
 /// An answer that is done, with no detail, or refuses.
 fn done(answer: u64, detail: u64) -> Result<(), No> {
     match (answer, detail) {
@@ -95,12 +102,12 @@ fn done(answer: u64, detail: u64) -> Result<(), No> {
 
 fn turned(answer: u64, detail: u64) -> Result<Turn, No> {
     match (answer, detail) {
-        (16, index) => Ok(Turn::Stored(index as usize)),
-        (17, 0) => Ok(Turn::Passed(Passing::Jump)),
-        (17, 1) => Ok(Turn::Passed(Passing::AlreadyFree)),
-        (17, 2) => Ok(Turn::Passed(Passing::Others)),
-        (18, lock) => Ok(Turn::Waiting(lock as usize)),
-        (19, 0) => Ok(Turn::Idle),
+        (STORED, index) => Ok(Turn::Stored(index as usize)),
+        (PASSED, 0) => Ok(Turn::Passed(Passing::Jump)),
+        (PASSED, 1) => Ok(Turn::Passed(Passing::AlreadyFree)),
+        (PASSED, 2) => Ok(Turn::Passed(Passing::Others)),
+        (WAITING, lock) => Ok(Turn::Waiting(lock as usize)),
+        (IDLE, 0) => Ok(Turn::Idle),
         (cause, at) => Err(No { cause, at }),
     }
 }
@@ -108,7 +115,7 @@ fn turned(answer: u64, detail: u64) -> Result<Turn, No> {
 fn ended(answer: u64, detail: u64) -> Result<End, No> {
     match (answer, detail) {
         (0, 0) => Ok(End::AllIdle),
-        (20, 0) => Ok(End::Spent),
+        (SPENT, 0) => Ok(End::Spent),
         (cause, at) => Err(No { cause, at }),
     }
 }

@@ -83,15 +83,22 @@ pub fn submit(
     done(answer, detail)
 }
 
+// The answers that are no causes, which are all below them.
+const STORED: u64 = 32;
+const PASSED: u64 = 33;
+const WAITING: u64 = 34;
+const IDLE: u64 = 35;
+const SPENT: u64 = 36;
+
 /// What the two numbers of a turn say.
 fn turned(answer: u64, detail: u64) -> Result<Turn, Refusal> {
     match (answer, detail) {
-        (16, index) => Ok(Turn::Stored(index as usize)),
-        (17, 0) => Ok(Turn::Passed(Passing::Jump)),
-        (17, 1) => Ok(Turn::Passed(Passing::AlreadyFree)),
-        (17, 2) => Ok(Turn::Passed(Passing::Others)),
-        (18, lock) => Ok(Turn::Waiting(lock as usize)),
-        (19, _) => Ok(Turn::Idle),
+        (STORED, index) => Ok(Turn::Stored(index as usize)),
+        (PASSED, 0) => Ok(Turn::Passed(Passing::Jump)),
+        (PASSED, 1) => Ok(Turn::Passed(Passing::AlreadyFree)),
+        (PASSED, 2) => Ok(Turn::Passed(Passing::Others)),
+        (WAITING, lock) => Ok(Turn::Waiting(lock as usize)),
+        (IDLE, _) => Ok(Turn::Idle),
         _ => Err(Refusal::of(answer, detail)),
     }
 }
@@ -124,7 +131,7 @@ pub fn run(image: &mut [u64], cursors: &mut Cursors, rounds: u16, left: &mut u64
     let tally = Tally { turns, waits, stores, already_free, others };
     match answer {
         0 => Ok(Run { end: End::AllIdle, tally }),
-        20 => Ok(Run { end: End::Spent, tally }),
+        SPENT => Ok(Run { end: End::Spent, tally }),
         _ => Err(RefusedRun { refusal: Refusal::of(answer, detail), tally }),
     }
 }
@@ -147,7 +154,7 @@ mod tests {
     #[test]
     fn a_turn_that_passed_for_no_known_reason_is_unknown() {
         for detail in [3, 4, 1 << 32, u64::MAX] {
-            assert_eq!(turned(17, detail), Err(Refusal(Cause::Unknown { answer: 17 })));
+            assert_eq!(turned(PASSED, detail), Err(Refusal(Cause::Unknown { answer: PASSED })));
         }
     }
 }

@@ -175,7 +175,7 @@ mod tests {
 
     #[test]
     fn other_answers_are_unexplained() {
-        for answer in (1..=3).chain(10..=20).chain([u64::MAX]) {
+        for answer in (1..=3).chain(10..=36).chain([u64::MAX]) {
             unexplained(answer, 1, &PASSING);
             unexplained(answer, 0, &[]);
         }

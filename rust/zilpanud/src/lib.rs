@@ -125,7 +125,7 @@ pub const LOCKS: usize = 64;
 pub const STEPS: usize = 64;
 
 /// The version of the library that this crate was written for, as [`version`] says it.
-pub const VERSION: u64 = 8_000;
+pub const VERSION: u64 = 9_000;
 
 /// The version of the library that is linked: 1,000,000 × major + 1,000 × minor + patch.
 pub fn version() -> u64 {

@@ -63,7 +63,7 @@ pub enum Cause {
     /// version of it is linked ([`version`](crate::version)) than the one that this crate was written for
     /// ([`VERSION`](crate::VERSION)), and what the call did is not known.
     Unknown {
-        /// The number that the library gave; 17 of a turn that passed for none of the reasons of
+        /// The number that the library gave; 33 of a turn that passed for none of the reasons of
         /// [`Passing`](crate::Passing).
         answer: u64,
     },
@@ -233,7 +233,7 @@ mod tests {
 
     #[test]
     fn a_number_of_no_cause_is_unknown() {
-        for answer in [0, 14, 15, 16, 17, 20, u64::MAX] {
+        for answer in [0, 14, 15, 19, 32, 33, 36, u64::MAX] {
             let Refusal(cause) = Refusal::of(answer, 3);
             assert_eq!((cause, cause.number(), cause.detail()), (Cause::Unknown { answer }, answer, None));
         }
