@@ -137,7 +137,7 @@
 #define ZILPANUD_OTHER_ANSWERS 32
 #define ZILPANUD_STORED 32         /* turn: one word was stored. detail: its index */
 #define ZILPANUD_PASSED 33         /* turn: there was nothing to store. detail: why, as below */
-#define ZILPANUD_WAITING 34        /* turn: the lock is another's. detail: the lock */
+#define ZILPANUD_WAITING 34        /* turn: the lock's owner word is not 0. detail: the lock */
 #define ZILPANUD_IDLE_WORKER 35    /* turn: the worker is idle */
 #define ZILPANUD_SPENT 36          /* run: the rounds are over and a worker is not idle */
 
@@ -182,7 +182,7 @@ static inline const char *zilpanud_text(uint64_t answer)
     case ZILPANUD_LINE: return "the frame line is malformed";
     case ZILPANUD_STORED: return "one word was stored";
     case ZILPANUD_PASSED: return "the turn had nothing to store";
-    case ZILPANUD_WAITING: return "the worker waits for a lock that another has";
+    case ZILPANUD_WAITING: return "the worker waits for a lock that is not free";
     case ZILPANUD_IDLE_WORKER: return "the worker is idle";
     case ZILPANUD_SPENT: return "the rounds are over and a worker is not idle";
     default: return "no answer of this version";
@@ -258,8 +258,8 @@ uint64_t zilpanud_submit(uint64_t *image, size_t image_words, uint8_t *step, uin
                          uint64_t *left, uint64_t *detail);
 
 /* Which locks are held before each step of a section: 0, or 4, 5. Causes 6 to 9 are not asked, so that one sees the
- * sets of a section that the check refuses with them. It is one pass, and the very one in which the check looks up the
- * step that a jump names, and a recovery the one that a pc does.
+ * sets of a section that the check refuses with them. It is one pass. In its sets a recovery looks up the step that a pc
+ * names, and the check the one that a jump names, unless it finds before that no jump goes past an acquire or a release.
  * sets: only written, and always. Word i is the held set before step i: a mask, in which bit b is set if lock b is held
  * there. It goes by the order of the steps, as if no jump were made: before step 0 none is held, an acquire sets its
  * lock's bit, and a release clears it. Words from the number of steps up are 0; where the call is refused, all are. */
@@ -292,8 +292,8 @@ uint64_t zilpanud_turn(uint64_t *image, size_t image_words, uint8_t *step, uint8
                        size_t worker, uint64_t *left, uint64_t *detail);
 
 /* Rounds of turns until all workers are idle: 0, 36, or 10, 11. tally: what this run counts, by ZILPANUD_TALLY_TURNS to
- * ZILPANUD_TALLY_OTHERS. 384 rounds for each worker of the image end any sections; more cost nothing, since a run stops
- * where all are idle. */
+ * ZILPANUD_TALLY_OTHERS. 384 rounds for each worker leave all idle on an image that these calls alone have changed since
+ * one formatting, with a recovery after each cut; more cost nothing, since a run stops where all are idle. */
 uint64_t zilpanud_run(uint64_t *image, size_t image_words, uint8_t *step, uint8_t *turn, uint64_t *held,
                       uint16_t rounds, uint64_t *tally, uint64_t *left, uint64_t *detail);
 

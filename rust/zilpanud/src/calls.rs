@@ -56,8 +56,9 @@ pub fn check(section: &[u64]) -> Result<(), Fault> {
 
 /// The held set before each step of a section: a mask, in which bit b is set if lock b is held there. It goes by the
 /// order of the steps, as if no jump were made: before step 0 no lock is held, an acquire sets its lock's bit, and a
-/// release clears it. From the number of steps up the sets are 0. It is one pass, and the very one in which the check
-/// looks up the step that a jump names, and a recovery the one that a pc does.
+/// release clears it. From the number of steps up the sets are 0. It is one pass. In its sets a recovery looks up the
+/// step that a pc names, and the check the one that a jump names, unless it finds before that no jump goes past an
+/// acquire or a release.
 ///
 /// Refuses with causes 4 and 5 alone. A section that the check refuses with 6 to 9 has its sets given, and they show
 /// why (as the check's [`Fault`] says it, step by step):
@@ -112,8 +113,8 @@ pub fn turn(image: &mut [u64], cursors: &mut Cursors, worker: usize) -> Result<T
 }
 
 /// Rounds of turns, each worker that is not idle one turn a round by rising number, until all are idle or the rounds
-/// are spent. 384 rounds for each worker of the image are proved to be enough for any sections, and more cost nothing:
-/// [`u16::MAX`] will do for every image.
+/// are spent. 384 rounds for each worker are proved to leave all idle on an image that these calls alone have changed
+/// since one formatting, with a recovery after each cut. More cost nothing: [`u16::MAX`] will do for every such image.
 ///
 /// Refuses with cause 10, then 11 as it meets it; the turns before that stand, and so does their tally.
 pub fn run(image: &mut [u64], cursors: &mut Cursors, rounds: u16) -> Result<Run, RefusedRun> {
