@@ -9,7 +9,7 @@ pub enum Turn {
     Stored(usize),
     /// The turn went on and had nothing to store.
     Passed(Passing),
-    /// Another worker has this lock; the worker stays where it is.
+    /// This lock is not free: its owner word is not 0. The worker stays where it is.
     Waiting(usize),
     /// The worker has no section to go on with.
     Idle,
