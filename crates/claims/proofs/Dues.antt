@@ -16,12 +16,12 @@ use Rattle.image.specs.declared.Field.the-variants.{Count, Pc, Intent, Owned, N
 use Rattle.image.specs.Place.{cell, lock, field, own, Memory}
 use Rattle.image.specs.inner.Same.{upd}
 use Rattle.image.proofs.Places.{upd-same}
+use Rattle.code.specs.Op.{isFinish}
 use Rattle.code.specs.declared.Expr.{Expr}
 use Rattle.code.specs.declared.Op.{Op}
 use Rattle.code.specs.declared.Op.the-variants.{Acquire, Release, Assign, Jump, Finish, Unknown}
 use Rattle.section.proofs.Held.{after-release, after-assign}
 use Rattle.code.proofs.Ranges.{release-range, assign-range, opTurns}
-use Rattle.section.proofs.Steps.{ends}
 use Rattle.working.specs.Cursor.{on}
 use Rattle.log.specs.Log.{operand, codeIn, activeVal}
 use Rattle.plan.specs.declared.Report.{Report}
@@ -43,7 +43,7 @@ module _ (n : ℕ) (rd : Memory) (d : ℕ) (g : Given) (s locks : ℕ) (sec : Se
   -- step s is over in rd′
   over :
       (rd′ : Memory) (x : Op) → KeepsNamed n rd rd′ d → rd′ (field Number d) ≡ rd (field Number d) → rd′ (field Finished d) ≤ rd′ (field Number d)
-      → opAt n rd d s ≡ x → ends x ≡ false
+      → opAt n rd d s ≡ x → isFinish x ≡ false
       → rd′ (targetOf d x) ≡ rd (field (activeVal n rd d) d) → rd′ (field Owned d) ≡ heldAt n rd d (suc s) → Before n rd′ d g (suc s) 0
   over rd′ x k e f o i done w =
       record {

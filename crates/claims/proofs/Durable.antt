@@ -76,6 +76,16 @@ module _ (mark n : ℕ) (m : Image) where
       (play-good mark n (workers m) (cellsOf m) true (whole recovers ∷ []) (after mark n m xs) wide narrow refl refl g)
   mended-running wide narrow xs false g = g
 
+-- from an image at rest, by any list: a world that runs, or behind a cut what a recovery takes
+module _
+    (mark n : ℕ) (wide : 8 ≤ n) (narrow : n ≤ 64) (m : Image) (rest : Rested mark n m) (xs : List Move) (h : machine xs ≡ true)
+    (l : legal false xs ≡ true) where
+  pub list-good : Good mark n (workers m) (cellsOf m) (endsCut false xs) (after mark n m xs)
+  list-good = play-good mark n (workers m) (cellsOf m) false xs (from m) wide narrow h l (rested-running mark n m rest)
+
+  pub uncut-running : endsCut false xs ≡ false → Running mark n (workers m) (cellsOf m) (after mark n m xs)
+  uncut-running e = subst (λ (b : Bool). Good mark n (workers m) (cellsOf m) b (after mark n m xs)) e list-good
+
 -- ---- the theorem
 
 -- every section begun is one that the engine takes
@@ -89,12 +99,12 @@ module _ (mark n : ℕ) (wide : 8 ≤ n) (narrow : n ≤ 64) (admitted : Admitte
   unfolding DurableAlways
   durable-always m rest xs h l =
       let D = workers m in
-      let g = play-good mark n D (cellsOf m) false xs (from m) wide narrow h l (rested-running mark n m rest) in
+      let g = list-good mark n wide narrow m rest xs h l in
       let w = after mark n m xs in
       let worth = good-worth mark n m (endsCut false xs) w g in
       let v = after mark n m (mended mark n xs) in
       let run = mended-running mark n m wide narrow xs (endsCut false xs) g in
-      let uncut : endsCut false xs ≡ false → Running mark n D (cellsOf m) w = λ e. subst (λ (b : Bool). Good mark n D (cellsOf m) b w) e g in
+      let uncut = uncut-running mark n wide narrow m rest xs h l in
       record {
         accepts = (_, _, accepts mark n D (cellsOf m) (w .world .image) (w .trace .begun) (w .trace .order) worth);
         as-many = worth .reached .many;

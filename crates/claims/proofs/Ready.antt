@@ -12,13 +12,12 @@ use Rattle.image.specs.Place.{field, Memory}
 use Rattle.code.specs.declared.Op.{Op}
 use Rattle.code.specs.declared.Op.the-variants.{Finish}
 use Rattle.code.specs.Table.{turnsOf}
-use Rattle.code.specs.Op.{opOf}
+use Rattle.code.specs.Op.{opOf, isFinish}
 use Rattle.section.specs.Check.{Code, heldBefore}
 use Rattle.code.specs.Form.{wellFormed}
 use Rattle.section.specs.Valid.{Valid}
 use Rattle.section.proofs.Facts.{valid-passed, check-parts}
 use Rattle.code.proofs.Ranges.{opTurns, turns-op}
-use Rattle.section.proofs.Steps.{ends}
 use Rattle.working.specs.Cursor.{on}
 use Rattle.log.specs.Log.{codeIn}
 use Rattle.plan.specs.Turn.{opTurn, ready, turnAt}
@@ -45,14 +44,14 @@ module _ (n : ℕ) (rd : Memory) (d s t : ℕ) (x : Op) (v : Valid n (rd (field 
 
 module _ (own n : ℕ) (code : Code) (v : Valid own n code) where
   -- only a finish is last
-  pub step-behind : (s : ℕ) (x : Op) → s < n → opOf (code s) ≡ x → ends x ≡ false → suc s < n
+  pub step-behind : (s : ℕ) (x : Op) → s < n → opOf (code s) ≡ x → isFinish x ≡ false → suc s < n
   step-behind s x l o f = by (ℕ-discrete (suc s) n)
     where
       by : Dec (suc s ≡ n) → suc s < n
       by (yes e) =
           let q : s ≡ n - 1 = omega arith in
           let z : opOf (code s) ≡ Finish = rw q (v .last) in
-          absurd (false≢true (sym f ∙ ap ends (sym o ∙ z)))
+          absurd (false≢true (sym f ∙ ap isFinish (sym o ∙ z)))
       by (no e) = omega arith
 
   -- a finish holds nothing

@@ -1,6 +1,6 @@
 -- The instructions, how a word says one, and what an expression gives.
 use Prim.Native.Nat.{ℕ, suc, zero, _+_, _*_, _-_, _^_, min}
-use mathlib.Core.Bool.{cond}
+use mathlib.Core.Bool.{Bool, true, false, cond}
 use lib.Dec.{ltb}
 use Rattle.code.specs.declared.Expr.{Expr}
 use Rattle.code.specs.declared.Expr.the-variants.{Literal, Sum, Difference, Less}
@@ -24,6 +24,14 @@ byKind (suc (suc (suc (suc (suc (suc (suc (suc (suc k))))))))) a b c = Unknown
 -- the instruction that a word says
 unfoldable pub opOf : ℕ → Op
 opOf w = byKind (kindOf w) (fieldA w) (fieldB w) (fieldC w)
+
+abbrev pub isFinish : Op → Bool
+isFinish (Acquire a) = false
+isFinish (Release a) = false
+isFinish (Assign a e) = false
+isFinish (Jump a b) = false
+isFinish Finish = true
+isFinish Unknown = false
 
 -- what an expression of two words gives of what they hold; a literal has none. A sum stops at the largest word, a difference at 0
 -- (document 02, 5/14: a total never goes below nothing and never starts over)

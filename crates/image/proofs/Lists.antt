@@ -44,9 +44,6 @@ module _ (n : ℕ) where
   all-keep f one left m [] = refl
   all-keep f one left m (s ∷ ss) = all-keep f one (left - 1) (put left m (indexOf n (s .place)) (s .value)) ss ∙ one left m (s .place) (s .value)
 
-  pub length-all : (left : ℕ) (m : Image) (ss : List Store) → length (putAll n left m ss) ≡ length m
-  length-all left m ss = all-keep length (length-store n) left m ss
-
   pub workers-all : (left : ℕ) (m : Image) (ss : List Store) → workers (putAll n left m ss) ≡ workers m
   workers-all left m ss = all-keep workers (workers-store n) left m ss
 

@@ -13,14 +13,14 @@ use Rattle.base.proofs.Bools.{and-left, and-right, and-both, or-either}
 use Rattle.code.specs.declared.Op.{Op}
 use Rattle.code.specs.declared.Op.the-variants.{Acquire, Release, Assign, Jump, Finish, Unknown}
 use Rattle.code.specs.Table.{turnsOf}
-use Rattle.code.specs.Op.{opOf}
+use Rattle.code.specs.Op.{opOf, isFinish}
 use Rattle.code.specs.Form.{inPlace}
 use Rattle.section.specs.declared.Verdict.the-variants.{Pass}
 use Rattle.section.specs.Check.{Code, check}
 use Rattle.section.proofs.Passing.{passed-is}
 use Rattle.needs.specs.Path.{turnsAlong}
 use Rattle.needs.specs.From.{lesser, larger, needsBy, fewest, most}
-use Rattle.needs.specs.Ways.{leads, isFinish, goesOn, WaysBetween, BoundsMet}
+use Rattle.needs.specs.Ways.{leads, goesOn, WaysBetween, BoundsMet}
 use Rattle.needs.proofs.Unrolled.{behind, unrolled, needs-end, lesser-one, larger-one, lesser-least, larger-most}
 use Rattle.needs.proofs.Pass.{passed-placed}
 

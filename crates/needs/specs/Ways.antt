@@ -7,7 +7,7 @@ use mathlib.Core.List.{List, [], _∷_}
 use lib.Dec.{eqb}
 use Rattle.code.specs.declared.Op.{Op}
 use Rattle.code.specs.declared.Op.the-variants.{Acquire, Release, Assign, Jump, Finish, Unknown}
-use Rattle.code.specs.Op.{opOf}
+use Rattle.code.specs.Op.{opOf, isFinish}
 use Rattle.section.specs.Check.{Code, check, passes}
 use Rattle.needs.specs.Path.{turnsAlong}
 use Rattle.needs.specs.From.{fewest, most}
@@ -20,14 +20,6 @@ leads i k (Assign a e) = eqb k (suc i)
 leads i k (Jump a b) = eqb k (suc i) || eqb k b
 leads i k Finish = false
 leads i k Unknown = false
-
-abbrev pub isFinish : Op → Bool
-isFinish (Acquire a) = false
-isFinish (Release a) = false
-isFinish (Assign a e) = false
-isFinish (Jump a b) = false
-isFinish Finish = true
-isFinish Unknown = false
 
 abbrev pub isJump : Op → Bool
 isJump (Acquire a) = false

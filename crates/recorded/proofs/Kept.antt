@@ -1,5 +1,5 @@
 -- Every turn of a day is no refused one; where its worker was open, it is one of the eight, and where it waits, its lock is one of the 64 (`day-kept`): a turn
--- waits only at an acquire whose field is in range (`private-locked`); its worker is below the number of an image's workers, which is at most 8; and a
+-- waits at one of the image's locks (`within-turn`); its worker is below the number of an image's workers, which is at most 8; and a
 -- refused turn ends its line and is not among the turns made (`private-then`). By induction over the turns of a line, the rounds and the lines.
 use Prim.Native.Nat.{ℕ, zero, suc, _+_, _<_, _≤_}
 use mathlib.Core.Path.{_≡_, refl}
@@ -9,23 +9,17 @@ use native.Mathlib.Omega.{arith}
 use borrow.Author.Tests.{ltb-true}
 use lib.Dec.{leb, ltb, eqb}
 use lib.ListN.{length}
-use Rattle.image.specs.Place.{Place, lock, Memory}
 use Rattle.image.specs.Image.{Image, at, workers, headerOk}
 use Rattle.image.proofs.Header.{header-workers}
-use Rattle.code.specs.declared.Op.{Op}
-use Rattle.code.specs.declared.Op.the-variants.{Acquire, Release, Assign, Jump, Finish, Unknown}
-use Rattle.code.specs.Op.{opOf}
-use Rattle.code.specs.inner.Fits.{fits}
 use Rattle.working.specs.declared.Cursors.{Cursors}
-use Rattle.working.specs.Cursor.{Cursor, idle, on, isIdle, cursorAt, allIdle}
+use Rattle.working.specs.Cursor.{isIdle, cursorAt, allIdle}
 use Rattle.working.specs.World.{World}
-use Rattle.log.specs.Log.{codeIn}
-use Rattle.plan.specs.Turn.{Outcome, stored, passed, waiting, resting, refused, logged, acquireTurn, finishTurn, opTurn, ready, turnAt}
-use Rattle.plan.proofs.Planned.{ready-says}
-use Rattle.plan.proofs.Outcomes.{either, unlock-either}
+use Rattle.plan.specs.Turn.{Outcome, stored, passed, waiting, resting, refused}
+use Rattle.plan.proofs.Outcomes.{either}
 use Rattle.turn.specs.declared.Answer.{Answer}
 use Rattle.turn.specs.declared.Answer.the-variants.{Stored, Passed, Waiting, Idle, Refused}
 use Rattle.turn.specs.Call.{outcome, outcomeAt}
+use Rattle.turn.proofs.Holding.{Within, within-turn}
 use Rattle.run.specs.Run.{anyOpen}
 use Rattle.edition.specs.Edition.{mark, ownWords}
 use Rattle.frames.specs.declared.Opening.{Opening}
@@ -58,47 +52,6 @@ private-append (t ∷ ts) us h k = (h .0, private-append ts us (h .1) k)
 
 -- ---- a turn
 
-abbrev private-Locked : Outcome → Type 0
-private-Locked (stored p v c) = Unit {0}
-private-Locked (passed why c) = Unit {0}
-private-Locked (waiting b) = b < 64
-private-Locked resting = Unit {0}
-private-Locked (refused r) = Unit {0}
-
-module _ (n : ℕ) (rd : Memory) (d s : ℕ) where
-  private-logged : (t : ℕ) (p : Place) (v : ℕ) (next : Cursor) (j : ℕ) → private-Locked (logged n rd d s t p v next j)
-  private-logged t p v next zero = tt
-  private-logged t p v next (suc zero) = tt
-  private-logged t p v next (suc (suc zero)) = tt
-  private-logged t p v next (suc (suc (suc j))) = tt
-
-  private-acquire : (a t : ℕ) → a < 64 → private-Locked (acquireTurn n rd d a s t)
-  private-acquire a zero h = tt
-  private-acquire a (suc zero) h = either private-Locked (eqb (rd (lock a)) 0) _ _ (λ e. tt) (λ e. h)
-  private-acquire a (suc (suc j)) h = private-logged (suc (suc j)) _ _ _ j
-
-  private-finish : (t : ℕ) → private-Locked (finishTurn n rd d s t)
-  private-finish zero = tt
-  private-finish (suc zero) = tt
-  private-finish (suc (suc t)) = tt
-
-  private-op : (t : ℕ) (x : Op) → fits n x → private-Locked (opTurn n rd d s t x)
-  private-op t (Acquire a) f = private-acquire a t f
-  private-op t (Release a) f =
-      either private-Locked (ltb t 4) _ _ (λ e. private-logged t _ _ _ t)
-      (λ e. either private-Locked (eqb t 4) _ _ (λ g. unlock-either n rd d a s private-Locked tt (λ why. tt)) (λ g. tt))
-  private-op t (Assign a e) f = private-logged t _ _ _ t
-  private-op t (Jump a b) f = tt
-  private-op t Finish f = private-finish t
-  private-op t Unknown f = tt
-
--- at any cursor
-private-locked : (n : ℕ) (rd : Memory) (d : ℕ) (c : Cursor) → private-Locked (turnAt n rd d c)
-unfolding turnAt
-private-locked n rd d idle = tt
-private-locked n rd d (on s t) =
-    either private-Locked (ready n rd d s t) _ _ (λ e. private-op n rd d s t (opOf (codeIn n rd d s)) (ready-says n rd d s t e .form)) (λ e. tt)
-
 -- with its worker
 abbrev private-Bound : ℕ → Outcome → Type 0
 private-Bound d (stored p v c) = d < 8
@@ -107,7 +60,7 @@ private-Bound d (waiting b) = (b < 64) × (d < 8)
 private-Bound d resting = Unit {0}
 private-Bound d (refused r) = Unit {0}
 
-private-bound : (d : ℕ) (o : Outcome) → d < 8 → private-Locked o → private-Bound d o
+private-bound : (d : ℕ) (o : Outcome) → d < 8 → Within o → private-Bound d o
 private-bound d (stored p v c) h k = h
 private-bound d (passed why c) h k = h
 private-bound d (waiting b) h k = (k, h)
@@ -116,7 +69,7 @@ private-bound d (refused r) h k = tt
 
 private-bound-at : (w : World) (d : ℕ) → d < 8 → private-Bound d (outcomeAt ownWords w d)
 unfolding outcomeAt
-private-bound-at w d h = private-bound d (outcomeAt ownWords w d) h (private-locked ownWords (at ownWords (w .image)) d (cursorAt (w .cursors) d))
+private-bound-at w d h = private-bound d (outcomeAt ownWords w d) h (within-turn ownWords (at ownWords (w .image)) d (cursorAt (w .cursors) d))
 
 private-bound-any : (w : World) (d : ℕ) → private-Bound d (outcome mark ownWords w d)
 unfolding outcome

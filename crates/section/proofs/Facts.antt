@@ -14,14 +14,14 @@ use Rattle.code.specs.declared.Op.{Op}
 use Rattle.code.specs.declared.Op.the-variants.{Acquire, Release, Assign, Jump, Finish, Unknown}
 use Rattle.section.specs.declared.Verdict.{Verdict}
 use Rattle.section.specs.declared.Verdict.the-variants.{Pass, Length, Malformed, Unbracketed, Unordered, Unguarded, Unlevel}
-use Rattle.code.specs.Op.{opOf}
+use Rattle.code.specs.Op.{opOf, isFinish}
 use Rattle.rules.specs.Rules.{covered, coveredIn, begins, goesOn, bracketed, ordered, guarded}
 use Rattle.section.specs.Check.{Code, heldBefore, level, orElse, firstOf, formOf, useOf}
 use Rattle.section.specs.Check.{check}
 use Rattle.code.specs.Form.{inRange, inPlace, wellFormed}
 use Rattle.section.specs.Valid.{Valid}
 use Rattle.code.proofs.Ranges.{known}
-use Rattle.section.proofs.Steps.{ends, place-jump, place-last, begins-acquire, holds-nothing, bracketed-later, form-cong, use-cong}
+use Rattle.section.proofs.Steps.{place-jump, place-last, begins-acquire, holds-nothing, bracketed-later, form-cong, use-cong}
 use Rattle.section.proofs.First.{or-pass, or-cong, first-all, all-first, first-cong}
 
 -- ---- one step
@@ -178,14 +178,14 @@ passed-valid own n code p =
 -- ---- a valid section passes
 
 module _ (own n : ℕ) (code : Code) (v : Valid own n code) where
-  valid-inner : (i : ℕ) (x : Op) → i < n → opOf (code i) ≡ x → ends x ≡ false → i + 1 < n
+  valid-inner : (i : ℕ) (x : Op) → i < n → opOf (code i) ≡ x → isFinish x ≡ false → i + 1 < n
   valid-inner i x l o f = by (eqb (i + 1) n) refl
     where
       by : (b : Bool) → eqb (i + 1) n ≡ b → i + 1 < n
       by true e =
           let q : i ≡ n - 1 = omega (arith, eqb-true (i + 1) n e) in
           let z : opOf (code i) ≡ Finish = rw q (v .last) in
-          absurd (false≢true (sym f ∙ ap ends (sym o ∙ z)))
+          absurd (false≢true (sym f ∙ ap isFinish (sym o ∙ z)))
       by false e = let q : (i + 1 ≡ n) → ⊥ = eqb-false (i + 1) n e in omega arith
 
   valid-place : (i : ℕ) (x : Op) → i < n → opOf (code i) ≡ x → inPlace n i x ≡ true
@@ -196,7 +196,7 @@ module _ (own n : ℕ) (code : Code) (v : Valid own n code) where
   valid-place i Finish l o = eq-eqb (i + 1) n (v .only-last i l o)
   valid-place i Unknown l o = absurd (known own (code i) (v .ranges i l) o)
 
-  private-holds : (i : ℕ) (x : Op) → i < n → 0 < i → opOf (code i) ≡ x → ends x ≡ false → not (eqb (heldBefore code i) 0) ≡ true
+  private-holds : (i : ℕ) (x : Op) → i < n → 0 < i → opOf (code i) ≡ x → isFinish x ≡ false → not (eqb (heldBefore code i) 0) ≡ true
   private-holds i x l b o f = ap not (ne-eqb (heldBefore code i) 0 (v .holding i b (valid-inner i x l o f)))
 
   valid-goes-on : (i : ℕ) (x : Op) → i < n → 0 < i → opOf (code i) ≡ x → goesOn (heldBefore code i) x ≡ true

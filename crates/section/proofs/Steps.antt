@@ -17,15 +17,6 @@ use Rattle.section.proofs.Held.{held-cong}
 
 -- ---- the instruction
 
--- the instruction finishes the section
-abbrev pub ends : Op → Bool
-ends (Acquire a) = false
-ends (Release a) = false
-ends (Assign a e) = false
-ends (Jump a b) = false
-ends Finish = true
-ends Unknown = false
-
 -- the operands of a jump that is in place
 pub place-jump : (n i a b : ℕ) → inPlace n i (Jump a b) ≡ true → (i < b) × (b < n)
 place-jump n i a b e =

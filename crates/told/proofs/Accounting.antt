@@ -153,14 +153,15 @@ touch-code n rd d locks _ _ _ (ownCell x v b h) e = refl
 touch-code n rd d locks _ _ _ (takes a b z) e = refl
 touch-code n rd d locks _ _ _ (frees a b z) e = refl
 
-touch-intent :
-    (n : ℕ) (rd : Memory) (d locks : ℕ) (p : Place) (v l : ℕ) → Touches n rd d locks p v l → (e : ℕ) → e ≢ d
-    → upd rd p v (field Intent e) ≡ rd (field Intent e)
-touch-intent n rd d locks _ _ _ (inRecord f v) e i = rw (ne-eqb e d i, and-false (sameField Intent f))
-touch-intent n rd d locks _ _ _ (ownWord j v b) e i = refl
-touch-intent n rd d locks _ _ _ (ownCell x v b h) e i = refl
-touch-intent n rd d locks _ _ _ (takes a b z) e i = refl
-touch-intent n rd d locks _ _ _ (frees a b z) e i = refl
+-- it leaves the fields of others
+pub touch-other :
+    (n : ℕ) (rd : Memory) (d locks : ℕ) (p : Place) (v l : ℕ) → Touches n rd d locks p v l → (e : ℕ) → e ≢ d → (f : Field)
+    → upd rd p v (field f e) ≡ rd (field f e)
+touch-other n rd d locks _ _ _ (inRecord h v) e i f = rw (ne-eqb e d i, and-false (sameField f h))
+touch-other n rd d locks _ _ _ (ownWord j v b) e i f = refl
+touch-other n rd d locks _ _ _ (ownCell x v b h) e i f = refl
+touch-other n rd d locks _ _ _ (takes a b z) e i f = refl
+touch-other n rd d locks _ _ _ (frees a b z) e i f = refl
 
 -- ---- its own turn
 
@@ -259,7 +260,7 @@ module _ (mark n D : ℕ) (cells : List ℕ) (w : Traced) (d : ℕ) (r : Running
       (e : ℕ) → e ≢ d → (c : Cursor) (o : Outcome) → Stepped n rd d (w .trace .last d) (r .locks d) (w .trace .jumps d) o → AccountedAt n rd e c es
       → AccountedAt n (turnMemory rd o) e c (es ++ eventsBy mark n w d o)
   other-accounted e i c (stored p v c′) (l, touch, ph) x =
-      accounted-same n rd (upd rd p v) e (touch-intent n rd d (r .locks d) p v l touch e i) (touch-code n rd d (r .locks d) p v l touch e) c es _
+      accounted-same n rd (upd rd p v) e (touch-other n rd d (r .locks d) p v l touch e i Intent) (touch-code n rd d (r .locks d) p v l touch e) c es _
       (own-by mark n w d (stored p v c′) e i) x
   other-accounted e i c (passed why c′) s x = accounted-same n rd rd e refl refl c es _ (own-by mark n w d (passed why c′) e i) x
   other-accounted e i c (waiting b) s x = accounted-same n rd rd e refl refl c es _ (own-by mark n w d (waiting b) e i) x

@@ -13,14 +13,14 @@ use Rattle.base.proofs.Bools.{and-left, and-right, or-either}
 use Rattle.image.specs.Image.{workers, cellsOf}
 use Rattle.code.specs.declared.Op.{Op}
 use Rattle.code.specs.declared.Op.the-variants.{Acquire, Release, Assign, Jump, Finish, Unknown}
-use Rattle.code.specs.Op.{opOf}
+use Rattle.code.specs.Op.{opOf, isFinish}
 use Rattle.section.specs.Check.{Code, codeOf, check, passes}
 use Rattle.section.specs.Valid.{Valid}
 use Rattle.section.proofs.Facts.{passed-valid}
 use Rattle.section.proofs.Passing.{passed-is}
 use Rattle.needs.specs.Path.{turnsAlong}
 use Rattle.needs.specs.From.{lesser, larger, needsBy}
-use Rattle.needs.specs.Ways.{leads, isFinish, goesOn, WaysBetween}
+use Rattle.needs.specs.Ways.{leads, goesOn, WaysBetween}
 use Rattle.needs.proofs.Ways.{ways-between}
 use Rattle.claims.specs.Reference.{Given}
 use Rattle.claims.specs.Calls.{nothing, areWords}

@@ -15,7 +15,7 @@ use Rattle.claims.specs.Claims.{after}
 use Rattle.claims.proofs.Worlds.{Running}
 use Rattle.claims.proofs.Submitting.{idle-rests}
 use Rattle.told.specs.Checking.{answered, VerdictsHold}
-use Rattle.told.proofs.FromRest.{uncut-running}
+use Rattle.claims.proofs.Durable.{uncut-running}
 
 module _ (mark n D : ℕ) (cells : List ℕ) (w : Traced) (r : Running mark n D cells w) (d : ℕ) (dl : d < D) where
   -- a worker has no section exactly if its cursor is idle

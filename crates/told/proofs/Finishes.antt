@@ -16,8 +16,8 @@ use Rattle.claims.specs.Calls.{Traced, isPc, turnBy, from, endsCut}
 use Rattle.claims.specs.Claims.{after, mended}
 use Rattle.told.specs.Once.{numbersOf, among, begunBy, BegunFinishes}
 use Rattle.claims.proofs.Turning.{still}
-use Rattle.claims.proofs.Played.{Worth, Good, play-good}
-use Rattle.claims.proofs.Resting.{rested-running}
+use Rattle.claims.proofs.Played.{Worth, Good}
+use Rattle.claims.proofs.Durable.{list-good}
 use Rattle.told.proofs.Keeping.{nextTurn, Fed, recovered, Keeps, Kept}
 use Rattle.told.proofs.FromRest.{Any, settled-from, settled-pcs}
 use Rattle.told.proofs.Once.{finished-others, tells-settled}
@@ -93,7 +93,7 @@ module _ (mark n : ℕ) (wide : 8 ≤ n) (narrow : n ≤ 64) where
       let D = workers m in
       let w = after mark n m xs in
       let gs = w .trace .begun in
-      let g = play-good mark n D (cellsOf m) false xs (from m) wide narrow h l (rested-running mark n m rest) in
+      let g = list-good mark n wide narrow m rest xs h l in
       let v = after mark n m (mended mark n xs ++ ys) in
       let kept = good-kept m gs (endsCut false xs) w g ([], sym (append-nil gs)) in
       let ext = settled-from mark n wide narrow m rest _ _ (extends-keeps mark n D (cellsOf m) gs) xs kept ys y .1 in

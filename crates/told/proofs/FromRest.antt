@@ -1,5 +1,5 @@
 -- What lists of calls keep, from an image at rest: behind any legal list, cut or not (`kept-list`), behind one whose last call is not cut
--- (`kept-uncut`, and by itself that the world runs on, `uncut-running`), behind a recovery where a cut ends it (`mended-from`), and behind uncut runs
+-- (`kept-uncut`), behind a recovery where a cut ends it (`mended-from`), and behind uncut runs
 -- and turns after that (`settled-from`, `kept-settled`), which leave every pc 0 (`settled-pcs`).
 use Prim.Native.Nat.{ℕ, _*_, _<_, _≤_}
 use mathlib.Core.Path.{_≡_, refl, subst}
@@ -14,12 +14,12 @@ use Rattle.working.specs.Cursor.{idle, cursorAt}
 use Rattle.claims.specs.Calls.{Traced, recovers, Move, whole, cut, play, from, recovering, legal, endsCut, plain, machine}
 use Rattle.claims.specs.Claims.{Rested, Idle, after, mended, working, roundsIn}
 use Rattle.claims.proofs.Worlds.{Running}
-use Rattle.claims.proofs.Played.{Worth, running-worth, Good, play-good}
+use Rattle.claims.proofs.Played.{Worth, running-worth}
 use Rattle.claims.proofs.Resting.{rested-running, idle-rested}
 use Rattle.claims.proofs.Moves.{play-append}
 use Rattle.claims.proofs.Working.{working-running, working-idle}
 use Rattle.claims.proofs.Cursors.{idle-all}
-use Rattle.claims.proofs.Durable.{mended-running}
+use Rattle.claims.proofs.Durable.{mended-running, list-good}
 use Rattle.told.proofs.Keeping.{Sorted, Keeps, Kept, play-keeps, working-keeps}
 
 -- any move
@@ -99,14 +99,6 @@ module _ (mark n : ℕ) (wide : 8 ≤ n) (narrow : n ≤ 64) (m : Image) (rest :
         → Running mark n D cells (after mark n m (mended mark n xs ++ ys)) × R (after mark n m (mended mark n xs ++ ys))
     kept-settled ys y = settled-from K xs (kept Any K start xs h l (any-sorted mark n xs (from m))) ys y
 
--- a list whose last call is not cut leaves a world that runs
-pub uncut-running :
-    (mark n : ℕ) (wide : 8 ≤ n) (narrow : n ≤ 64) (m : Image) → Rested mark n m → (xs : List Move) → machine xs ≡ true → legal false xs ≡ true
-    → endsCut false xs ≡ false → Running mark n (workers m) (cellsOf m) (after mark n m xs)
-uncut-running mark n wide narrow m rest xs h l e =
-    subst (λ (b : Bool). Good mark n (workers m) (cellsOf m) b (after mark n m xs)) e
-    (play-good mark n (workers m) (cellsOf m) false xs (from m) wide narrow h l (rested-running mark n m rest))
-
 -- uncut runs and turns of 384 rounds a worker leave every pc 0
 pub settled-pcs :
     (mark n : ℕ) (wide : 8 ≤ n) (narrow : n ≤ 64) (m : Image) → Rested mark n m → (xs ys : List Move) → machine xs ≡ true → legal false xs ≡ true
@@ -115,7 +107,7 @@ pub settled-pcs :
     × (at n (after mark n m (mended mark n xs ++ ys) .world .image) (field Pc d) ≡ 0)
 settled-pcs mark n wide narrow m rest xs ys h l y k d dl =
     let D = workers m in
-    let g = play-good mark n D (cellsOf m) false xs (from m) wide narrow h l (rested-running mark n m rest) in
+    let g = list-good mark n wide narrow m rest xs h l in
     let run = mended-running mark n m wide narrow xs (endsCut false xs) g in
     let v = after mark n m (mended mark n xs) in
     let r = working-running mark n D (cellsOf m) ys v y run in

@@ -51,16 +51,6 @@ module _ (n : ℕ) (rd rd′ : Memory) (e : ℕ) (pc : rd′ (field Pc e) ≡ rd
   pub track-same : (j : ℕ) (last : Given) (x : Cursor) → OnTrack n rd e P mine c j last x → OnTrack n rd′ e P mine c j last x
   track-same j last x o = record { anchor = anchor-same (o .anchor); pace = pace-same j last x (o .pace) }
 
--- a turn's store leaves the fields of others
-pub touch-other :
-    (n : ℕ) (rd : Memory) (d locks : ℕ) (p : Place) (v l : ℕ) → Touches n rd d locks p v l → (e : ℕ) → e ≢ d → (f : Field)
-    → upd rd p v (field f e) ≡ rd (field f e)
-touch-other n rd d locks _ _ _ (inRecord h v) e i f = rw (ne-eqb e d i, and-false (sameField f h))
-touch-other n rd d locks _ _ _ (ownWord j v b) e i f = refl
-touch-other n rd d locks _ _ _ (ownCell x v b h) e i f = refl
-touch-other n rd d locks _ _ _ (takes a b z) e i f = refl
-touch-other n rd d locks _ _ _ (unlocks a b z) e i f = refl
-
 module _ (mark n D : ℕ) (cells : List ℕ) where
   abbrev pub pathsIn : Traced → ℕ → Paths
   pathsIn w e = pathsOf e (initial n D cells (w .trace .begun)) (w .trace .order)

@@ -10,9 +10,9 @@ use native.Mathlib.Decide.{ℕ-discrete}
 use lib.ListN.{length, getD}
 use borrow.Author.Tests.{eq-eqb, ne-eqb}
 use Rattle.base.proofs.Bools.{and-left, and-right, and-both}
-use Rattle.code.specs.Op.{opOf}
+use Rattle.code.specs.Op.{opOf, isFinish}
 use Rattle.section.specs.Check.{Code, codeOf}
-use Rattle.needs.specs.Ways.{leads, isFinish, goesOn}
+use Rattle.needs.specs.Ways.{leads, goesOn}
 use Rattle.claims.specs.Reference.{Job, State, advance, follow, Given, start, initial}
 use Rattle.claims.specs.Calls.{nothing}
 use Rattle.claims.specs.Claims.{ofWorker}

@@ -25,7 +25,8 @@ use Rattle.told.specs.Turns.{Start, first, Span, span, Now, nowhere, fre
 use Rattle.told.specs.Turns.{needed, All}
 use Rattle.told.proofs.Resuming.{same-step}
 use Rattle.told.proofs.Strides.{isLogged}
-use Rattle.told.proofs.WalkTurn.{along-none, along-one, all-append, all-map, FromTo, longer}
+use Rattle.needs.proofs.Ways.{along-end}
+use Rattle.told.proofs.WalkTurn.{along-one, all-append, all-map, FromTo, longer}
 use Rattle.told.proofs.Pacing.{StartsOn, starts-more, starts-last, after-last, needed-more, Accords, Off, Going, Anchored, Paced}
 
 -- ---- longer lists
@@ -326,5 +327,5 @@ module _ (pc count : ℕ) (code : Code) (P : Paths) (mine : List Given) where
       let G = a .at in
       let (l, q, h) = f s (G .named) in
       let w : getD (g .code) s 0 ≡ code s = G .coded s l in
-      (s, u, q, rw (eq-eqb s s refl, G .under, after-last s (G .before) (G .rising), w, along-none (codeOf (g .code))) (omega arith))
+      (s, u, q, rw (eq-eqb s s refl, G .under, after-last s (G .before) (G .rising), w, along-end (codeOf (g .code))) (omega arith))
   lost-paced e (closing k g b t) xs last c u a z f = z (a .at .0 .none)

@@ -34,7 +34,8 @@ use Rattle.claims.proofs.Called.{TakenAs, taken-as}
 use Rattle.claims.proofs.Played.{plenty, running-lent, whole-good}
 use Rattle.claims.proofs.Moves.{play-append, args-full, machine-parts, legal-parts, ends-append, plain-uncut, submit-legal}
 use Rattle.told.proofs.Keeping.{nextTurn, Fed, submitted, Keeps, Kept, play-keeps, working-keeps}
-use Rattle.told.proofs.FromRest.{uncut-running, settled-pcs, Plain, plain-sorted}
+use Rattle.told.proofs.FromRest.{settled-pcs, Plain, plain-sorted}
+use Rattle.claims.proofs.Durable.{uncut-running}
 use Rattle.told.proofs.Once.{finished-others, tells-settled}
 use Rattle.told.proofs.Telling.{begunThen, turn-begun, pending}
 use Rattle.told.proofs.Recorded.{tellingOf, aside-of}

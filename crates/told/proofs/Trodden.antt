@@ -13,8 +13,8 @@ use lib.Dec.{ltb, eqb}
 use borrow.Author.Tests.{eq-eqb}
 use Rattle.code.specs.declared.Op.{Op}
 use Rattle.code.specs.declared.Op.the-variants.{Acquire, Release, Assign, Jump, Finish, Unknown}
-use Rattle.code.specs.Op.{opOf}
-use Rattle.needs.specs.Ways.{leads, isFinish}
+use Rattle.code.specs.Op.{opOf, isFinish}
+use Rattle.needs.specs.Ways.{leads}
 use Rattle.claims.specs.Reference.{Job, State, readIn, taken, assigned, whole, front, advance}
 
 -- what an entry does to its worker's queue: the first section goes on, or ends

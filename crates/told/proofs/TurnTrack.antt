@@ -15,6 +15,7 @@ use Rattle.image.specs.Place.{Place, field, step, Memory}
 use Rattle.image.specs.inner.Same.{upd}
 use Rattle.image.specs.Image.{at}
 use Rattle.image.proofs.Places.{upd-same}
+use Rattle.code.specs.Op.{isFinish}
 use Rattle.code.specs.declared.Op.{Op}
 use Rattle.code.specs.declared.Op.the-variants.{Acquire, Release, Assign, Jump, Finish, Unknown}
 use Rattle.section.specs.Check.{Code}
@@ -23,7 +24,6 @@ use Rattle.log.specs.Log.{codeIn, switched}
 use Rattle.log.specs.declared.Passing.{Passing}
 use Rattle.log.specs.declared.Passing.the-variants.{Jump as PassedJump, AlreadyFree as PassedFree, Others as PassedOthers}
 use Rattle.plan.specs.Turn.{Outcome, stored, passed, waiting, resting, refused}
-use Rattle.needs.specs.Ways.{isFinish}
 use Rattle.claims.specs.Reference.{Given, follow, enqueue, initial}
 use Rattle.claims.specs.Events.{Event, moved, recorded, ended}
 use Rattle.claims.specs.Calls.{Traced, isPc, jumpsBy, turnBy}
@@ -50,7 +50,7 @@ use Rattle.told.proofs.WalkTurn.{longer, further-on, further-end, walk-
 use Rattle.told.proofs.Pacing.{Anchored, Paced, turned-anchored, within-paced, closes-paced}
 use Rattle.told.proofs.Strode.{named, finished, Adds, jumps-paced, begins-anchored, begins-paced, names-on, finishes-on, ends-on}
 use Rattle.told.proofs.Passages.{heed-append, heed-aside, heed-moved, heed-waited, heed-named, heed-finished}
-use Rattle.told.proofs.OnTrack.{OnTrack, track-same, touch-other, pathsIn, Steady, plain-store, pc-store}
+use Rattle.told.proofs.OnTrack.{OnTrack, track-same, pathsIn, Steady, plain-store, pc-store}
 
 -- ---- a worker's own turn
 

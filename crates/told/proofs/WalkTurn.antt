@@ -12,6 +12,7 @@ use lib.Dec.{eqb}
 use borrow.Author.Tests.{eq-eqb}
 use Rattle.image.specs.declared.Field.the-variants.{Count, Pc}
 use Rattle.image.specs.Place.{field, step, Memory}
+use Rattle.code.specs.Op.{isFinish}
 use Rattle.code.specs.declared.Op.{Op}
 use Rattle.code.specs.declared.Op.the-variants.{Acquire, Jump}
 use Rattle.code.specs.Table.{turnsOf}
@@ -22,7 +23,6 @@ use Rattle.section.specs.Valid.{Valid}
 use Rattle.working.specs.Cursor.{Cursor}
 use Rattle.log.specs.Log.{codeIn, wordIn}
 use Rattle.needs.specs.Path.{turnsAlong}
-use Rattle.needs.specs.Ways.{isFinish}
 use Rattle.claims.specs.Reference.{Given, Job, job, State, state, readIn, onto, advance, follow, start, enqueue}
 use Rattle.claims.proofs.Invariant.{opAt, heldAt, Jumps, stay, leap, Live, JobOf, Mirrors}
 use Rattle.claims.proofs.Jumping.{standing, jumps-follow}
@@ -40,10 +40,6 @@ pub along-append : (code : Code) (xs ys : List ℕ) → turnsAlong code (xs ++ y
 unfolding turnsAlong
 along-append code [] ys = omega arith
 along-append code (x ∷ xs) ys = rw (along-append code xs ys) (omega arith)
-
-pub along-none : (code : Code) → turnsAlong code [] ≡ 0
-unfolding turnsAlong
-along-none code = refl
 
 pub along-one : (code : Code) (i : ℕ) → turnsAlong code (i ∷ []) ≡ turnsOf (code i)
 unfolding turnsAlong

@@ -29,7 +29,7 @@ use Rattle.recovery.specs.Recovery.{recovery}
 use Rattle.claims.specs.Calls.{Traced, traced, forgetful, submits, turns, recovers, whole, cut, call, move}
 use Rattle.intake.specs.declared.Submitted.{Submitted}
 use Rattle.intake.specs.declared.Submitted.the-variants.{Taken}
-use Rattle.told.specs.Examples.{rows as table, expected, seenIn, causeIn, watched, ticket, board, many, row, seen, after, spansIn, spans, expectedSpans}
+use Rattle.told.specs.Examples.{rows as table, expected, seenIn, causeIn, watched, listing, board, many, row, seen, after, spansIn, spans, expectedSpans}
 use Rattle.told.specs.Turns.{heedAll, passageOf}
 
 -- What the rows compute through, in groups: to unfold one of these is to unfold all that its line names.
@@ -72,7 +72,7 @@ recovered w one h s l = rw (h, one, s, l, plan-rows (at 8 (w .world .image)))
 
 -- the worker's section after so many turns, and then the cut
 abbrev cutAt : ℕ → Traced
-cutAt k = move 1 8 (cut 0 (turns 0)) (many k (move 1 8 (whole (submits 0 1 (replicate 8 0) ticket)) board))
+cutAt k = move 1 8 (cut 0 (turns 0)) (many k (move 1 8 (whole (submits 0 1 (replicate 8 0) listing)) board))
 
 after-4 : move 1 8 (whole recovers) (cutAt 4) ≡ byPlan (cutAt 4)
 unfolding inImage inSection inTurn inRecovery
@@ -88,21 +88,21 @@ after-15 = recovered (cutAt 15) refl refl refl refl
 
 -- ---- row by row
 
-ticket-taken : submitAnswer 1 8 (board .world) 0 1 ticket ≡ Taken
+listing-taken : submitAnswer 1 8 (board .world) 0 1 listing ≡ Taken
 unfolding inImage inSection inTurn inRecovery
-ticket-taken = refl
+listing-taken = refl
 
-cut-4 : seenIn (row ticket (after 4)) ≡ seen 0 0 0 [] 0
+cut-4 : seenIn (row listing (after 4)) ≡ seen 0 0 0 [] 0
 unfolding inImage inSection inTurn inRecovery rows
-cut-4 = ap (λ (x : Submitted). watched (causeIn x) (move 1 8 (whole recovers) (cutAt 4))) ticket-taken ∙ (ap (watched 0) after-4 ∙ refl)
+cut-4 = ap (λ (x : Submitted). watched (causeIn x) (move 1 8 (whole recovers) (cutAt 4))) listing-taken ∙ (ap (watched 0) after-4 ∙ refl)
 
-cut-5 : seenIn (row ticket (after 5)) ≡ seen 0 4 14 [] 5
+cut-5 : seenIn (row listing (after 5)) ≡ seen 0 4 14 [] 5
 unfolding inImage inSection inTurn inRecovery rows
-cut-5 = ap (λ (x : Submitted). watched (causeIn x) (move 1 8 (whole recovers) (cutAt 5))) ticket-taken ∙ (ap (watched 0) after-5 ∙ refl)
+cut-5 = ap (λ (x : Submitted). watched (causeIn x) (move 1 8 (whole recovers) (cutAt 5))) listing-taken ∙ (ap (watched 0) after-5 ∙ refl)
 
-cut-15 : seenIn (row ticket (after 15)) ≡ seen 0 4 6 (2 ∷ []) 5
+cut-15 : seenIn (row listing (after 15)) ≡ seen 0 4 6 (2 ∷ []) 5
 unfolding inImage inSection inTurn inRecovery rows
-cut-15 = ap (λ (x : Submitted). watched (causeIn x) (move 1 8 (whole recovers) (cutAt 15))) ticket-taken ∙ (ap (watched 0) after-15 ∙ refl)
+cut-15 = ap (λ (x : Submitted). watched (causeIn x) (move 1 8 (whole recovers) (cutAt 15))) listing-taken ∙ (ap (watched 0) after-15 ∙ refl)
 
 pub worked-rows : map seenIn table ≡ expected
 unfolding inImage inSection inTurn inRecovery

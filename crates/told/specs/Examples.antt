@@ -36,8 +36,8 @@ abbrev finish : ℕ
 finish = word 8 0 0 0
 
 -- document 01's ticket
-abbrev pub ticket : List ℕ
-ticket = acquire 3 ∷ literal 24 5 ∷ release 3 ∷ finish ∷ []
+abbrev pub listing : List ℕ
+listing = acquire 3 ∷ literal 24 5 ∷ release 3 ∷ finish ∷ []
 
 -- the power is cut after so many turns, or never
 pub data Cut : Type 0 where
@@ -70,10 +70,10 @@ seen c n t ps x = record { cause = c; count = n; turns = t; passed = ps; cell24 
 -- document 01's rows
 abbrev pub rows : List Row
 rows =
-    row ticket never
-    ∷ row ticket (after 4)
-    ∷ row ticket (after 5)
-    ∷ row ticket (after 15)
+    row listing never
+    ∷ row listing (after 4)
+    ∷ row listing (after 5)
+    ∷ row listing (after 15)
     ∷ row (acquire 3 ∷ finish ∷ []) never
     ∷ row (acquire 3 ∷ release 3 ∷ finish ∷ []) never
     ∷ row (acquire 63 ∷ release 63 ∷ finish ∷ []) never
@@ -147,14 +147,14 @@ seenIn r =
 -- ---- the turns of document 01's ticket to its end (document 02, 4/14), as the events tell them, with the step at which it was resumed
 
 abbrev pub spansIn : Cut → List Span
-spansIn p = passageOf 0 (many 20 (powered p (move mark ownWords (whole (submits 0 1 (replicate 8 0) ticket)) board)) .trace .events) .spans
+spansIn p = passageOf 0 (many 20 (powered p (move mark ownWords (whole (submits 0 1 (replicate 8 0) listing)) board)) .trace .events) .spans
 
 -- uncut; withdrawn; resumed at its acquire, and at its release
 abbrev pub spans : List (List Span)
 spans = spansIn never ∷ spansIn (after 4) ∷ spansIn (after 5) ∷ spansIn (after 15) ∷ []
 
-abbrev ofTicket : Start → ℕ → List Span
-ofTicket b t = span 0 (given 0 1 (replicate 8 0) ticket) b t ∷ []
+abbrev ofListing : Start → ℕ → List Span
+ofListing b t = span 0 (given 0 1 (replicate 8 0) listing) b t ∷ []
 
 abbrev pub expectedSpans : List (List Span)
-expectedSpans = ofTicket first 19 ∷ [] ∷ ofTicket (resumed 0) 14 ∷ ofTicket (resumed 2) 6 ∷ []
+expectedSpans = ofListing first 19 ∷ [] ∷ ofListing (resumed 0) 14 ∷ ofListing (resumed 2) 6 ∷ []

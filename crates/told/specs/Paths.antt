@@ -6,8 +6,7 @@ use mathlib.Core.Option.{Option, some, none}
 use lib.ListN.{getD}
 use lib.Dec.{eqb}
 use Rattle.code.specs.declared.Op.{Op}
-use Rattle.code.specs.Op.{opOf}
-use Rattle.needs.specs.Ways.{isFinish}
+use Rattle.code.specs.Op.{opOf, isFinish}
 use Rattle.claims.specs.Reference.{Job, State, advance}
 
 -- of each section that has ended, in the order of their beginning, and so far of the one under way

@@ -1,5 +1,5 @@
 -- What the code does of an outcome: what the plan leaves is what the outcome leaves, the locks held with it (`plan-leaves`); and a turn stores at
--- no cell and no lock past the image's (`within-turn`), so that the lock that a plan names is one of the 64 (`plan-in`).
+-- no cell and no lock past the image's, and waits at none (`within-turn`), so that the lock that a plan names is one of the 64 (`plan-in`).
 use Prim.Native.Nat.{ℕ, suc, zero, _-_, _<_}
 use mathlib.Core.Path.{_≡_, refl}
 use mathlib.Core.Bool.{Bool, true, false, cond}
@@ -34,7 +34,7 @@ Numbered (step d i) = Unit {0}
 abbrev pub Within : Outcome → Type 0
 Within (stored p v c) = Numbered p
 Within (passed why c) = Unit {0}
-Within (waiting b) = Unit {0}
+Within (waiting b) = b < 64
 Within resting = Unit {0}
 Within (refused r) = Unit {0}
 
@@ -47,7 +47,7 @@ module _ (n : ℕ) (rd : Memory) (d s : ℕ) where
 
   within-acquire : (a t : ℕ) → a < 64 → Within (acquireTurn n rd d a s t)
   within-acquire a zero h = tt
-  within-acquire a (suc zero) h = either Within (eqb (rd (lock a)) 0) _ _ (λ e. h) (λ e. tt)
+  within-acquire a (suc zero) h = either Within (eqb (rd (lock a)) 0) _ _ (λ e. h) (λ e. h)
   within-acquire a (suc (suc j)) h = within-logged (suc (suc j)) _ _ _ j tt
 
   within-finish : (t : ℕ) → Within (finishTurn n rd d s t)
