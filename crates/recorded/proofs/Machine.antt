@@ -1,6 +1,6 @@
 -- The calls of a day are a list as in demand 3: every number is one that a caller can hand over (`moves-machine`), since a number of n digits is below 16 ^ n
 -- (`at-few`); and the one call that is cut has a recovery behind it (`moves-legal`, `moves-uncut`).
-use Prim.Native.Nat.{ℕ, zero, suc, _+_, _-_, _*_, _/_, _^_, _<_, _≤_}
+use Prim.Native.Nat.{ℕ, zero, suc, _+_, _*_, _/_, _^_, _<_, _≤_}
 use mathlib.Core.Path.{_≡_, refl, _∙_}
 use mathlib.Core.Bool.{Bool, true, false, cond, _||_, not}
 use mathlib.Core.List.{List, [], _∷_, _++_}

@@ -2,9 +2,9 @@
 -- (`turned-clear`), in a run neither (`round-clear`); a recovery is accepted; a submit is refused with other causes (`answer-said`). And what is printed
 -- of a store has an index of the image, never ffff (`store-clear`).
 use Prim.Native.Nat.{ℕ, zero, suc, _+_, _*_, _<_, _≤_}
-use mathlib.Core.Path.{_≡_, refl, sym, ap, subst, _∙_}
+use mathlib.Core.Path.{_≡_, refl, ap, subst}
 use mathlib.Core.Logic.{_≢_}
-use mathlib.Core.Bool.{Bool, true, false, cond, _&&_, and-eq-true-iff}
+use mathlib.Core.Bool.{Bool, true, false, cond, _&&_}
 use mathlib.Core.List.{List, [], _∷_, _++_}
 use native.Mathlib.Omega.{arith}
 use borrow.Author.Tests.{ltb-true, leb-true}
@@ -47,7 +47,7 @@ use Rattle.frames.specs.Line.{firstOf, frameOf, stepsPart, wordsOf}
 use Rattle.frames.specs.Print.{refusal}
 use Rattle.frames.proofs.Frames.{timesIn, times-most}
 use Rattle.buffers.specs.Input.{linesOf}
-use Rattle.claims.specs.Calls.{Traced, turnBy, turnedAt, play, from, endsCut}
+use Rattle.claims.specs.Calls.{Traced, turnBy, turnedAt, play, from}
 use Rattle.claims.proofs.Turns.{Stepped}
 use Rattle.claims.proofs.Worlds.{Running, running-turn, few, touches-valid}
 use Rattle.claims.proofs.Settling.{steps}

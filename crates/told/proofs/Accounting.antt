@@ -1,7 +1,7 @@
 -- Every release is accounted for (`AccountedAt`): at its target store and at its lock, the intent is what was held before it, or the worker was
 -- resumed there, and has made the turns between alone since. Kept by every call (`accounted-keeps`): a worker's own turns come there from the
 -- turn before, others change neither its record nor what concerns it, and a recovery is a loss.
-use Prim.Native.Nat.{ℕ, _+_, _-_, _<_, _≤_}
+use Prim.Native.Nat.{ℕ, _+_, _<_, _≤_}
 use mathlib.Core.Path.{_≡_, refl, sym, ap, subst, fun-ext, _∙_}
 use mathlib.Core.Logic.{_≢_, _⊎_, inl, inr}
 use mathlib.Core.Bool.{Bool, true, false, cond, not, _&&_, and-false}
@@ -11,6 +11,7 @@ use lib.ListN.{length}
 use borrow.Author.Tests.{ne-eqb, eq-eqb}
 use native.Mathlib.Omega.{arith}
 use native.Mathlib.Decide.{ℕ-discrete}
+use Rattle.image.specs.declared.Field.{Field}
 use Rattle.image.specs.declared.Field.the-variants.{Pc, Intent}
 use Rattle.image.specs.Place.{Place, lock, field, step, Memory}
 use Rattle.image.specs.inner.Same.{sameField, upd}

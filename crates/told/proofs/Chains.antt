@@ -1,6 +1,6 @@
 -- The steps that jumps lead through, from a step on: a function of the memory (`chain`), the steps of any jumps that are made there (`lands`), and the same
 -- in two memories that agree on what the jumps read (`chain-same`, `phase-chain`, `own-chain`).
-use Prim.Native.Nat.{ℕ, zero, suc, _+_, _-_, _%_, _/_, _^_, _<_, _≤_}
+use Prim.Native.Nat.{ℕ, zero, suc, _+_, _-_, _%_, _/_, _^_, _≤_}
 use mathlib.Core.Path.{_≡_, refl, sym, ap, subst, _∙_}
 use mathlib.Core.Bool.{Bool, true, false, cond}
 use mathlib.Core.List.{List, [], _∷_, _++_}
@@ -8,16 +8,15 @@ use lib.Dec.{eqb, ltb, leb}
 use borrow.Author.Tests.{ltb-true, leb-true}
 use native.Mathlib.Omega.{arith}
 use Rattle.mask.specs.Mask.{has}
-use Rattle.image.specs.declared.Field.the-variants.{Count, Pc, Addr0, Val0, Addr1, Val1}
+use Rattle.image.specs.declared.Field.the-variants.{Count, Pc}
 use Rattle.image.specs.Place.{Place, cell, lock, field, own, step, Memory}
 use Rattle.image.specs.inner.Same.{upd}
 use Rattle.code.specs.declared.Op.{Op}
 use Rattle.code.specs.declared.Op.the-variants.{Acquire, Release, Assign, Jump, Finish, Unknown}
-use Rattle.code.specs.Op.{opOf}
 use Rattle.rules.specs.Rules.{covered}
 use Rattle.section.specs.Valid.{Valid}
 use Rattle.working.specs.Cursor.{Cursor, on}
-use Rattle.log.specs.Log.{operand, codeIn, wordIn, second, spareAddr, spareVal}
+use Rattle.log.specs.Log.{operand, codeIn, wordIn}
 use Rattle.plan.specs.Turn.{Outcome, stored, passed, waiting, resting, refused, opTurn, turnAt, logged}
 use Rattle.claims.specs.Reference.{Given}
 use Rattle.claims.proofs.Invariant.{opAt, heldAt, Nearing, Jumps, stay, leap}

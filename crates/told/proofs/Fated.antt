@@ -3,9 +3,9 @@
 use Prim.Native.Nat.{ℕ, _<_, _≤_}
 use mathlib.Core.Path.{_≡_, refl, sym, ap, _∙_}
 use mathlib.Core.Bool.{Bool, true, false, cond}
-use mathlib.Core.List.{List, [], _∷_, _++_, map, append-nil, append-assoc, map-append}
+use mathlib.Core.List.{List, [], _∷_, _++_, append-nil, append-assoc, map-append}
 use lib.Dec.{eqb}
-use borrow.Author.Tests.{eq-eqb, ne-eqb}
+use borrow.Author.Tests.{ne-eqb}
 use native.Mathlib.Decide.{ℕ-discrete}
 use Rattle.image.specs.Image.{workers, cellsOf}
 use Rattle.intake.specs.declared.Submitted.the-variants.{Taken}
@@ -14,14 +14,14 @@ use Rattle.working.proofs.Placed.{idle-is}
 use Rattle.plan.specs.Turn.{Outcome}
 use Rattle.claims.specs.Reference.{Given, given}
 use Rattle.claims.specs.Events.{Event, taken, moved, waited, recorded, ended, lost}
-use Rattle.claims.specs.Calls.{Trace, Traced, turnBy, from, afterCut}
+use Rattle.claims.specs.Calls.{Traced, turnBy, from, afterCut}
 use Rattle.claims.specs.Claims.{ofWorker}
 use Rattle.claims.proofs.Feeding.{of-snoc-same, of-snoc-other}
 use Rattle.claims.proofs.Called.{dl}
 use Rattle.claims.proofs.Moves.{args-full}
 use Rattle.told.specs.Turns.{Start, Span, span, Now, nowhere, fresh, going, closing, Passage, passage, turned, losing, heed, heedAll, passageOf, All}
-use Rattle.told.specs.Spanned.{counted, owing, Fate, over, withdrawn, closed, byTurn, byLoss, decided}
-use Rattle.told.specs.Spanned.{fatesFrom, fatesOf, oversBy, overs, whose, whoseStart, Fated, EachFated}
+use Rattle.told.specs.Spanned.{counted, owing, Fate, byTurn, byLoss, decided}
+use Rattle.told.specs.Spanned.{fatesFrom, fatesOf, oversBy, overs, whose, whoseStart, EachFated}
 use Rattle.told.proofs.Keeping.{nextTurn, submitted, recovered, Keeps}
 use Rattle.told.proofs.FromRest.{Any, kept-list}
 use Rattle.told.proofs.Accounting.{eventsBy, events-by}

@@ -12,7 +12,7 @@ use Rattle.image.specs.Place.{field}
 use Rattle.image.specs.Image.{Image, at, workers, cellsOf}
 use Rattle.plan.specs.Turn.{Outcome, stored, passed, waiting, resting, refused}
 use Rattle.claims.specs.Reference.{Given}
-use Rattle.claims.specs.Calls.{Traced, isPc, turnBy, from, endsCut}
+use Rattle.claims.specs.Calls.{Traced, isPc, turnBy, endsCut}
 use Rattle.claims.specs.Claims.{after, mended}
 use Rattle.told.specs.Once.{numbersOf, among, begunBy, BegunFinishes}
 use Rattle.claims.proofs.Turning.{still}

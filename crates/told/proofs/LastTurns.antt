@@ -1,6 +1,6 @@
 -- Where a worker's reading is behind the store that set its pc to 0, its turn is the last of its finish (`last-turns`).
-use Prim.Native.Nat.{ℕ, suc, _+_, _%_, _^_, _<_, _≤_}
-use mathlib.Core.Path.{_≡_, refl, sym, ap, subst, _∙_}
+use Prim.Native.Nat.{ℕ, _<_, _≤_}
+use mathlib.Core.Path.{_≡_, sym, ap, subst, _∙_}
 use mathlib.Core.Bool.{false}
 use mathlib.Core.List.{List}
 use borrow.Author.Tests.{ltb-false}
@@ -9,8 +9,6 @@ use Rattle.image.specs.declared.Field.the-variants.{Count, Pc}
 use Rattle.image.specs.Place.{field, Memory}
 use Rattle.image.specs.Image.{at, workers, cellsOf}
 use Rattle.code.specs.declared.Op.the-variants.{Finish}
-use Rattle.code.specs.Op.{opOf}
-use Rattle.section.specs.Check.{Code}
 use Rattle.working.specs.Cursor.{Cursor, idle, on, stepNo, cursorAt}
 use Rattle.log.specs.Log.{codeIn}
 use Rattle.plan.specs.Turn.{stored, turnAt}
@@ -24,13 +22,12 @@ use Rattle.claims.proofs.Played.{outcome-below}
 use Rattle.claims.proofs.Resting.{rested-running}
 use Rattle.claims.proofs.Ready.{turn-op}
 use Rattle.claims.proofs.Submitting.{on-not-idle}
-use Rattle.told.specs.Paths.{Paths}
 use Rattle.told.specs.Moments.{moment}
-use Rattle.told.specs.Turns.{Start, Span, Now, closing, Passage, passage, passageOf}
+use Rattle.told.specs.Turns.{Now, passageOf}
 use Rattle.told.specs.Treads.{LastTurn, LastTurns}
 use Rattle.told.proofs.FromRest.{Any, any-sorted}
 use Rattle.told.proofs.Resuming.{same-step}
-use Rattle.told.proofs.Pacing.{Anchored, Paced, At}
+use Rattle.told.proofs.Pacing.{Paced, At}
 use Rattle.told.proofs.OnTrack.{pathsIn}
 use Rattle.told.proofs.Spanning.{Spanning, Moored, spanning-keeps}
 use Rattle.told.proofs.Turns.{rested-spanning}

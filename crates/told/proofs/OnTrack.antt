@@ -1,32 +1,28 @@
 -- One worker on its passage (`OnTrack`), in a world (`Steady`); that it stays so where its record stays (`track-same`); and what a store leaves of
 -- the trace (`plain-store`, `pc-store`).
 use Prim.Native.Nat.{ℕ, suc, _<_}
-use mathlib.Core.Path.{_≡_, refl, sym, subst}
-use mathlib.Core.Logic.{_≢_}
-use mathlib.Core.Bool.{true, false, cond, and-false}
+use mathlib.Core.Path.{_≡_, sym, subst}
+use mathlib.Core.Bool.{true, false, cond}
 use mathlib.Core.List.{List, [], _∷_, _++_}
 use lib.ListN.{replicate}
 use lib.Dec.{eqb}
 use borrow.Author.Tests.{ne-eqb}
 use native.Mathlib.Omega.{arith}
-use Rattle.image.specs.declared.Field.{Field}
 use Rattle.image.specs.declared.Field.the-variants.{Count, Pc}
 use Rattle.image.specs.Place.{Place, field, Memory}
-use Rattle.image.specs.inner.Same.{sameField, upd}
 use Rattle.image.specs.Image.{at}
 use Rattle.section.specs.Check.{Code}
-use Rattle.working.specs.Cursor.{Cursor, on, stepNo, cursorAt}
+use Rattle.working.specs.Cursor.{Cursor, stepNo, cursorAt}
 use Rattle.log.specs.Log.{codeIn}
 use Rattle.plan.specs.Turn.{stored}
 use Rattle.claims.specs.Reference.{Given, initial}
 use Rattle.claims.specs.Events.{moved, recorded, ended, but}
 use Rattle.claims.specs.Calls.{Traced, isPc, turnBy}
 use Rattle.claims.specs.Claims.{ofWorker}
-use Rattle.claims.proofs.Turns.{Touches, inRecord, ownWord, ownCell, takes, frees as unlocks}
-use Rattle.told.specs.Paths.{Paths, paths, pathsOf}
-use Rattle.told.specs.Turns.{Passage, passage, passageOf}
+use Rattle.told.specs.Paths.{Paths, pathsOf}
+use Rattle.told.specs.Turns.{Passage, passageOf}
 use Rattle.told.proofs.Accounting.{eventsBy}
-use Rattle.told.proofs.Strides.{leaves, jumps}
+use Rattle.told.proofs.Strides.{jumps}
 use Rattle.told.proofs.Pacing.{Anchored, Paced}
 
 -- ---- one worker, by its record, its paths, its sections begun, its passage, its jumps, the section last taken, and its cursor

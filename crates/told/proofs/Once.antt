@@ -17,8 +17,7 @@ use Rattle.image.specs.Place.{field, Memory}
 use Rattle.image.specs.Image.{Image, at, workers, cellsOf}
 use Rattle.code.specs.declared.Op.{Op}
 use Rattle.code.specs.declared.Op.the-variants.{Acquire, Release, Assign, Jump, Finish, Unknown}
-use Rattle.code.specs.Op.{opOf}
-use Rattle.section.proofs.Steps.{ends}
+use Rattle.code.specs.Op.{opOf, isFinish}
 use Rattle.log.specs.Log.{codeIn}
 use Rattle.owed.specs.Owed.{namedStep, entryOk}
 use Rattle.soundness.specs.Sound.{sectionOk, pcOk}
@@ -119,7 +118,7 @@ module _ (n f : ℕ) (bs : List ℕ) (rd : Memory) (d : ℕ) (t : TellsAt n f bs
       ⊎-elim (λ x. absurd (omega arith)) (λ x. x) fin
 
 -- the step behind the one that the pc names is one of the section, where a recovery accepts the record
-entry-goes-on : (n : ℕ) (rd : Memory) (d : ℕ) (x : Op) → entryOk n rd d x ≡ true → ends x ≡ false
+entry-goes-on : (n : ℕ) (rd : Memory) (d : ℕ) (x : Op) → entryOk n rd d x ≡ true → isFinish x ≡ false
 entry-goes-on n rd d (Acquire a) h = refl
 entry-goes-on n rd d (Release a) h = refl
 entry-goes-on n rd d (Assign a e) h = refl

@@ -20,7 +20,7 @@ use Rattle.claims.specs.Reference.{Given}
 use Rattle.claims.specs.Calls.{nothing}
 use Rattle.claims.proofs.Submitting.{on-not-idle}
 use Rattle.told.specs.Once.{among}
-use Rattle.told.specs.Paths.{Paths, paths}
+use Rattle.told.specs.Paths.{Paths}
 use Rattle.told.specs.Turns.{Start, first, resumed, Span, span, Now, nowhere, fresh, going, closing, Passage, passage, turned}
 use Rattle.told.specs.Turns.{afterStep, needed, All}
 use Rattle.told.proofs.Resuming.{same-step}

@@ -3,23 +3,23 @@
 use Prim.Native.Nat.{ℕ, zero, suc, _+_, _*_, _-_, _^_, _<_, _≤_}
 use mathlib.Core.Path.{_≡_, refl, sym, ap, _∙_}
 use mathlib.Core.Bool.{Bool, true, false, cond, false≢true}
-use mathlib.Core.List.{List, [], _∷_, _++_, map, map-append}
+use mathlib.Core.List.{List, [], _∷_, _++_}
 use native.Mathlib.Omega.{arith}
 use native.Mathlib.Nat.{suc-mul}
-use lib.ListN.{length, take, set, length-append, length-replicate, replicate}
-use borrow.Author.Tests.{ltb-true, lt-ltb, ne-eqb, eq-eqb}
+use lib.ListN.{length, take, set, length-append, length-replicate}
+use borrow.Author.Tests.{ltb-true, lt-ltb, ne-eqb}
 use Rattle.image.specs.Place.{Place, Store}
-use Rattle.image.specs.Image.{Image, indexOf, at, workers, headerOk, lengthOf, recordAt, put, putAll}
+use Rattle.image.specs.Image.{Image, indexOf, workers, headerOk, lengthOf, recordAt, put, putAll}
 use Rattle.image.proofs.Header.{header-workers}
 use Rattle.image.proofs.Stores.{put-none, put-some, put-lots}
-use Rattle.image.proofs.Lists.{putAll-none, putAll-nil, putAll-some, putAll-append}
+use Rattle.image.proofs.Lists.{putAll-none, putAll-nil, putAll-some}
 use Rattle.rows.specs.Rows.{putFrom}
 use Rattle.formatting.specs.declared.Formatted.{Formatted}
 use Rattle.formatting.specs.declared.Formatted.the-variants.{Done, Refused as FormatRefused}
 use Rattle.formatting.specs.Format.{formTail, formatStores, formatAnswer, formatLeaves, formatLeft}
 use Rattle.intake.specs.declared.Submitted.{Submitted}
 use Rattle.intake.specs.declared.Submitted.the-variants.{Taken, Refused}
-use Rattle.intake.specs.Submit.{submission, free, submitAnswer, submitLeaves}
+use Rattle.intake.specs.Submit.{free, submitAnswer, submitLeaves}
 use Rattle.working.specs.Cursor.{Cursor}
 use Rattle.plan.specs.Turn.{Outcome, stored, passed, waiting, resting, refused}
 use Rattle.turn.specs.Call.{outcomeAt, outcome}
@@ -29,8 +29,8 @@ use Rattle.recovery.specs.Recover.{storesOf}
 use Rattle.claims.specs.Calls.{Traced, turnBy, turnedAt, refuses, round, rounds, ranBy, recoveredBy}
 use Rattle.claims.specs.Calls.{Call, submits, turns, runs, recovers, call, lent, callable}
 use Rattle.told.specs.Moments.{Moment, moment, inRound, inRounds, inCall}
-use Rattle.told.specs.Enough.{makes, wholly, EnoughIsWhole}
-use Rattle.told.specs.Prefixes.{Word, made, storeBy, submitStores, wordsFrom, words, turnStores, callStores, storesIn, Prefix, CutsArePrefixes}
+use Rattle.told.specs.Enough.{makes, EnoughIsWhole}
+use Rattle.told.specs.Prefixes.{Word, made, storeBy, submitStores, wordsFrom, words, turnStores, callStores, CutsArePrefixes}
 use Rattle.told.specs.Prefixes.{formatWords, FormatCutsArePrefixes}
 use Rattle.told.proofs.Enough.{enough-is-whole}
 use Rattle.told.proofs.RunTurns.{Headed, turn-headed}

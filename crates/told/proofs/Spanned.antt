@@ -7,7 +7,7 @@ use mathlib.Core.List.{List, [], _∷_, _++_, map, append-nil, append-assoc, map
 use native.Mathlib.Omega.{arith}
 use lib.Dec.{eqb}
 use lib.ListN.{getD, drop}
-use borrow.Author.Tests.{eq-eqb, ne-eqb}
+use borrow.Author.Tests.{ne-eqb}
 use native.Mathlib.Decide.{ℕ-discrete}
 use Rattle.image.specs.Image.{workers, cellsOf}
 use Rattle.intake.specs.declared.Submitted.the-variants.{Taken}
@@ -23,7 +23,7 @@ use Rattle.claims.proofs.Called.{dl}
 use Rattle.claims.proofs.Moves.{args-full, play-append, plain-legal, plain-uncut}
 use Rattle.told.specs.Turns.{Start, first, resumed, Span, span, Now, nowhere, fresh, going, closing, Passage, passage, turned, naming, finishing}
 use Rattle.told.specs.Turns.{heed, heedAll, passageOf, All, UncutSpanned}
-use Rattle.told.specs.Spanned.{counted, owing, fromFirst, Spanned, EverySpanned}
+use Rattle.told.specs.Spanned.{counted, owing, fromFirst, EverySpanned}
 use Rattle.told.proofs.Keeping.{nextTurn, submitted, Keeps, Kept, play-keeps}
 use Rattle.told.proofs.FromRest.{Plain, plain-sorted, kept-uncut}
 use Rattle.told.proofs.Accounting.{eventsBy, events-by}

@@ -1,43 +1,40 @@
 -- The reference machine follows the order so far (`followed-always`), the readings are those of the records (`readings-tied`), and a section is begun with
 -- the fifth store of its turns (`begun-fifth`).
 use Prim.Native.Nat.{ℕ, suc, zero, _+_, _%_, _^_, _<_, _≤_}
-use mathlib.Core.Path.{_≡_, refl, sym, ap, subst, _∙_}
+use mathlib.Core.Path.{_≡_, refl, sym, subst}
 use mathlib.Core.Bool.{Bool, true, false, cond}
 use mathlib.Core.List.{List, [], _∷_}
-use lib.ListN.{length, getD}
-use lib.Dec.{eqb, ltb}
+use lib.Dec.{eqb}
 use borrow.Author.Tests.{ne-eqb, ltb-false}
 use native.Mathlib.Omega.{arith}
-use Rattle.image.specs.declared.Field.the-variants.{Count, Pc, Owned}
+use Rattle.image.specs.declared.Field.the-variants.{Count, Pc}
 use Rattle.image.specs.Place.{lock, field, Memory}
-use Rattle.image.specs.Image.{Image, at, workers, cellsOf}
+use Rattle.image.specs.Image.{at, workers, cellsOf}
 use Rattle.code.specs.declared.Op.{Op}
 use Rattle.code.specs.declared.Op.the-variants.{Acquire, Finish}
 use Rattle.section.specs.Check.{Code}
 use Rattle.working.specs.Cursor.{Cursor, on, cursorAt}
 use Rattle.log.specs.Log.{codeIn}
 use Rattle.owed.specs.Owed.{namedStep}
-use Rattle.plan.specs.Turn.{Outcome, stored, waiting, opTurn, turnAt, lockTurn, logged}
-use Rattle.turn.specs.Call.{outcome}
+use Rattle.plan.specs.Turn.{stored, waiting, opTurn, turnAt, lockTurn}
 use Rattle.claims.specs.Reference.{Given}
 use Rattle.claims.specs.Calls.{Traced, from}
-use Rattle.claims.specs.Claims.{ofWorker, Rested, after}
-use Rattle.claims.proofs.Invariant.{opAt, Sectioned, Nearing}
+use Rattle.claims.specs.Claims.{ofWorker, after}
+use Rattle.claims.proofs.Invariant.{opAt, Nearing}
 use Rattle.claims.proofs.Invariant.{Phase, resting, fresh as fresh-phase, due, unlocking, unlocked, between, ended as ended-phase}
 use Rattle.claims.proofs.Worlds.{Running}
-use Rattle.claims.proofs.Played.{outcome-below, outcome-above}
+use Rattle.claims.proofs.Played.{outcome-below}
 use Rattle.claims.proofs.Resting.{rested-running}
 use Rattle.claims.proofs.Covers.{crashed-parts}
 use Rattle.claims.proofs.Accepted.{ok-named}
 use Rattle.claims.proofs.Ready.{turn-op}
-use Rattle.claims.proofs.Origins.{near-ready}
 use Rattle.claims.proofs.Entries.{addr-no-pc, val-no-pc}
 use Rattle.claims.proofs.Switching.{switched-names}
 use Rattle.claims.proofs.Submitting.{on-not-idle}
 use Rattle.told.specs.Paths.{Paths}
 use Rattle.told.specs.Moments.{moment}
 use Rattle.told.specs.Turns.{Span, Now, nowhere, fresh, going, closing, passage, passageOf}
-use Rattle.told.specs.Tied.{TiedAt, FreshTurn, Followed, FollowedAlways, ReadingsTied, BeginsFifth, BegunFifth}
+use Rattle.told.specs.Tied.{TiedAt, FreshTurn, FollowedAlways, ReadingsTied, BeginsFifth, BegunFifth}
 use Rattle.told.proofs.FromRest.{Any, any-sorted, kept-list}
 use Rattle.told.proofs.Resuming.{same-step}
 use Rattle.told.proofs.Pacing.{Anchored, Paced}

@@ -6,12 +6,12 @@ use mathlib.Core.Bool.{Bool, true, false, cond, _&&_}
 use mathlib.Core.List.{List, [], _∷_, _++_, append-nil}
 use lib.ListN.{replicate, getD}
 use lib.Dec.{eqb, ltb, leb}
-use borrow.Author.Tests.{eq-eqb, ne-eqb, eqb-true, ltb-true}
+use borrow.Author.Tests.{eq-eqb, eqb-true, ltb-true}
 use native.Mathlib.Omega.{arith}
-use Rattle.base.proofs.Bools.{and-left, and-right}
+use Rattle.base.proofs.Bools.{and-right}
 use Rattle.mask.specs.Mask.{has}
 use Rattle.image.specs.declared.Field.the-variants.{Count, Pc}
-use Rattle.image.specs.Place.{Place, field, step, Memory}
+use Rattle.image.specs.Place.{Place, field, Memory}
 use Rattle.image.specs.inner.Same.{upd}
 use Rattle.image.specs.Image.{at}
 use Rattle.code.specs.declared.Op.{Op}
@@ -28,20 +28,18 @@ use Rattle.log.specs.declared.Passing.{Passing}
 use Rattle.log.specs.declared.Passing.the-variants.{Jump as PassedJump, AlreadyFree as PassedFree, Others as PassedOthers}
 use Rattle.plan.specs.Turn.{Outcome, stored, passed, waiting, resting, refused, ready, turnAt, opTurn}
 use Rattle.claims.specs.Reference.{Given, initial}
-use Rattle.claims.specs.Events.{Event, taken, moved, waited, recorded, ended, lost}
+use Rattle.claims.specs.Events.{Event, moved, waited, ended}
 use Rattle.claims.specs.Calls.{Traced, isPc, jumpsBy, turnBy}
 use Rattle.claims.specs.Claims.{ofWorker}
-use Rattle.claims.proofs.Invariant.{opAt, Sectioned, Lodged, Phase}
+use Rattle.claims.proofs.Invariant.{opAt, Phase}
 use Rattle.claims.proofs.Frame.{Agree}
 use Rattle.claims.proofs.Turns.{Touches, Stepped}
 use Rattle.claims.proofs.LiveTurn.{but-same, but-other, agrees, one-owner}
 use Rattle.claims.proofs.Switching.{switched-some}
 use Rattle.claims.proofs.Worlds.{Running}
-use Rattle.claims.proofs.Submitting.{on-not-idle}
 use Rattle.told.specs.Paths.{Paths, paths, further, pathsOf}
-use Rattle.told.specs.Reports.{concerning}
-use Rattle.told.specs.Turns.{Span, Now, nowhere, fresh, going, closing, Passage, passage, turned, heed, heedAll, passageOf}
-use Rattle.told.specs.Treads.{Trail, trail, stepped, tread, treadAll, trailOf, Both}
+use Rattle.told.specs.Turns.{Span, Now, nowhere, fresh, going, closing, Passage, passage, turned, passageOf}
+use Rattle.told.specs.Treads.{Trail, trail, stepped, treadAll, trailOf, Both}
 use Rattle.told.proofs.Keeping.{Fed}
 use Rattle.told.proofs.Behind.{turnMemory, turnCursor}
 use Rattle.told.proofs.Writes.{Writes, Says}
@@ -50,12 +48,12 @@ use Rattle.told.proofs.Resuming.{same-step}
 use Rattle.told.proofs.Accounting.{eventsBy, events-by, own-by, touch-code}
 use Rattle.told.proofs.Chains.{chain, lands, phase-chain, own-chain}
 use Rattle.told.proofs.Walking.{walk-append}
-use Rattle.told.proofs.Strides.{isHead, head-pc, isLogged, Coming, Stride, rested, waits, stores, frees, leaves, closes, jumps, begins, names}
+use Rattle.told.proofs.Strides.{isHead, head-pc, Coming, Stride, rested, waits, stores, frees, leaves, closes, jumps, begins, names}
 use Rattle.told.proofs.Strides.{finishes, ends}
 use Rattle.told.proofs.WalkTurn.{longer, further-on, further-end, walk-later, jumps-rise}
 use Rattle.told.proofs.Pacing.{Anchored, Paced}
 use Rattle.told.proofs.Strode.{named, finished}
-use Rattle.told.proofs.Passages.{heed-none, heed-cons, heed-append, heed-moved, heed-waited, heed-named, heed-finished}
+use Rattle.told.proofs.Passages.{heed-moved, heed-waited, heed-named, heed-finished}
 use Rattle.told.proofs.OnTrack.{OnTrack, pathsIn, plain-store, pc-store}
 use Rattle.told.proofs.TrailEvents.{tread-append, tread-one, tread-aside, tread-moved, tread-named, tread-finished}
 use Rattle.told.proofs.TurnTrack.{passage-by, first-path, same-begun, named-events, no-finish, path-aside, passage-aside}

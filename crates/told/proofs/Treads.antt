@@ -1,30 +1,24 @@
 -- Every call keeps the steps that turns named those of the paths (`treads-keep`): so of every section that is over the steps gone through are the reference
 -- machine's, one by one, after any list of calls and cuts (`steps-exact`).
-use Prim.Native.Nat.{ℕ, suc, _+_, _%_, _^_, _<_, _≤_}
-use mathlib.Core.Path.{_≡_, refl, sym, ap, fun-ext, _∙_}
-use mathlib.Core.Logic.{_≢_, _⊎_, inl, inr}
-use mathlib.Core.Bool.{Bool, true, false, not, _||_, _&&_, and-false}
+use Prim.Native.Nat.{ℕ, suc, _%_, _^_, _<_, _≤_}
+use mathlib.Core.Path.{_≡_, refl, sym, ap, _∙_}
+use mathlib.Core.Logic.{_≢_}
+use mathlib.Core.Bool.{true, _||_, and-false}
 use mathlib.Core.List.{List, [], _∷_, _++_}
 use lib.ListN.{length}
-use lib.Dec.{eqb}
 use borrow.Author.Tests.{eq-eqb, ne-eqb}
 use native.Mathlib.Omega.{arith}
 use native.Mathlib.Decide.{ℕ-discrete}
-use Rattle.image.specs.declared.Field.{Field}
 use Rattle.image.specs.declared.Field.the-variants.{Count, Pc, Number}
 use Rattle.image.specs.Place.{Place, cell, field, own, step, Memory}
 use Rattle.image.specs.inner.Same.{sameField}
 use Rattle.image.specs.Image.{at, workers, cellsOf}
-use Rattle.code.specs.Table.{turnsOf}
-use Rattle.code.specs.Op.{opOf}
-use Rattle.section.specs.Check.{codeOf}
 use Rattle.intake.specs.declared.Submitted.the-variants.{Taken}
-use Rattle.working.specs.Cursor.{Cursor, idle, on, cursorAt}
+use Rattle.working.specs.Cursor.{Cursor, on, cursorAt}
 use Rattle.log.specs.Log.{codeIn}
 use Rattle.plan.specs.Turn.{Outcome, stored, passed, waiting, resting, refused}
 use Rattle.owed.specs.Owed.{namedOp}
 use Rattle.resuming.specs.Resumed.{targetTurn, resumed}
-use Rattle.needs.specs.Left.{resumedTurns}
 use Rattle.claims.specs.Reference.{Given, given}
 use Rattle.claims.specs.Events.{Event, taken, moved, waited, lost, but}
 use Rattle.claims.specs.Calls.{Traced, stepOf, turnBy, afterCut, from}
@@ -39,20 +33,20 @@ use Rattle.claims.proofs.Called.{TakenAs}
 use Rattle.claims.proofs.Played.{Worth}
 use Rattle.claims.proofs.Moves.{args-full}
 use Rattle.told.specs.Paths.{Paths}
-use Rattle.told.specs.Turns.{Span, Now, nowhere, fresh, going, closing, Passage, passage, turned, losing, heedAll, passageOf}
-use Rattle.told.specs.Treads.{Trail, trail, stepped, treadAll, trailOf, Both, StepExact, StepsExact}
+use Rattle.told.specs.Turns.{Now, nowhere, fresh, going, closing, Passage, passage, losing, heedAll, passageOf}
+use Rattle.told.specs.Treads.{Trail, trail, treadAll, trailOf, Both, StepExact, StepsExact}
 use Rattle.told.proofs.Keeping.{nextTurn, Fed, submitted, recovered, Keeps}
 use Rattle.told.proofs.Behind.{turnMemory, turnCursor, turned-memory, turned-cursors}
 use Rattle.told.proofs.Behind.{submitted-aside, submitted-cursors, recovered-fixed, recovered-cursors}
 use Rattle.told.proofs.FromRest.{Any, kept-list}
 use Rattle.told.proofs.Writes.{turn-writes}
-use Rattle.told.proofs.Accounting.{eventsBy, events-by, own-by}
+use Rattle.told.proofs.Accounting.{events-by}
 use Rattle.told.proofs.Strides.{phase-stride}
-use Rattle.told.proofs.Passages.{heed-none, heed-append, heed-aside, heed-moved, heed-waited, heed-taken, heed-lost}
+use Rattle.told.proofs.Passages.{heed-none, heed-append, heed-aside, heed-moved, heed-waited, heed-taken}
 use Rattle.told.proofs.OnTrack.{pathsIn}
 use Rattle.told.proofs.Spanning.{Spanning, Moored, spanning-keeps, recovered-held, begun-below, entry-turns, resumed-on, passage-lost}
 use Rattle.told.proofs.Turns.{rested-spanning}
-use Rattle.told.proofs.Trails.{Fits, TrailAt, CutAt, cut-at, stepped-overs, stepped-cut, lost-treads, both-map}
+use Rattle.told.proofs.Trails.{Fits, CutAt, cut-at, stepped-overs, stepped-cut, lost-treads, both-map}
 use Rattle.told.proofs.TrailEvents.{tread-none, tread-one, tread-append, tread-aside, tread-moved}
 use Rattle.told.proofs.TrailTurn.{agreed, Treading, own-treads, other-treads}
 

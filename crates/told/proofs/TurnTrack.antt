@@ -3,7 +3,7 @@
 use Prim.Native.Nat.{ℕ, suc, _+_, _%_, _^_, _<_, _≤_}
 use mathlib.Core.Path.{_≡_, refl, sym, ap, _∙_}
 use mathlib.Core.Logic.{_≢_}
-use mathlib.Core.Bool.{Bool, true, false, cond, not}
+use mathlib.Core.Bool.{Bool, true, false, cond}
 use mathlib.Core.List.{List, [], _∷_, _++_}
 use mathlib.Core.Option.{some}
 use lib.ListN.{getD, replicate}
@@ -42,7 +42,7 @@ use Rattle.told.proofs.Keeping.{Fed}
 use Rattle.told.proofs.Behind.{turnMemory, turnCursor}
 use Rattle.told.proofs.Writes.{Writes, Says}
 use Rattle.told.proofs.Telling.{begins-own}
-use Rattle.told.proofs.Accounting.{eventsBy, events-by, own-by, touch-code}
+use Rattle.told.proofs.Accounting.{eventsBy, events-by, own-by, touch-code, touch-other}
 use Rattle.told.proofs.Walking.{walk-append, walk-other, walk-more}
 use Rattle.told.proofs.Strides.{isHead, head-pc, isLogged, Coming, Stride, rested, waits, stores, frees, leaves, closes, jumps, begins, names}
 use Rattle.told.proofs.Strides.{finishes, ends}

@@ -10,9 +10,9 @@ use lib.Dec.{eqb, ltb}
 use Rattle.image.specs.declared.Field.{Field}
 use Rattle.image.specs.declared.Field.the-variants.{Count, Pc, Addr0, Val0, Addr1, Val1, Intent, Owned, Number, Finished}
 use Rattle.image.specs.Place.{Place, cell, lock, field, own, step, Memory}
+use Rattle.code.specs.Op.{isFinish}
 use Rattle.code.specs.declared.Op.{Op}
 use Rattle.code.specs.declared.Op.the-variants.{Acquire, Release, Assign, Jump, Finish, Unknown}
-use Rattle.section.proofs.Steps.{ends}
 use Rattle.working.specs.Cursor.{Cursor, on}
 use Rattle.log.specs.Log.{operand, codeIn, second, spareAddr, spareVal}
 use Rattle.plan.specs.Turn.{Outcome, stored, passed, waiting, resting as rests, refused}
@@ -142,7 +142,7 @@ module _ (n : ℕ) (rd : Memory) (d : ℕ) (g : Given) where
       absurd (jump-holds sec kk a b m p (same ∙ (sym h ∙ free)))
 
   -- the step behind the last one recorded is no finish where another logged step, or a jump, comes next
-  logged-next : (s k j : ℕ) (x : Op) → Jumps n rd d (suc s) j k → opAt n rd d k ≡ x → ends x ≡ false → opAt n rd d (suc s) ≡ Finish → ⊥
+  logged-next : (s k j : ℕ) (x : Op) → Jumps n rd d (suc s) j k → opAt n rd d k ≡ x → isFinish x ≡ false → opAt n rd d (suc s) ≡ Finish → ⊥
   logged-next s k j x js o e f = by k j js o
     where
       first : (i j k : ℕ) → Jumps n rd d i j k → opAt n rd d i ≡ Finish → j ≡ 0
@@ -153,7 +153,7 @@ module _ (n : ℕ) (rd : Memory) (d : ℕ) (g : Given) where
       by : (k j : ℕ) → Jumps n rd d (suc s) j k → opAt n rd d k ≡ x → ⊥
       by k j stay q =
           let z : Finish ≡ x = sym f ∙ q in
-          let y : true ≡ false = ap ends z ∙ e in
+          let y : true ≡ false = ap isFinish z ∙ e in
           absurd (true≢false y)
       by k j (leap jj kk a b js m p) q = let z = first (suc s) (suc jj) _ (leap jj kk a b js m p) f in omega arith
 
@@ -170,7 +170,7 @@ module _ (n : ℕ) (rd : Memory) (d : ℕ) (g : Given) where
       (acquire-says a 0 t early ((λ z. (switched-some n rd d 0, entered .by, entered .numbered)), (λ h. absurd (h p)), (λ h. absurd (h p))))
 
   -- the pc of step k is stored, with step s recorded
-  pc-moves : (s k j : ℕ) (x : Op) → Named n rd d s → Jumps n rd d (suc s) j k → opAt n rd d k ≡ x → ends x ≡ false → WritesPc (switched n rd d k)
+  pc-moves : (s k j : ℕ) (x : Op) → Named n rd d s → Jumps n rd d (suc s) j k → opAt n rd d k ≡ x → isFinish x ≡ false → WritesPc (switched n rd d k)
   pc-moves s k j x named js o e = (
     (λ z. absurd (named-pc n rd d s (named .pc) z)),
     (λ h z. absurd (switched-some n rd d k z)),
