@@ -149,7 +149,7 @@ pub fn turn(image: &mut [u64], c: Cursors, d: usize, left: &mut u64) -> Turned
 }
 
 // One turn of worker d, as `turn` makes it, for lines of turns: the library has a turn call of its own, into which the compiler can put `turn`.
-pub fn line_turn(image: &mut [u64], c: Cursors, d: usize, left: &mut u64) -> NextTurn
+pub fn line_turn(image: &mut [u64], c: Cursors, d: usize, left: &mut u64) -> Turned
     ensures answer { λ r. ⌜ r .answer ≡ answerOf ownWords (outcome mark ownWords (world (now (image .entry)) c (now (left .entry))) d) ⌝ }
     ensures after { λ r. ⌜ world (now (image .exit)) (r .cursors) (now (left .exit))
         ≡ leaves ownWords (world (now (image .entry)) c (now (left .entry))) d (outcome mark ownWords (world (now (image .entry)) c (now (left .entry))) d) ⌝ }

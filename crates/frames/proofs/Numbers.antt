@@ -1,17 +1,17 @@
 -- Laws of hexadecimal digits: a number grows by one digit at a time and fits a word; the digits of a line are tested, and its
 -- words read, one after the other.
-use Prim.Native.Nat.{ℕ, _+_, _-_, _*_, _^_, _<_, _≤_}
-use mathlib.Core.Path.{_≡_}
+use Prim.Native.Nat.{ℕ, zero, suc, _+_, _-_, _*_, _/_, _^_, _<_, _≤_}
+use mathlib.Core.Path.{_≡_, refl, ap}
 use mathlib.Core.Bool.{true, false, _&&_}
 use mathlib.Core.List.{List, _++_, append-nil}
 use native.Mathlib.Omega.{arith}
 use native.Mathlib.Nat.{pow-suc, pow-le-pow-right, lt-of-lt-of-le}
 use native.Mathlib.Numerals.{add-one}
 use lib.ListN.{length, getD, take, drop, set, drop-of-length-le}
-use lib.Seq.{drop-cons, take-suc-set, append-snoc}
+use lib.Seq.{drop-cons, take-suc-set, append-snoc, take-at}
 use Rattle.base.proofs.Counting.{left-step, left-none, left-all}
 use Rattle.frames.specs.Hex.{isHex, hexOf, hexFrom, hexAt, allHex}
-use Rattle.frames.specs.Line.{wordsFrom}
+use Rattle.frames.specs.Line.{wordsFrom, wordsOf}
 
 -- ---- numbers
 
@@ -72,3 +72,12 @@ module _ (part : List ℕ) (n : ℕ) where
 
   pub words-all : (out : List ℕ) → take 0 out ++ wordsFrom part 0 (n - 0) ≡ wordsFrom part 0 n
   words-all out = rw (left-all n)
+
+words-many : (part : List ℕ) (i k : ℕ) → length (wordsFrom part i k) ≡ k
+unfolding wordsFrom
+words-many part i zero = refl
+words-many part i (suc k) = ap suc (words-many part (i + 1) k)
+
+-- the words are what stands before the rest
+pub words-first : (part rest : List ℕ) → take (length part / 16) (wordsOf part ++ rest) ≡ wordsOf part
+words-first part rest = take-at (wordsOf part) rest _ (words-many part 0 (length part / 16))

@@ -4,7 +4,8 @@ use crate::Opening;
 use crate::digits;
 ghost use mathlib.Core.Path.{_≡_};
 ghost use Prim.Native.Nat.{_≤_, _/_};
-ghost use lib.ListN.{length, take};
+ghost use mathlib.Core.List.{_++_};
+ghost use lib.ListN.{length, drop};
 ghost use Rattle.frames.specs.Line.{firstOf, frameOf, submitFrame, turnsFrame, recoverFrame, roundsFrame, stepsPart, argumentsOf, wordsOf};
 
 pub fn first(line: &[u8]) -> Opening
@@ -119,11 +120,11 @@ pub fn arguments(line: &[u8]) -> [u64; 8]
     ]
 }
 
-// Puts the words of a steps' part at the start of a lent slice, and answers how many they are.
+// Puts the words of a steps' part at the start of a lent slice, and answers how many they are. What is behind them stays.
 pub fn words(part: &[u8], out: &mut [u64]) -> usize
     requires { ⌜ length (now part) / 16 ≤ length (now out) ⌝ }
     ensures count { λ r. ⌜ r ≡ length (now (part .entry)) / 16 ⌝ }
-    ensures words { λ r. ⌜ take (length (now (part .entry)) / 16) (now (out .exit)) ≡ wordsOf (now (part .entry)) ⌝ }
+    ensures words { λ r. ⌜ now (out .exit) ≡ wordsOf (now (part .entry)) ++ drop (length (now (part .entry)) / 16) (now (out .entry)) ⌝ }
 {
     let n = part.len() / 16;
     let mut i: usize = 0;

@@ -17,12 +17,12 @@ use Rattle.soundness.specs.declared.Refusal.the-variants.{Image as ImageRefused
 use Rattle.soundness.specs.declared.Answer.the-variants.{Refused}
 use Rattle.resuming.specs.Resumed.{resumedAll}
 use Rattle.repair.specs.Plan.{rows, plan}
-use Rattle.soundness.specs.Sound.{unsound, badLock}
+use Rattle.soundness.specs.Sound.{eight, unsound, badLock}
 use Rattle.recovery.specs.Recovery.{Recovered, accepted, rejected, byFirst, recovery}
-use Rattle.soundness.specs.inner.Reading.{Restorable}
+use Rattle.soundness.specs.inner.Reading.{Restorable, owedAt}
 use Rattle.repair.specs.Repair.{noRepair, slotAt}
 use Rattle.soundness.specs.inner.Tests.{isDone, byRecord, byLock}
-use Rattle.recovery.specs.Recover.{answerOf, cursorsOf, repairBy, storesOf, recoveryLeaves, recoveryLeft}
+use Rattle.recovery.specs.Recover.{owedFound, answerOf, cursorsOf, repairBy, storesOf, recoveryLeaves, recoveryLeft}
 use Rattle.soundness.proofs.Legible.{restorable}
 use Rattle.repair.proofs.Slots.{repair-slots, empty-slots}
 
@@ -82,6 +82,12 @@ module _ (mark n : ℕ) (m : Image) where
       let p = private-done (headerOk mark n m) Good Unsound Bad e in
       let h = header-true mark n m (p .0) in
       restorable n m few (h .few) (h .size) (p .1)
+
+  pub done-owed : isDone (answerOf (recovery mark n m)) ≡ true → owedFound mark n m ≡ eight (owedAt n (at n m) (workers m))
+  unfolding recovery
+  done-owed e =
+      let p = private-done (headerOk mark n m) Good Unsound Bad e in
+      rw (p .0, p .1)
 
 -- one that is refused leaves all workers idle, and nothing to store
 pub refused-idle : (r : Recovered) → isDone (answerOf r) ≡ false → allIdle ≡ cursorsOf r

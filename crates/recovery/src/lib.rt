@@ -6,14 +6,10 @@ use soundness::Judged;
 use soundness::Refusal;
 use working::Cursors;
 ghost use mathlib.Core.Path.{_≡_};
-ghost use mathlib.Core.Bool.{true};
 ghost use Prim.Native.Nat.{_≤_};
-ghost use Rattle.image.specs.Image.{at, workers, headerOk};
-ghost use Rattle.soundness.specs.Sound.{eight};
+ghost use Rattle.image.specs.Image.{headerOk};
 ghost use Rattle.recovery.specs.Recovery.{recovery};
-ghost use Rattle.soundness.specs.inner.Reading.{owedAt};
-ghost use Rattle.soundness.specs.inner.Tests.{isDone};
-ghost use Rattle.recovery.specs.Recover.{answerOf, cursorsOf, repairBy, recoveryLeaves, recoveryLeft};
+ghost use Rattle.recovery.specs.Recover.{owedFound, answerOf, cursorsOf, repairBy, recoveryLeaves, recoveryLeft};
 
 // What a recovery answers; refused, with all workers idle and a repair that stores nothing.
 pub struct Restored {
@@ -38,7 +34,7 @@ fn header_ok(image: &[u64], mark: u64, own: usize) -> bool
 fn judge(image: &[u64], mark: u64, own: usize) -> Judged
     requires { ⌜ own ≤ 64 ⌝ }
     ensures answer { λ r. ⌜ r .answer ≡ answerOf (recovery mark own (now (image .entry))) ⌝ }
-    ensures owed { λ r. ⌜ (isDone (r .answer) ≡ true → r .owed ≡ eight (owedAt own (at own (now (image .entry))) (workers (now (image .entry))))) ⌝ }
+    ensures owed { λ r. ⌜ r .owed ≡ owedFound mark own (now (image .entry)) ⌝ }
 {
     if !header_ok(image, mark, own) {
         return Judged {

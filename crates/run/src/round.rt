@@ -2,6 +2,7 @@
 use turn::Acted;
 use turn::Answer;
 use turn::Did;
+use turn::Turned;
 use working::Cursors;
 use working::Refusal;
 ghost use mathlib.Core.Path.{_≡_};
@@ -117,41 +118,28 @@ pub(crate) fn next_open(c: Cursors, d: usize, n: usize) -> usize
 }
 
 // A turn that is not made: the record is as it was.
-fn told(d: usize, answer: Answer, c: Cursors) -> NextTurn
-    ensures { λ r. ⌜ r ≡ record { worker = d; answer = answer; cursors = c } ⌝ }
+fn told(answer: Answer, c: Cursors) -> Turned
+    ensures { λ r. ⌜ r ≡ record { answer = answer; cursors = c } ⌝ }
 {
-    NextTurn {
-        worker: d,
+    Turned {
         answer: answer,
         cursors: c,
     }
 }
 
 // The turn of worker d, which is open, by itself.
-fn open_turn(image: &mut [u64], c: Cursors, d: usize, own: usize, left: &mut u64) -> NextTurn
+fn open_turn(image: &mut [u64], c: Cursors, d: usize, own: usize, left: &mut u64) -> Turned
     requires { ⌜ (Inside own (now image) d) × (isIdle (cursorAt c d) ≡ false) ⌝ }
-    ensures worker { λ r. ⌜ r .worker ≡ d ⌝ }
     ensures answer { λ r. ⌜ r .answer ≡ answerOf own (outcomeAt own (world (now (image .entry)) c (now (left .entry))) d) ⌝ }
     ensures after { λ r. ⌜ world (now (image .exit)) (r .cursors) (now (left .exit))
         ≡ leaves own (world (now (image .entry)) c (now (left .entry))) d (outcomeAt own (world (now (image .entry)) c (now (left .entry))) d) ⌝ }
 {
     let lap = turn(image, d, c.step[d], c.turn[d], own, 0, left);
     if !lap.made {
-        return NextTurn {
-            worker: d,
-            answer: Answer::Refused(Refusal::Cursor(d)),
-            cursors: c,
-        };
+        return told(Answer::Refused(Refusal::Cursor(d)), c);
     }
     let acted = lap.acted;
-    let told = turn::told(c, d, acted);
-    let answer = told.answer;
-    let after = told.cursors;
-    NextTurn {
-        worker: d,
-        answer: answer,
-        cursors: after,
-    }
+    turn::told(c, d, acted)
 }
 
 // The turn of worker d by itself, as a line of turns makes it: what a turn call makes (`turn::turn`), by the functions of a round.
@@ -162,20 +150,20 @@ pub fn only(
     mark: u64,
     own: usize,
     left: &mut u64,
-) -> NextTurn
+) -> Turned
     requires { ⌜ own ≤ 64 ⌝ }
     ensures answer { λ r. ⌜ r .answer ≡ answerOf own (outcome mark own (world (now (image .entry)) c (now (left .entry))) d) ⌝ }
     ensures after { λ r. ⌜ world (now (image .exit)) (r .cursors) (now (left .exit))
         ≡ leaves own (world (now (image .entry)) c (now (left .entry))) d (outcome mark own (world (now (image .entry)) c (now (left .entry))) d) ⌝ }
 {
     if !image::header_ok(image, mark, own) {
-        return told(d, Answer::Refused(Refusal::Image), c);
+        return told(Answer::Refused(Refusal::Image), c);
     }
     if image::workers(image) <= d as u64 {
-        return told(d, Answer::Refused(Refusal::Worker), c);
+        return told(Answer::Refused(Refusal::Worker), c);
     }
     if working::idle(c, d) {
-        return told(d, Answer::Idle, c);
+        return told(Answer::Idle, c);
     }
     open_turn(image, c, d, own, left)
 }
@@ -212,5 +200,12 @@ pub fn next(
             cursors: c,
         };
     }
-    open_turn(image, c, k, own, left)
+    let t = open_turn(image, c, k, own, left);
+    let answer = t.answer;
+    let after = t.cursors;
+    NextTurn {
+        worker: k,
+        answer: answer,
+        cursors: after,
+    }
 }

@@ -23,7 +23,7 @@ pub enum Answer {
     Refused(Refusal),
 }
 
-// The answer of the tests and, where it is done, the owed sets.
+// The answer of the tests and the owed sets; all of them empty where a record is refused.
 pub struct Judged {
     pub answer: Answer,
     pub owed: [u64; 8],

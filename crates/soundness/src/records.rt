@@ -16,9 +16,9 @@ ghost use Rattle.image.specs.inner.Inside.{Inside};
 ghost use Rattle.section.specs.Check.{check, passes};
 ghost use Rattle.log.specs.Log.{codeIn};
 ghost use Rattle.owed.specs.Owed.{covers, owed};
-ghost use Rattle.soundness.specs.Sound.{eight, sectionOk, pcOk, sound, unsound};
-ghost use Rattle.soundness.specs.inner.Reading.{Helds, owedAt};
-ghost use Rattle.soundness.specs.inner.Tests.{isDone, byRecord};
+ghost use Rattle.soundness.specs.Sound.{sectionOk, pcOk, sound, unsound};
+ghost use Rattle.soundness.specs.inner.Reading.{Helds, owedBy};
+ghost use Rattle.soundness.specs.inner.Tests.{byRecord};
 
 // Whether the first k instruction words of worker d's record, each loaded, pass the check, which then leaves the held sets.
 fn section_passes(image: &[u64], d: usize, k: usize, own: usize, held: &mut [u64]) -> bool
@@ -132,7 +132,8 @@ fn judged(image: &[u64], first: usize, end: usize, own: usize) -> Judged
     requires { ⌜ (own ≤ 64) × (workers (now image) ≤ 8) × (length (now image) ≡ lengthOf own (workers (now image))) × (first ≤ end)
         × (end ≤ workers (now image)) ⌝ }
     ensures answer { λ r. ⌜ r .answer ≡ byRecord (unsound own (at own (now (image .entry))) end first (end - first)) ⌝ }
-    ensures owed { λ r. ⌜ (isDone (r .answer) ≡ true → first ≡ 0 → r .owed ≡ eight (owedAt own (at own (now (image .entry))) end)) ⌝ }
+    ensures owed { λ r. ⌜ (first ≡ 0 → r .owed ≡ owedBy own (at own (now (image .entry))) end
+        (unsound own (at own (now (image .entry))) end first (end - first))) ⌝ }
 {
     let mut sets = [0u64; 8];
     let mut held = [0u64; 64];
@@ -142,7 +143,7 @@ fn judged(image: &[u64], first: usize, end: usize, own: usize) -> Judged
         if !f.ok {
             return Judged {
                 answer: Answer::Refused(Refusal::Record(d)),
-                owed: sets,
+                owed: [0; 8],
             };
         }
         sets[d] = f.owed;
@@ -154,11 +155,12 @@ fn judged(image: &[u64], first: usize, end: usize, own: usize) -> Judged
     }
 }
 
-// Whether all records are sound, with the owed sets, or the first worker whose record is not.
+// Whether all records are sound, with the owed sets, or the first worker whose record is not, with empty ones.
 pub fn records(image: &[u64], own: usize) -> Judged
     requires { ⌜ (own ≤ 64) × (workers (now image) ≤ 8) × (length (now image) ≡ lengthOf own (workers (now image))) ⌝ }
     ensures answer { λ r. ⌜ r .answer ≡ byRecord (unsound own (at own (now (image .entry))) (workers (now (image .entry))) 0 (workers (now (image .entry)))) ⌝ }
-    ensures owed { λ r. ⌜ (isDone (r .answer) ≡ true → r .owed ≡ eight (owedAt own (at own (now (image .entry))) (workers (now (image .entry))))) ⌝ }
+    ensures owed { λ r. ⌜ r .owed ≡ owedBy own (at own (now (image .entry))) (workers (now (image .entry)))
+        (unsound own (at own (now (image .entry))) (workers (now (image .entry))) 0 (workers (now (image .entry)))) ⌝ }
 {
     judged(image, 0, image::workers(image) as usize, own)
 }

@@ -1,2 +1,3 @@
 pub mod InBuffers
 pub mod Lines
+pub mod Shell

@@ -11,7 +11,10 @@ mod telling;
 ghost use mathlib.Core.Path.{_≡_};
 ghost use Prim.Native.Nat.{_≤_};
 ghost use lib.ListN.{length};
+ghost use Rattle.pieces.specs.Pieces.{whole};
+ghost use Rattle.pieces.specs.Pieced.{pointOf};
 ghost use Rattle.stream.specs.InBuffers.{InBuffers};
+ghost use Rattle.stream.specs.Shell.{unread, closed, Stepped};
 
 // Where a stream stands.
 struct Stream {
@@ -38,7 +41,9 @@ fn step(
     s: Stream,
 ) -> Stream
     requires { ⌜ InBuffers (now image) (now buf) s ⌝ }
-    ensures { λ r. ⌜ InBuffers (now (image .exit)) (now (buf .exit)) r ⌝ }
+    ensures within { λ r. ⌜ InBuffers (now (image .exit)) (now (buf .exit)) r ⌝ }
+    ensures stepped { λ r. ⌜ Stepped (now (image .entry)) (now (image .exit)) (now (buf .entry)) (now (buf .exit)) (now (out .entry)) (now (out .exit)) s r
+        (whole (s .more) (length (now (out .entry))) (pointOf (unread (now (buf .entry)) s) (now (image .entry)) (s .day))) ⌝ }
 {
     let from = s.from;
     let to = s.to;
@@ -68,7 +73,7 @@ fn step(
 // The end, and what is to be said of it.
 fn ended(messages: i32, buf: &[u8], s: Stream) -> Stream
     requires { ⌜ s .from ≤ length (now buf) ⌝ }
-    ensures { λ r. ⌜ (r .day ≡ s .day) × (r .from ≡ s .from) × (r .to ≡ s .to) ⌝ }
+    ensures { λ r. ⌜ r ≡ closed s ⌝ }
 {
     let d = s.day;
     let p = d.played;

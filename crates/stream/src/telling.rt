@@ -6,7 +6,7 @@ ghost use mathlib.Core.Bool.{cond};
 ghost use lib.Dec.{eqb};
 ghost use Prim.Native.Nat.{_≤_};
 ghost use lib.ListN.{length, take};
-ghost use Rattle.stream.specs.Lines.{endsIn};
+ghost use Rattle.stream.specs.Lines.{endsIn, lineAt};
 
 // 1 for a byte that ends a line.
 fn ends(b: u8) -> u64
@@ -32,6 +32,7 @@ pub fn ends_in(buf: &[u8], n: usize) -> u64
 // The number of the line that ends with the n-th byte, or has it, where so many lines ended before the first.
 pub fn line_at(buf: &[u8], n: usize, before: u64) -> u64
     requires { ⌜ n ≤ length (now buf) ⌝ }
+    ensures { λ r. ⌜ r ≡ lineAt (now (buf .entry)) n before ⌝ }
 {
     if n == 0 {
         return before;

@@ -1,10 +1,12 @@
 -- `recovery::judge` meets its contract: its tests are the definition's, in the same order, each past those before it.
 use borrow.Author.Needs.{needs}
-use mathlib.Core.Bool.{false≢true}
 use mathlib.Core.Path.{sym, ap, _∙_}
 use denote.Ref.{now}
 use Rattle.base.proofs.Bools.{denied, granted}
+use Rattle.image.specs.Image.{at, workers}
 use Rattle.image.proofs.Header.{header-true}
+use Rattle.soundness.specs.Sound.{unsound}
+use Rattle.soundness.specs.inner.Reading.{owedBy}
 use Rattle.soundness.specs.inner.Tests.{isDone}
 use Rattle.recovery.proofs.Answers.{record-none, by-header, by-record, by-lock}
 use Rattle.recovery.proofs.judge.Statement.{statement}
@@ -16,7 +18,8 @@ header-ok-requires c κs = search needs
 returns : tie.Need-returns
 returns c =
     let A = c .before .before .before .args in
-    (by-header (A .mark) (A .own) (now (A .image)) (denied (c .before .header-ok .ensures) (c .if1 .taken)), λ e. absurd (false≢true e))
+    let h = denied (c .before .header-ok .ensures) (c .if1 .taken) in
+    (by-header (A .mark) (A .own) (now (A .image)) h, rw h)
 
 records-requires : tie.Need-records-requires
 records-requires c κs =
@@ -34,8 +37,7 @@ returns-2 c =
     let r = c .before .before .records in
     let h = granted (c .before .before .before .before .header-ok .ensures) (c .before .before .before .if1 .left) in (
       r .ensures .0 ∙ by-record (A .mark) (A .own) (now (A .image)) h (ap isDone (sym (r .ensures .0)) ∙ denied (c .before .done .ensures) (c .if2 .taken)),
-      r
-          .ensures .1,
+      rw h (r .ensures .1),
     )
 
 slice-aggregate-locks : tie.Need-slice-aggregate-locks
@@ -46,12 +48,13 @@ locks-requires c κs =
     let S = c .before .before .before .before .before .before .before .before in
     let A = S .args in
     let h = granted (c .before .before .before .before .before .before .header-ok .ensures) (c .before .before .before .before .before .if1 .left) in
-    let t = header-true (A .mark) (A .own) (now (A .image)) h in (
-      S .pre,
-      t .few,
-      c .before .before .before .before .records .ensures .1 (granted (c .before .before .before .done .ensures) (c .before .before .if2 .left)),
-      t .size,
-    )
+    let t = header-true (A .mark) (A .own) (now (A .image)) h in
+    let r = c .before .before .before .before .records in
+    let e = granted (c .before .before .before .done .ensures) (c .before .before .if2 .left) in
+    let m = now (A .image) in
+    let rd = at (A .own) m in
+    let none = record-none (unsound (A .own) rd (workers m) 0 (workers m)) (ap isDone (sym (r .ensures .0)) ∙ e) in
+    (S .pre, t .few, r .ensures .1 ∙ ap (owedBy (A .own) rd (workers m)) none, t .size)
 
 returns-3 : tie.Need-returns-3
 returns-3 c =
@@ -60,7 +63,7 @@ returns-3 c =
     let h = granted (c .before .before .before .before .before .before .before .header-ok .ensures)
     (c .before .before .before .before .before .before .if1 .left) in
     let e = granted (c .before .before .before .before .done .ensures) (c .before .before .before .if2 .left) in
-    (c .locks .ensures ∙ by-lock (A .mark) (A .own) (now (A .image)) h (record-none _ (ap isDone (sym (r .ensures .0)) ∙ e)), λ done. r .ensures .1 e)
+    (c .locks .ensures ∙ by-lock (A .mark) (A .own) (now (A .image)) h (record-none _ (ap isDone (sym (r .ensures .0)) ∙ e)), rw h (r .ensures .1))
 
 pub judge-spec : {M : Type 1} → statement M
 judge-spec =

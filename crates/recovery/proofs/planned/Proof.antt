@@ -5,7 +5,7 @@ use denote.Ref.{now}
 use Rattle.base.proofs.Bools.{denied, granted}
 use Rattle.soundness.specs.inner.Tests.{isDone}
 use Rattle.recovery.specs.Recovery.{recovery}
-use Rattle.recovery.proofs.Answers.{done-is, done-restorable, refused-idle, refused-repair}
+use Rattle.recovery.proofs.Answers.{done-is, done-restorable, done-owed, refused-idle, refused-repair}
 use Rattle.recovery.proofs.planned.Statement.{statement}
 use Rattle.recovery.proofs.planned.Tie as tie
 
@@ -35,7 +35,8 @@ resumed-all-requires c κs =
     let A = S .args in
     let j = c .before .before .before .judge in
     let e = granted (c .before .before .done .ensures) (c .before .if1 .left) in
-    (done-restorable (A .mark) (A .own) (now (A .image)) (S .pre) (ap isDone (sym (j .ensures .0)) ∙ e), j .ensures .1 e)
+    let g = ap isDone (sym (j .ensures .0)) ∙ e in
+    (done-restorable (A .mark) (A .own) (now (A .image)) (S .pre) g, j .ensures .1 ∙ done-owed (A .mark) (A .own) (now (A .image)) g)
 
 repair-requires : tie.Need-repair-requires
 repair-requires c κs =
@@ -43,7 +44,8 @@ repair-requires c κs =
     let A = S .args in
     let j = c .before .before .before .before .judge in
     let e = granted (c .before .before .before .done .ensures) (c .before .before .if1 .left) in
-    (done-restorable (A .mark) (A .own) (now (A .image)) (S .pre) (ap isDone (sym (j .ensures .0)) ∙ e), j .ensures .1 e)
+    let g = ap isDone (sym (j .ensures .0)) ∙ e in
+    (done-restorable (A .mark) (A .own) (now (A .image)) (S .pre) g, j .ensures .1 ∙ done-owed (A .mark) (A .own) (now (A .image)) g)
 
 returns-2 : tie.Need-returns-2
 returns-2 c =

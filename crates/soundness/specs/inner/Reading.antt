@@ -2,7 +2,7 @@
 use Prim.Native.Nat.{ℕ, _+_, _%_, _<_, _≤_}
 use mathlib.Core.Path.{_≡_}
 use mathlib.Core.Bool.{true, cond}
-use mathlib.Core.List.{List}
+use mathlib.Core.List.{List, [], _∷_}
 use lib.ListN.{length, getD}
 use lib.Dec.{ltb}
 use Rattle.image.specs.declared.Field.the-variants.{Count, Pc}
@@ -12,6 +12,7 @@ use Rattle.code.specs.Form.{inRange}
 use Rattle.section.specs.Check.{heldBefore}
 use Rattle.log.specs.Log.{codeIn}
 use Rattle.owed.specs.Owed.{namedStep, owed}
+use Rattle.soundness.specs.Sound.{eight}
 
 -- ---- a section that is begun
 
@@ -42,3 +43,8 @@ Helds n rd d k held = (j : ℕ) → j < k → getD held j 0 ≡ heldBefore (code
 -- worker d's owed set; empty for one that the image has not
 abbrev pub owedAt : ℕ → Memory → ℕ → ℕ → ℕ
 owedAt n rd D d = cond (ltb d D) (owed n rd d) 0
+
+-- the owed sets of D workers, by the first of them whose record is not sound: all empty where there is one
+abbrev pub owedBy : ℕ → Memory → ℕ → List ℕ → List ℕ
+owedBy n rd D [] = eight (owedAt n rd D)
+owedBy n rd D (d ∷ ds) = eight (λ (k : ℕ). 0)

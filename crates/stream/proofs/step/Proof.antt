@@ -1,19 +1,13 @@
--- `stream::step` meets its contract: each part leaves the stream within its buffers.
+-- `stream::step` meets its contract: the core does what its definition says, and each part leaves the stream within its buffers.
 use borrow.Author.Needs.{needs}
 use native.Mathlib.Omega.{arith}
-use Prim.Native.Nat.{ℕ, _+_, _-_, _≤_}
-use mathlib.Core.Path.{ap}
-use mathlib.Core.List.{List}
-use lib.ListN.{length, take, drop, length-drop}
-use lib.Seq.{length-take-le}
+use mathlib.Core.Path.{refl, sym, ap, _∙_}
 use Rattle.stages.specs.declared.Day.{Day}
+use Rattle.day.specs.declared.Want.the-variants.{Room, Input, Nothing}
+use Rattle.stream.specs.declared.Stream.{Stream}
+use Rattle.stream.proofs.Stepping.{taken-inside, steps, refilled-over}
 use Rattle.stream.proofs.step.Statement.{statement}
 use Rattle.stream.proofs.step.Tie as tie
-
--- what the core takes of the bytes lent lies among them
-private-taken : (buf : List ℕ) (from to taken : ℕ) → from ≤ to → to ≤ length buf → taken ≤ length (take (to - from) (drop from buf)) → from + taken ≤ to
-private-taken buf from to taken rising held h =
-    omega (arith, h, length-take-le (to - from) (drop from buf) (omega (arith, length-drop from buf, held, rising)), rising)
 
 sub-advance : tie.Need-sub-advance
 sub-advance c = search needs
@@ -38,11 +32,9 @@ wants-requires c κs = search needs
 
 add-t22 : tie.Need-add-t22
 add-t22 c =
-    let b8 = c .before .before .before .before .before .before .before .before in
-    let S = b8 .before .before .before .before .before .before .before .before .before in
-    let s = S .args .s in
-    let h = private-taken (S .args .buf .now) (s .from) (s .to) (b8 .advance .result .taken) (S .pre .rising) (S .pre .held) (b8 .advance .ensures .taken) in
-    search (needs, h)
+    let S = c .before .before .before .before .before .before .before .before .before .before .before .before .before .before .before .before .before in
+    let T = c .before .before .before .before .before .before .before .before .advance in
+    search (needs, taken-inside _ _ (S .args .buf .now) _ _ (S .args .s) (T .result) _ (S .pre .rising) (S .pre .held) (T .ensures))
 
 enum-told : tie.Need-enum-told
 enum-told c = search needs
@@ -69,7 +61,19 @@ same-length-3 : tie.Need-same-length-3
 same-length-3 c = search needs
 
 returns : tie.Need-returns
-returns c = search needs
+returns c =
+    let S = c .before .before .before .before .before .before .before .before .before .before .before .before .before .before .before .before .before .before .before in
+    let T = c .before .before .before .before .before .before .before .before .before .before .advance in
+    let s = S .args .s in
+    let b = S .args .buf .now in
+    let want = sym (c .before .before .wants .ensures) ∙ c .enum-told .given .1 in (
+      record {
+        rising = taken-inside _ _ b _ _ s (T .result) _ (S .pre .rising) (S .pre .held) (T .ensures);
+        held = S .pre .held;
+        holds = record { words = T .ensures .keeps .words; largest = omega (arith, T .kept .0, S .pre .holds .largest) };
+      },
+      steps _ _ b _ _ s (T .result) _ (S .pre .rising) (S .pre .held) (T .ensures) Room b _ (T .kept .1 .1 .1 .1 .0) want refl (refl, refl),
+    )
 
 same-length-4 : tie.Need-same-length-4
 same-length-4 c = search needs
@@ -82,20 +86,25 @@ same-length-6 c = search needs
 
 returns-2 : tie.Need-returns-2
 returns-2 c =
-    let back = c .before .before .before .before .before .before .before .before .before in
-    let b14 = back .before .before .before .before .before in
-    let b23 = b14 .before .before .before .before .before .before .before .before .before in
+    let S = c .before .before .before .before .before .before .before .before .before .before .before .before .before .before .before .before .before .before .before .before .before .before .before in
+    let T = c .before .before .before .before .before .before .before .before .before .before .before .before .before .before .advance in
     let M = c .before .before .more in
-    let R = b14 .advance in
-    let S = b23 in
-    record {
-      rising = omega (arith, M .ensures .1);
-      held = M .ensures .2;
-      holds = record {
-        words = omega (arith, ap (λ (d : Day). d .words) (M .ensures .0), R .ensures .keeps .words);
-        largest = omega (arith, R .kept .0, S .pre .holds .largest);
-      };
-    }
+    let s = S .args .s in
+    let b = S .args .buf .now in
+    let e = M .ensures .stream in
+    let day = ap (λ (x : Stream). x .day) e in
+    let want = sym (c .before .before .before .before .before .before .wants .ensures) ∙ c .before .before .before .before .enum-told2 .given .1 in (
+      record {
+        rising = omega (arith, ap (λ (x : Stream). x .from) e);
+        held = M .ensures .held;
+        holds = record {
+          words = omega (arith, ap (λ (d : Day). d .words) day, T .ensures .keeps .words);
+          largest = omega (arith, T .kept .0, S .pre .holds .largest);
+        };
+      },
+      steps _ _ b _ _ s (T .result) _ (S .pre .rising) (S .pre .held) (T .ensures) Input (M .last .1 .0) (M .result) (T .kept .1 .1 .1 .1 .0) want day
+          (refilled-over b (M .last .1 .0) s (T .result) _ (M .result) (M .ensures)),
+    )
 
 same-length-7 : tie.Need-same-length-7
 same-length-7 c = search needs
@@ -108,22 +117,25 @@ same-length-9 c = search needs
 
 returns-3 : tie.Need-returns-3
 returns-3 c =
-    let back = c .before .before .before .before .before .before .before .before .before in
-    let b11 = back .before .before .before in
-    let b20 = b11 .before .before .before .before .before .before .before .before .before in
-    let E = c .ended in
-    let R = b11 .advance in
-    let S = b20 in
+    let S = c .before .before .before .before .before .before .before .before .before .before .before .before .before .before .before .before .before .before .before .before .before in
+    let T = c .before .before .before .before .before .before .before .before .before .before .before .before .advance in
     let s = S .args .s in
-    let t = private-taken (S .args .buf .now) (s .from) (s .to) (R .result .taken) (S .pre .rising) (S .pre .held) (R .ensures .taken) in
-    record {
-      rising = omega (arith, E .ensures .1, E .ensures .2, t);
-      held = omega (arith, E .ensures .2, S .pre .held);
-      holds = record {
-        words = omega (arith, ap (λ (d : Day). d .words) (E .ensures .0), R .ensures .keeps .words);
-        largest = omega (arith, R .kept .0, S .pre .holds .largest);
-      };
-    }
+    let b = S .args .buf .now in
+    let e = c .ended .ensures in
+    let day = ap (λ (x : Stream). x .day) e in
+    let to = ap (λ (x : Stream). x .to) e in
+    let taken = taken-inside _ _ b _ _ s (T .result) _ (S .pre .rising) (S .pre .held) (T .ensures) in
+    let want = sym (c .before .before .before .before .wants .ensures) ∙ c .before .before .enum-told3 .given .1 in (
+      record {
+        rising = omega (arith, ap (λ (x : Stream). x .from) e, to, taken);
+        held = omega (arith, to, S .pre .held);
+        holds = record {
+          words = omega (arith, ap (λ (d : Day). d .words) day, T .ensures .keeps .words);
+          largest = omega (arith, T .kept .0, S .pre .holds .largest);
+        };
+      },
+      steps _ _ b _ _ s (T .result) _ (S .pre .rising) (S .pre .held) (T .ensures) Nothing b _ (T .kept .1 .1 .1 .1 .0) want day (e, refl),
+    )
 
 pub step-spec : {M : Type 1} → statement M
 step-spec =

@@ -7,6 +7,7 @@ use denote.Ref.{now}
 use lib.ListN.{length, take, length-drop}
 use lib.Seq.{length-take-le}
 use Rattle.frames.specs.Line.{stepsPart, wordsOf}
+use Rattle.frames.proofs.Numbers.{words-first}
 use Rattle.lines.proofs.playing.submit.Statement.{statement}
 use Rattle.lines.proofs.playing.submit.Tie as tie
 
@@ -71,8 +72,9 @@ returns c =
     let W = b8 .before .before .before .before .before .words in
     let s = c .before .before .before .before .before .before .submit in
     let A = b16 .before .before .args in
-    let e : take (W .result) (W .last .1 .0) ≡ wordsOf (stepsPart (now (A .line))) = rw (W .ensures .0)
-    (W .ensures .1 ∙ ap wordsOf (b8 .before .before .before .before .before .before .before .steps-part .ensures)) in
+    let P = b8 .before .before .before .before .before .before .before .steps-part in
+    let e : take (W .result) (W .last .1 .0) ≡ wordsOf (stepsPart (now (A .line))) = rw (W .ensures .0, W .ensures .1)
+    (words-first (now (P .result)) _ ∙ ap wordsOf (P .ensures)) in
     rw (
       c .no-turn .ensures,
       c .before .no-repair .ensures,

@@ -68,16 +68,16 @@ same-length-3 c = search needs
 
 returns-3 : tie.Need-returns-3
 returns-3 c =
-    let b6 = c .before .before .before .before .before .before in
-    let b9 = b6 .before .before .before in
-    let A = b9 .before .before .before .before .args in
+    let b7 = c .before .before .before .before .before .before .before in
+    let b10 = b7 .before .before .before in
+    let A = b10 .before .before .before .before .args in
     let w = world (now (A .image)) (A .c) (now (A .left)) in
-    let n = b6 .before .workers .ensures in
-    let k : b6 .next-open .result ≡ nextIn w (A .d) = b6 .next-open .ensures ∙ rw n in
-    let h : nextIn w (A .d) < workers (now (A .image)) = rw (n, k) at (c .before .before .before .before .before .if2 .left) in
-    let x = next-turn (A .mark) (A .own) w (A .d) (granted (b9 .before .header-ok .ensures) (b9 .if1 .left)) h in
-    let T = c .before .before .open-turn .ensures in
-    (T .0 ∙ k ∙ sym (x .worker), (T .1 .0 ∙ rw (x .outcome, k), T .1 .1 ∙ rw (T .0, x .outcome, k)))
+    let n = b7 .before .workers .ensures in
+    let k : b7 .next-open .result ≡ nextIn w (A .d) = b7 .next-open .ensures ∙ rw n in
+    let h : nextIn w (A .d) < workers (now (A .image)) = rw (n, k) at (c .before .before .before .before .before .before .if2 .left) in
+    let x = next-turn (A .mark) (A .own) w (A .d) (granted (b10 .before .header-ok .ensures) (b10 .if1 .left)) h in
+    let T = c .before .before .before .open-turn .ensures in
+    (k ∙ sym (x .worker), (T .0 ∙ rw (x .outcome, k), T .1 ∙ rw (x .outcome, k)))
 
 pub next-spec : {M : Type 1} → statement M
 next-spec =

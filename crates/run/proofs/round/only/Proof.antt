@@ -86,7 +86,7 @@ returns-4 c =
     let h : A .d < workers (now (A .image)) = rw (b8 .workers .ensures) at (c .before .before .before .before .before .before .before .if2 .left) in
     let o = a-turn (A .mark) (A .own) w (A .d) e h in
     let T = c .before .before .open-turn .ensures in
-    (rw o (T .1 .0), rw o (T .1 .1))
+    (rw o (T .0), rw o (T .1))
 
 pub only-spec : {M : Type 1} → statement M
 only-spec =

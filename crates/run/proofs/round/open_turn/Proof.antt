@@ -24,27 +24,30 @@ element-copy-out-turn-2 c = search needs
 turn-requires : tie.Need-turn-requires
 turn-requires c κs = (c .before .before .before .before .before .pre .0, λ a o. absurd (o refl))
 
+told-requires : tie.Need-told-requires
+told-requires c κs = search needs
+
 same-length : tie.Need-same-length
 same-length c = search needs
 
 returns : tie.Need-returns
 returns c =
     let b8 = c .before .before .before .before .before .before .before .before in
-    let S = b8 .before .before in
+    let S = b8 .before .before .before in
     let A = S .args in
-    let T = c .before .before .before .before .turn in
+    let T = c .before .before .before .before .before .turn in
     let w = world (now (A .image)) (A .t2) (now (A .left)) in
     let l : A .d < 8 = omega (arith, S .pre .0 .below, S .pre .0 .most) in
     let p : length (A .t2 .step) ≡ 8 = search (needs, S .good .1 .0) in
     let q : length (A .t2 .turn) ≡ 8 = search (needs, S .good .1 .0) in
     let f : Full (A .t2) = record { steps = p; turns = q } in
-    let no : T .result .made ≡ false = not-true _ (c .if1 .taken) in
+    let no : T .result .made ≡ false = not-true _ (c .before .if1 .taken) in
     let o = refused-at (A .own) w (A .d) f l (open-not (A .t2) (A .d) (rw q l) (S .pre .1)) (sym (T .ensures .made) ∙ no) in
     let k = T .ensures .stays no in
-    (refl, (rw o, rw (o, k .0, k .1)))
+    (rw (c .told .ensures, o), rw (c .told .ensures, o, k .0, k .1))
 
-told-requires : tie.Need-told-requires
-told-requires c κs = c .before .before .before .before .before .turn .ensures .lock
+told-requires-2 : tie.Need-told-requires-2
+told-requires-2 c κs = c .before .before .before .before .before .turn .ensures .lock
 
 same-length-2 : tie.Need-same-length-2
 same-length-2 c = search needs
@@ -52,23 +55,20 @@ same-length-2 c = search needs
 returns-2 : tie.Need-returns-2
 returns-2 c =
     let b8 = c .before .before .before .before .before .before .before .before in
-    let S = b8 .before .before .before .before .before in
+    let S = b8 .before .before .before .before in
     let A = S .args in
-    let T = c .before .before .before .before .before .before .before .turn in
+    let T = c .before .before .before .before .before .before .turn in
     let w = world (now (A .image)) (A .t2) (now (A .left)) in
     let l : A .d < 8 = omega (arith, S .pre .0 .below, S .pre .0 .most) in
     let p : length (A .t2 .step) ≡ 8 = search (needs, S .good .1 .0) in
     let q : length (A .t2 .turn) ≡ 8 = search (needs, S .good .1 .0) in
     let f : Full (A .t2) = record { steps = p; turns = q } in
-    let yes : T .result .made ≡ true = not-false _ (c .before .before .before .if1 .left) in
+    let yes : T .result .made ≡ true = not-false _ (c .before .before .if1 .left) in
     let inside : A .d < length (A .t2 .turn) = rw q l in
     let acts = T .ensures .acts yes (A .t2) (record { inside = inside; step = refl; turn = refl }) in
     let made = made-at (A .own) w (A .d) f l (sym (T .ensures .made) ∙ yes) in (
-      refl,
-      (
-        c .before .told .ensures .0 (A .own) ∙ (ap (didAnswer (A .own)) (acts .did) ∙ did-answers (A .own) (outcomeAt (A .own) w (A .d)) made),
-        rw (← c .before .told .ensures .1) at (acts .after),
-      ),
+      c .told2 .ensures .0 (A .own) ∙ (ap (didAnswer (A .own)) (acts .did) ∙ did-answers (A .own) (outcomeAt (A .own) w (A .d)) made),
+      rw (← c .told2 .ensures .1) at (acts .after),
     )
 
 pub open-turn-spec : {M : Type 1} → statement M
@@ -78,8 +78,9 @@ open-turn-spec =
     element-copy-out-turn
     element-copy-out-turn-2
     turn-requires
+    told-requires
     same-length
     returns
-    told-requires
+    told-requires-2
     same-length-2
     returns-2)

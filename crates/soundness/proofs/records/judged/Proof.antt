@@ -2,7 +2,6 @@
 -- is the first of all that are asked, and where these begin with worker 0 the array has the owed sets of the first d workers.
 use Prim.Native.Nat.{_-_, _≤_, _<_}
 use borrow.Author.Tests.{not-true, not-false}
-use mathlib.Core.Bool.{false≢true}
 use mathlib.Core.Path.{_≡_, refl, sym, ap, _∙_}
 use native.Mathlib.Omega.{arith}
 use denote.Ref.{now}
@@ -10,7 +9,7 @@ use lib.ListN.{length}
 use Rattle.image.specs.Image.{at, workers}
 use Rattle.soundness.specs.inner.Tests.{byRecord}
 use Rattle.soundness.specs.Sound.{eight, unsound}
-use Rattle.soundness.specs.inner.Reading.{owedAt}
+use Rattle.soundness.specs.inner.Reading.{owedAt, owedBy}
 use Rattle.soundness.proofs.Legible.{unsound-on, unsound-here, unsound-none}
 use Rattle.soundness.proofs.Sets.{owed-next}
 use Rattle.soundness.proofs.records.judged.Statement.{statement}
@@ -19,7 +18,7 @@ use Rattle.soundness.proofs.records.judged.Tie as tie
 abbrev Inv-loop : tie.InvT-loop
 Inv-loop image first end own sets₀ held₀ d₀ sets held d =
     (d ≤ end)
-    × (byRecord (unsound own (at own image) end d (end - d)) ≡ byRecord (unsound own (at own image) end first (end - first)))
+    × (unsound own (at own image) end d (end - d) ≡ unsound own (at own image) end first (end - first))
     × (first ≡ 0 → sets ≡ eight (owedAt own (at own image) d))
     × (length held ≡ 64)
 
@@ -48,7 +47,8 @@ returns c =
     let s = c .before .before .before .sound in
     let no = not-true (s .result .ok) (c .if1 .taken) in
     let h = c .before .before .before .before .before .loop-test .taken in
-    (sym (ap byRecord (unsound-here (A .own) rd (A .end) (L .d) h (sym (s .ensures .0) ∙ no))) ∙ L .inv .1, λ e. absurd (false≢true e))
+    let u = sym (unsound-here (A .own) rd (A .end) (L .d) h (sym (s .ensures .0) ∙ no)) ∙ L .inv .1 in
+    (ap byRecord u, λ z. ap (owedBy (A .own) rd (A .end)) u)
 
 mul-sets : tie.Need-mul-sets Inv-loop μ-loop
 mul-sets c =
@@ -77,7 +77,7 @@ loop-again c =
     let h = c .before .before .before .before .before .loop-test .taken in
     let g : L .d < 8 = omega (arith, h, S .pre .1, S .pre .4) in (
       omega (arith, h),
-      sym (ap byRecord (unsound-on (A .own) rd (A .end) (L .d) h (sym (s .ensures .0) ∙ yes))) ∙ L .inv .1,
+      sym (unsound-on (A .own) rd (A .end) (L .d) h (sym (s .ensures .0) ∙ yes)) ∙ L .inv .1,
       (λ e. owed-next (A .own) rd (A .end) (L .sets) (L .d) (s .result .owed) g (L .inv .2 e) (s .ensures .1 yes)),
       s .kept .1 .1 .1 .0 ∙ L .inv .3,
     )
@@ -88,8 +88,8 @@ returns-2 c =
     let L = c .before .loop in
     let rd = at (A .own) (now (A .image)) in
     let e : L .d ≡ A .end = omega (arith, L .inv .0, c .loop-test .left) in
-    let h : A .end ≤ L .d = omega (arith, e) in
-    (sym (ap byRecord (unsound-none (A .own) rd (A .end) (L .d) h)) ∙ L .inv .1, λ done z. rw e at (L .inv .2 z))
+    let u = sym (unsound-none (A .own) rd (A .end) (L .d) (omega (arith, e))) ∙ L .inv .1 in
+    (ap byRecord u, λ z. (rw e at (L .inv .2 z)) ∙ ap (owedBy (A .own) rd (A .end)) u)
 
 pub judged-spec : {M : Type 1} → statement M
 judged-spec =

@@ -21,7 +21,7 @@ returns c =
     let D = workers (now (c .before .before .before .args .image)) in
     let w = c .before .workers .ensures in
     let j = c .judged .ensures in
-    ((rw (w, left-all D) at (j .0)), λ e. rw w at (j .1 e refl))
+    ((rw (w, left-all D) at (j .0)), rw (w, left-all D) at (j .1 refl))
 
 pub records-spec : {M : Type 1} → statement M
 records-spec = tie.close (tie.spec workers-requires judged-requires returns)

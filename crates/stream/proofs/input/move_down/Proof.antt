@@ -3,8 +3,8 @@
 use borrow.Author.Needs.{needs}
 use native.Mathlib.Omega.{arith}
 use Prim.Native.Nat.{_≤_, _-_}
-use mathlib.Core.Path.{_≡_, refl, _∙_}
-use lib.ListN.{length, take, drop, length-set}
+use mathlib.Core.Path.{_≡_, refl, sym, _∙_}
+use lib.ListN.{length, take, drop, length-set, take-append-drop}
 use Rattle.stream.proofs.Moving.{moved-one, moved-rest}
 use Rattle.stream.proofs.input.move_down.Statement.{statement}
 use Rattle.stream.proofs.input.move_down.Tie as tie
@@ -51,7 +51,7 @@ returns : tie.Need-returns Inv-loop μ-loop
 returns c =
     let L = c .before .loop in
     let e : L .i ≡ c .before .before .args .n = omega arith in
-    rw e at (L .inv .2)
+    rw (← e, ← L .inv .2, ← L .inv .3) (sym (take-append-drop (L .i) (L .buf)))
 
 pub move-down-spec : {M : Type 1} → statement M
 move-down-spec =
