@@ -39,6 +39,20 @@ const TABLE: [[u64; 4]; 8] = [
     [0, 0, 0, 3],
 ];
 
+// The turns of each instruction by its row, for who does not look the word up; the four rows of an assignment have as many.
+pub const ACQUIRE_TURNS: u64 = TABLE[0][3];
+
+pub const RELEASE_TURNS: u64 = TABLE[1][3];
+
+pub const ASSIGN_TURNS: u64 = TABLE[2][3];
+
+pub const JUMP_TURNS: u64 = TABLE[6][3];
+
+pub const FINISH_TURNS: u64 = TABLE[7][3];
+
+// As many as any instruction has.
+pub const MOST_TURNS: u64 = ACQUIRE_TURNS;
+
 // The row of a kind; zeros where there is none. Every index is constant, so that a look-up is a load of a constant.
 fn row(kind: u64) -> [u64; 4]
     ensures { λ r. ⌜ ((j : ℕ) → getD r j 0 ≡ entry kind j) ⌝ }

@@ -31,7 +31,7 @@ use Rattle.run.proofs.Rounds.{Most, most-more, most-counted, turned-is,
 use Rattle.run.proofs.Rounds.{rounds-idle, rounds-spent, rounds-on, after-through, after-halted}
 
 -- what holds of worker d, and of each other, holds of each
-by-worker : (P : ℕ → Type 0) (i d : ℕ) → P d → (i ≢ d → P i) → P i
+pub by-worker : (P : ℕ → Type 0) (i d : ℕ) → P d → (i ≢ d → P i) → P i
 by-worker P i d p q = by (ℕ-discrete i d)
   where
     by : Dec (i ≡ d) → P i
@@ -175,6 +175,13 @@ module _ (own n rounds : ℕ) (s₀ s : Counting) (round to : ℕ) (l : Laps own
               after-through,
             ) at (l .same);
       }
+
+  -- a round that changed nothing leaves one worker alone, where it was before
+  pub laps-still : (v : Counting) (next d : ℕ) → Lap own n to round s v next d → to ≤ d → v ≡ s → openTo (to - 1) (s .world .cursors) ≡ 0
+      → openTo (next - 1) (v .world .cursors) ≡ 0
+  laps-still v next d p h e o =
+      let q : next ≡ to = lap-last own n to round s v next d p h ∙ ap (λ (x : Counting). openTo n (x .world .cursors)) e ∙ sym (l .last) in
+      ap (λ (x : Counting). openTo (next - 1) (x .world .cursors)) e ∙ rw q o
 
   -- all are idle, the rounds are spent, or a turn is refused
   pub laps-idle : to ≡ 0 → ran AllIdle s ≡ roundsOf own rounds n s₀

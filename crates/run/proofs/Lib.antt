@@ -6,4 +6,4 @@ pub mod Staying
 pub mod Lapped
 pub mod Laps
 pub mod Solo
-pub mod Standing
+pub mod Going

@@ -7,7 +7,7 @@ use native.Mathlib.Omega.{arith}
 use Rattle.base.proofs.Counting.{left-step, left-none}
 use Rattle.image.specs.Image.{workers, headerOk}
 use Rattle.tally.specs.declared.Tally.{Tally}
-use Rattle.tally.specs.Tally.{none, Room}
+use Rattle.tally.specs.Tally.{none, RoomFor}
 use Rattle.turn.specs.declared.Answer.{Answer}
 use Rattle.working.specs.declared.Refusal.{Refusal}
 use Rattle.working.specs.declared.Refusal.the-variants.{Image as ImageRefused}
@@ -42,8 +42,8 @@ most-counted k a {t} b =
     let m = counted-most a t in
     record { turns = omega (arith, m .0); waits = omega (arith, m .1); stores = omega (arith, m .2); free = omega (arith, m .3); others = omega (arith, m .4) }
 
-pub most-room : (k : ℕ) {t : Tally} → Most k t → k + 1 < 2 ^ 64 → Room t
-most-room k b h = (omega arith, omega arith, omega arith, omega arith, omega arith)
+pub most-room : (k j : ℕ) {t : Tally} → Most k t → k + j < 2 ^ 64 → RoomFor j t
+most-room k j b h = (omega arith, omega arith, omega arith, omega arith, omega arith)
 
 module _ (n : ℕ) where
   -- a turn that is not refused goes on

@@ -114,7 +114,7 @@ pub fn assign(
     let target = words::operand_index(d, a, own);
     logged::stores(image, d, s, own, target, v.word, left);
     Walk {
-        turns: 4,
+        turns: code::ASSIGN_TURNS,
         step: s + 1,
         turn: 0,
         passes: passes,

@@ -59,7 +59,7 @@ pub fn acquire(
     }
     take(image, d, s, own, a, left);
     Walk {
-        turns: 6,
+        turns: code::ACQUIRE_TURNS,
         step: s + 1,
         turn: 0,
         passes: passes,
@@ -128,7 +128,7 @@ pub fn release(
         image::store_inside(image, image::lock_index(a), 0, left);
         unwant(image, d, own, a, left);
         return Walk {
-            turns: 6,
+            turns: code::RELEASE_TURNS,
             step: s + 1,
             turn: 0,
             passes: passes,
@@ -137,7 +137,7 @@ pub fn release(
     }
     unwant(image, d, own, a, left);
     Walk {
-        turns: 6,
+        turns: code::RELEASE_TURNS,
         step: s + 1,
         turn: 0,
         passes: found(word, passes),

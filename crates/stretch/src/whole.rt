@@ -100,7 +100,7 @@ fn jump(
         s + 1
     };
     Walk {
-        turns: 1,
+        turns: code::JUMP_TURNS,
         step: step,
         turn: 0,
         passes: counted,
@@ -149,7 +149,7 @@ fn finish(
     }
     close(image, d, own, left);
     Walk {
-        turns: 3,
+        turns: code::FINISH_TURNS,
         step: 0,
         turn: 255,
         passes: passes,
@@ -211,7 +211,7 @@ fn instructions_of(
         if turn != 0 {
             break;
         }
-        if rest < 6 {
+        if rest < code::MOST_TURNS {
             break;
         }
         let x = instruction(image, d, step, own, k, locks, passes, &mut stores);

@@ -34,6 +34,11 @@ fn turns() -> Vec<Row> {
     ]
 }
 
+/// Sections with a lock each, of which the first goes on when the others are done.
+fn one_longer(workers: u16) -> Vec<Vec<u64>> {
+    (0..workers).map(|d| sums(d, if d == 0 { 64 } else { 8 })).collect()
+}
+
 fn runs() -> Vec<Row> {
     let of = |name, workers, sections| row(name, "turn", run(workers, sections));
     vec![
@@ -43,6 +48,7 @@ fn runs() -> Vec<Row> {
         of("run, 8 workers contending, hand over hand", 8, vec![hand_over_hand(); 8]),
         of("run, 8 workers contending for one lock", 8, vec![sums(3, 64); 8]),
         of("run, 8 workers, one with a section", 8, vec![sums(3, 64)]),
+        of("run, 8 workers, one of 64 steps and seven of 8", 8, one_longer(8)),
     ]
 }
 
