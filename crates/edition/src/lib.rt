@@ -33,7 +33,8 @@ ghost use Rattle.needs.specs.From.{needsOf};
 ghost use Rattle.needs.specs.Left.{leftOf};
 ghost use Rattle.repair.specs.Repair.{slotAt, slotOf};
 ghost use Rattle.recovery.specs.Recovery.{recovery};
-ghost use Rattle.recovery.specs.Recover.{answerOf as recoveryAnswer, cursorsOf, repairBy, recoveryLeaves, recoveryLeft};
+ghost use Rattle.recovery.specs.Recover.{answerOf as recoveryAnswer, cursorsOf, recoveryLeaves, recoveryLeft};
+ghost use Rattle.recovery.specs.Repairs.{repairBy};
 ghost use Rattle.edition.specs.Edition.{mark, ownWords};
 
 const MARK: u64 = 1;

@@ -20,7 +20,8 @@ use Rattle.repair.specs.declared.Repair.{Repair}
 use Rattle.repair.specs.Repair.{slotAt, slotOf}
 use Rattle.repair.specs.Plan.{rows}
 use Rattle.recovery.specs.Recovery.{recovery}
-use Rattle.recovery.specs.Recover.{repairBy, storesOf}
+use Rattle.recovery.specs.Recover.{storesOf}
+use Rattle.recovery.specs.Repairs.{repairBy}
 use Rattle.repair.proofs.Slots.{single, slot-single}
 use Rattle.recovery.proofs.Answers.{stores-are}
 use Rattle.frames.specs.declared.Printed.{Printed}

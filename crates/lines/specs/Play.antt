@@ -20,7 +20,8 @@ use Rattle.soundness.specs.declared.Answer.{Answer as Recovery}
 use Rattle.soundness.specs.declared.Answer.the-variants.{Done, Refused as RecoveryRefused}
 use Rattle.repair.specs.Repair.{noRepair, slotAt, slotOf}
 use Rattle.recovery.specs.Recovery.{Recovered, recovery}
-use Rattle.recovery.specs.Recover.{answerOf as recoveryAnswer, cursorsOf, repairBy, recoveryLeaves}
+use Rattle.recovery.specs.Recover.{answerOf as recoveryAnswer, cursorsOf, recoveryLeaves}
+use Rattle.recovery.specs.Repairs.{repairBy}
 use Rattle.frames.specs.declared.Frame.{Frame}
 use Rattle.frames.specs.declared.Frame.the-variants.{Submit, Turns, Recover, Rounds, Malformed}
 use Rattle.frames.specs.declared.Printed.{Printed}

@@ -30,7 +30,7 @@ pub fn word(image: &[u64], d: usize, x: u64, own: usize) -> u64
 }
 
 // The sum of two words; it stops at the largest.
-pub fn sum(x: u64, y: u64) -> u64
+fn sum(x: u64, y: u64) -> u64
     ensures { λ r. ⌜ r ≡ min (x + y) (2 ^ 64 - 1) ⌝ }
 {
     let s = std::num::wrapping_add_u64(x, y);

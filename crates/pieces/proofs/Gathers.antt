@@ -12,7 +12,8 @@ use Rattle.working.specs.declared.Cursors.{Cursors}
 use Rattle.repair.specs.declared.Repair.{Repair}
 use Rattle.repair.specs.Repair.{noRepair}
 use Rattle.recovery.specs.Recovery.{Recovered, accepted, rejected, recovery}
-use Rattle.recovery.specs.Recover.{repairBy, storesOf}
+use Rattle.recovery.specs.Recover.{storesOf}
+use Rattle.recovery.specs.Repairs.{repairBy}
 use Rattle.edition.specs.Edition.{mark, ownWords}
 use Rattle.frames.specs.declared.Opening.{Opening}
 use Rattle.frames.specs.declared.Opening.the-variants.{Workers, Malformed as OpeningMalformed}

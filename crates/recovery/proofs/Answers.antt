@@ -17,12 +17,14 @@ use Rattle.soundness.specs.declared.Refusal.the-variants.{Image as ImageRefused
 use Rattle.soundness.specs.declared.Answer.the-variants.{Refused}
 use Rattle.resuming.specs.Resumed.{resumedAll}
 use Rattle.repair.specs.Plan.{rows, plan}
-use Rattle.soundness.specs.Sound.{eight, unsound, badLock}
+use Rattle.soundness.specs.Sound.{eight, unsound, badLock, owedAt}
 use Rattle.recovery.specs.Recovery.{Recovered, accepted, rejected, byFirst, recovery}
-use Rattle.soundness.specs.inner.Reading.{Restorable, owedAt}
+use Rattle.soundness.specs.inner.Reading.{Restorable}
 use Rattle.repair.specs.Repair.{noRepair, slotAt}
 use Rattle.soundness.specs.inner.Tests.{isDone, byRecord, byLock}
-use Rattle.recovery.specs.Recover.{owedFound, answerOf, cursorsOf, repairBy, storesOf, recoveryLeaves, recoveryLeft}
+use Rattle.recovery.specs.Recover.{answerOf, cursorsOf, storesOf, recoveryLeaves, recoveryLeft}
+use Rattle.recovery.specs.inner.Found.{owedFound}
+use Rattle.recovery.specs.Repairs.{repairBy}
 use Rattle.soundness.proofs.Legible.{restorable}
 use Rattle.repair.proofs.Slots.{repair-slots, empty-slots}
 

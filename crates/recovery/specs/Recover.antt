@@ -1,19 +1,14 @@
 -- The call: what it answers and leaves, by what the definition of recovery says of the image.
 use Prim.Native.Nat.{ℕ, _-_}
 use mathlib.Core.List.{List, []}
-use mathlib.Core.Bool.{cond}
 use lib.ListN.{length}
 use Rattle.image.specs.Place.{Store}
-use Rattle.image.specs.Image.{Image, at, workers, headerOk, putAll}
+use Rattle.image.specs.Image.{Image, putAll}
 use Rattle.working.specs.declared.Cursors.{Cursors}
 use Rattle.working.specs.Cursor.{allIdle}
-use Rattle.repair.specs.declared.Repair.{Repair}
 use Rattle.soundness.specs.declared.Answer.{Answer}
 use Rattle.soundness.specs.declared.Answer.the-variants.{Done, Refused}
-use Rattle.soundness.specs.Sound.{eight, unsound}
-use Rattle.soundness.specs.inner.Reading.{owedBy}
 use Rattle.recovery.specs.Recovery.{Recovered, accepted, rejected}
-use Rattle.repair.specs.Repair.{repairOf, noRepair}
 
 -- ---- answers
 
@@ -28,10 +23,6 @@ abbrev pub cursorsOf : Recovered → Cursors
 cursorsOf (accepted ss cs) = cs
 cursorsOf (rejected r) = allIdle
 
-abbrev pub repairBy : ℕ → Image → Recovered → Repair
-repairBy n m (accepted ss cs) = repairOf n m
-repairBy n m (rejected r) = noRepair
-
 abbrev pub storesOf : Recovered → List Store
 storesOf (accepted ss cs) = ss
 storesOf (rejected r) = []
@@ -43,9 +34,3 @@ recoveryLeaves n left m (rejected r) = m
 abbrev pub recoveryLeft : ℕ → Recovered → ℕ
 recoveryLeft left (accepted ss cs) = left - length ss
 recoveryLeft left (rejected r) = left
-
--- ---- the owed sets that its tests find: all empty where the image or a record is refused
-
-abbrev pub owedFound : ℕ → ℕ → Image → List ℕ
-owedFound mark n m =
-    cond (headerOk mark n m) (owedBy n (at n m) (workers m) (unsound n (at n m) (workers m) 0 (workers m))) (eight (λ (k : ℕ). 0))

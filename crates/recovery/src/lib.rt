@@ -9,7 +9,9 @@ ghost use mathlib.Core.Path.{_≡_};
 ghost use Prim.Native.Nat.{_≤_};
 ghost use Rattle.image.specs.Image.{headerOk};
 ghost use Rattle.recovery.specs.Recovery.{recovery};
-ghost use Rattle.recovery.specs.Recover.{owedFound, answerOf, cursorsOf, repairBy, recoveryLeaves, recoveryLeft};
+ghost use Rattle.recovery.specs.Recover.{answerOf, cursorsOf, recoveryLeaves, recoveryLeft};
+ghost use Rattle.recovery.specs.inner.Found.{owedFound};
+ghost use Rattle.recovery.specs.Repairs.{repairBy};
 
 // What a recovery answers; refused, with all workers idle and a repair that stores nothing.
 pub struct Restored {

@@ -17,9 +17,8 @@ use Rattle.image.specs.Image.{Image, at, workers, putAll}
 use Rattle.image.proofs.Lists.{putAll-append}
 use Rattle.repair.specs.declared.Repair.{Repair}
 use Rattle.owed.specs.Owed.{owed}
-use Rattle.soundness.specs.Sound.{eight}
+use Rattle.soundness.specs.Sound.{eight, owedAt}
 use Rattle.repair.specs.Plan.{rows, intend, withdraw, relock, relocks, unlock, plan}
-use Rattle.soundness.specs.inner.Reading.{owedAt}
 use Rattle.repair.specs.Repair.{freedBy, withdrawnBy, repairOf, noRepair}
 use Rattle.repair.specs.Repair.{lockSlot, intentSlot, withdrawSlot, relockSlot, slotAt, slotOf, slotPut, slotLeft}
 use Rattle.repair.proofs.Rows.{rows-at, rows-same, rows-none, rows-part}

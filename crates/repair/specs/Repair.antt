@@ -14,8 +14,7 @@ use Rattle.repair.specs.declared.Repair.{Repair}
 use Rattle.repair.specs.declared.Slot.{Slot}
 use Rattle.repair.specs.declared.Slot.the-variants.{Empty, Store as Filled}
 use Rattle.repair.specs.Plan.{_≔_, when, unbegun}
-use Rattle.soundness.specs.Sound.{eight}
-use Rattle.soundness.specs.inner.Reading.{owedAt}
+use Rattle.soundness.specs.Sound.{eight, owedAt}
 
 -- ---- the sets
 

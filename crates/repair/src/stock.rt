@@ -6,9 +6,9 @@ ghost use mathlib.Core.Bool.{cond};
 ghost use Rattle.mask.specs.Mask.{with};
 ghost use Rattle.image.specs.Image.{at, workers};
 ghost use Rattle.image.specs.inner.Inside.{Inside};
-ghost use Rattle.soundness.specs.Sound.{eight};
+ghost use Rattle.soundness.specs.Sound.{eight, owedAt};
 ghost use Rattle.repair.specs.Plan.{unbegun};
-ghost use Rattle.soundness.specs.inner.Reading.{Restorable, owedAt};
+ghost use Rattle.soundness.specs.inner.Reading.{Restorable};
 ghost use Rattle.repair.specs.Repair.{freedBy, withdrawnBy, repairOf, noRepair};
 
 // The locks that any worker intends.

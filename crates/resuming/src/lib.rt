@@ -8,8 +8,8 @@ ghost use Rattle.image.specs.Image.{at, workers};
 ghost use Rattle.image.specs.inner.Inside.{Inside};
 ghost use Rattle.working.specs.Cursor.{stepNo, turnNo};
 ghost use Rattle.resuming.specs.Resumed.{targetTurn, resumed, resumedAt, resumedAll};
-ghost use Rattle.soundness.specs.Sound.{eight};
-ghost use Rattle.soundness.specs.inner.Reading.{Legible, Restorable, owedAt};
+ghost use Rattle.soundness.specs.Sound.{eight, owedAt};
+ghost use Rattle.soundness.specs.inner.Reading.{Legible, Restorable};
 
 // The step at which worker d goes on.
 fn resumed_step(image: &[u64], d: usize, own: usize) -> u8

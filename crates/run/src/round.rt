@@ -1,4 +1,4 @@
-// The turns of a round, one by one: as a run makes them, and as they are made and printed by themselves. What makes one of them stands here alone.
+// The turns of a round, one by one: for the loop of a run (`lap_in_place`), and made and printed by themselves (`turn`, `only`, `next`), by one contract.
 use turn::Acted;
 use turn::Answer;
 use turn::Did;

@@ -14,9 +14,8 @@ use Rattle.mask.specs.Mask.{union}
 use Rattle.mask.proofs.Members.{union-same}
 use Rattle.image.specs.Place.{lock, Memory}
 use Rattle.owed.specs.Owed.{owed, claimants, ownerOk}
-use Rattle.soundness.specs.Sound.{eight, lockOk, badLock}
+use Rattle.soundness.specs.Sound.{eight, lockOk, badLock, owedAt}
 use Rattle.owed.specs.inner.Shared.{setsIn}
-use Rattle.soundness.specs.inner.Reading.{owedAt}
 
 -- ---- lists of eight
 

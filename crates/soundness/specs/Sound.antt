@@ -48,3 +48,7 @@ module _ (n : ℕ) (rd : Memory) where
     unfoldable pub badLock : ℕ → ℕ → List ℕ
     badLock b zero = []
     badLock b (suc k) = cond (lockOk b) (badLock (b + 1) k) (b ∷ [])
+
+-- worker d's owed set, of D; empty for one that the image has not
+abbrev pub owedAt : ℕ → Memory → ℕ → ℕ → ℕ
+owedAt n rd D d = cond (ltb d D) (owed n rd d) 0

@@ -6,8 +6,7 @@ ghost use mathlib.Core.Path.{_≡_};
 ghost use Prim.Native.Nat.{_<_, _≤_};
 ghost use lib.ListN.{length};
 ghost use Rattle.image.specs.Image.{at, workers, lengthOf};
-ghost use Rattle.soundness.specs.Sound.{eight, badLock};
-ghost use Rattle.soundness.specs.inner.Reading.{owedAt};
+ghost use Rattle.soundness.specs.Sound.{eight, badLock, owedAt};
 ghost use Rattle.soundness.specs.inner.Tests.{byLock};
 
 // Whether no two workers are owed the same lock, and each owner word is right, or the lowest lock that is wrong.

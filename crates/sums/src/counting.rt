@@ -2,15 +2,27 @@
 use lines::Made;
 use turn::Answer;
 ghost use mathlib.Core.Path.{_≡_};
-ghost use Rattle.sums.specs.Sums.{sums};
+ghost use Prim.Native.Nat.{_+_, min};
+ghost use Rattle.sums.specs.Sums.{sums, top};
 ghost use Rattle.sums.specs.inner.Counting.{raised, counted};
+
+// The sum of two numbers; it stops at the largest.
+fn sum(x: u64, y: u64) -> u64
+    ensures { λ r. ⌜ r ≡ min (x + y) top ⌝ }
+{
+    let s = std::num::wrapping_add_u64(x, y);
+    if s < x {
+        return u64::MAX;
+    }
+    s
+}
 
 // So many more at an index, if the slice has it; a number stops at the largest.
 fn raise(xs: &mut [u64], i: usize, by: u64)
     ensures { λ r. ⌜ now (xs .exit) ≡ raised (now (xs .entry)) i by ⌝ }
 {
     if i < xs.len() {
-        xs[i] = log::words::sum(xs[i], by);
+        xs[i] = sum(xs[i], by);
     }
 }
 

@@ -1,18 +1,17 @@
 -- What only the inner functions of a recovery need: records that can be read, and the owed sets in a list.
-use Prim.Native.Nat.{ℕ, _+_, _%_, _<_, _≤_}
+use Prim.Native.Nat.{ℕ, _%_, _<_, _≤_}
 use mathlib.Core.Path.{_≡_}
-use mathlib.Core.Bool.{true, cond}
+use mathlib.Core.Bool.{true}
 use mathlib.Core.List.{List, [], _∷_}
 use lib.ListN.{length, getD}
-use lib.Dec.{ltb}
 use Rattle.image.specs.declared.Field.the-variants.{Count, Pc}
 use Rattle.image.specs.Place.{field, Memory}
 use Rattle.image.specs.Image.{Image, lengthOf, at, workers}
 use Rattle.code.specs.Form.{inRange}
 use Rattle.section.specs.Check.{heldBefore}
 use Rattle.log.specs.Log.{codeIn}
-use Rattle.owed.specs.Owed.{namedStep, owed}
-use Rattle.soundness.specs.Sound.{eight}
+use Rattle.owed.specs.Owed.{namedStep}
+use Rattle.soundness.specs.Sound.{eight, owedAt}
 
 -- ---- a section that is begun
 
@@ -39,10 +38,6 @@ abbrev pub Helds : ℕ → Memory → ℕ → ℕ → List ℕ → Type 0
 Helds n rd d k held = (j : ℕ) → j < k → getD held j 0 ≡ heldBefore (codeIn n rd d) j
 
 -- ---- owed sets
-
--- worker d's owed set; empty for one that the image has not
-abbrev pub owedAt : ℕ → Memory → ℕ → ℕ → ℕ
-owedAt n rd D d = cond (ltb d D) (owed n rd d) 0
 
 -- the owed sets of D workers, by the first of them whose record is not sound: all empty where there is one
 abbrev pub owedBy : ℕ → Memory → ℕ → List ℕ → List ℕ

@@ -8,8 +8,8 @@ use denote.Ref.{now}
 use lib.ListN.{length}
 use Rattle.image.specs.Image.{at, workers}
 use Rattle.soundness.specs.inner.Tests.{byRecord}
-use Rattle.soundness.specs.Sound.{eight, unsound}
-use Rattle.soundness.specs.inner.Reading.{owedAt, owedBy}
+use Rattle.soundness.specs.Sound.{eight, unsound, owedAt}
+use Rattle.soundness.specs.inner.Reading.{owedBy}
 use Rattle.soundness.proofs.Legible.{unsound-on, unsound-here, unsound-none}
 use Rattle.soundness.proofs.Sets.{owed-next}
 use Rattle.soundness.proofs.records.judged.Statement.{statement}
