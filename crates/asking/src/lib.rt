@@ -69,10 +69,7 @@ pub fn finished(image: &[u64], d: usize, mark: u64, own: usize) -> u64
     requires { ⌜ own ≤ 64 ⌝ }
     ensures { λ r. ⌜ r ≡ finishedOf mark own (now (image .entry)) d ⌝ }
 {
-    if !image::header_ok(image, mark, own) {
-        return 0;
-    }
-    if image::workers(image) <= d as u64 {
+    if asked(image, d, mark, own) != 0 {
         return 0;
     }
     image::read_field(image, Field::Finished, d, own)
