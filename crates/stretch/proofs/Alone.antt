@@ -1,7 +1,7 @@
 -- One turn as the code says it is so many turns in sequence (`made-one`). What the code says of every working record is read off one of worker d's
 -- numbers alone (`one-after`); and a turn that waits leaves all as it was, so that the next waits too (`made-waits`, by induction on their number).
-use Prim.Native.Nat.{ℕ, suc, zero, _+_, _<_, _≤_}
-use mathlib.Core.Path.{_≡_, refl, ap, _∙_, sym}
+use Prim.Native.Nat.{ℕ, suc, zero, _+_, _-_, _<_, _≤_}
+use mathlib.Core.Path.{_≡_, ap, _∙_, sym}
 use mathlib.Core.Bool.{Bool, true, false, cond}
 use native.Mathlib.Omega.{arith}
 use lib.ListN.{length, getD, replicate, length-replicate, getD-replicate}
@@ -10,7 +10,7 @@ use lib.Dec.{eqb}
 use Rattle.image.specs.Place.{Place, cell, lock, field, own, step}
 use Rattle.image.specs.Image.{Image, at}
 use Rattle.tally.specs.declared.Tally.{Tally}
-use Rattle.tally.specs.Tally.{withWaits, withWaiting, RoomFor}
+use Rattle.tally.specs.Tally.{withWaits, withWaiting, Room, RoomFor}
 use Rattle.working.specs.declared.Cursors.{Cursors}
 use Rattle.working.specs.inner.At.{At}
 use Rattle.working.specs.Cursor.{on, stepNo, turnNo, setAt, holding}
@@ -28,7 +28,7 @@ use Rattle.turn.specs.Counted.{counted}
 use Rattle.turn.specs.inner.Acting.{planDid, didHeld, didAnswer, Acts}
 use Rattle.turn.proofs.Turns.{Made, made-ready, did-answers}
 use Rattle.stretch.specs.inner.Single.{Single, single, after, Turns, none, then}
-use Rattle.stretch.specs.inner.Stretch.{tallied, takenBy}
+use Rattle.stretch.specs.inner.Stretch.{moreBy}
 
 -- ---- a record of worker d's numbers, its last, with these locks held
 
@@ -71,14 +71,6 @@ add-zero k = omega arith
 no-waits : (y : Tally) → withWaits 0 y ≡ y
 no-waits y = rw (add-zero (y .turns), add-zero (y .waits))
 
--- one turn's is that of what it answers
-one-tally : (n : ℕ) (x : Did) (y : Tally) → tallied x 1 y ≡ counted (didAnswer n x) y
-one-tally n (Stored i) y = refl
-one-tally n (Took b) y = refl
-one-tally n (Freed b) y = refl
-one-tally n (Passed why) y = refl
-one-tally n (Waiting b) y = refl
-
 -- one more that waited
 more-waits : (k : ℕ) (y : Tally) → withWaits k (withWaiting y) ≡ withWaits (suc k) y
 more-waits k y =
@@ -88,23 +80,20 @@ more-waits k y =
 
 -- ---- how many turns it takes
 
-pub taken-some : (x : Did) (r : ℕ) → 1 ≤ r → 1 ≤ takenBy x r
-taken-some (Stored i) r l = omega arith
-taken-some (Took b) r l = omega arith
-taken-some (Freed b) r l = omega arith
-taken-some (Passed why) r l = omega arith
-taken-some (Waiting b) r l = l
-
-pub taken-most : (x : Did) (r : ℕ) → 1 ≤ r → takenBy x r ≤ r
-taken-most (Stored i) r l = l
-taken-most (Took b) r l = l
-taken-most (Freed b) r l = l
-taken-most (Passed why) r l = l
-taken-most (Waiting b) r l = omega arith
+pub more-most : (x : Did) (r : ℕ) → 1 ≤ r → moreBy x (r - 1) + 1 ≤ r
+more-most (Stored i) r l = l
+more-most (Took b) r l = l
+more-most (Freed b) r l = l
+more-most (Passed why) r l = l
+more-most (Waiting b) r l = omega (arith, l)
 
 -- with room for more turns there is room for fewer
 pub room-less : (j k : ℕ) (t : Tally) → j ≤ k → RoomFor k t → RoomFor j t
 room-less j k t l r = (omega (arith, r .0), omega (arith, r .1), omega (arith, r .2), omega (arith, r .3), omega (arith, r .4))
+
+-- and for one behind those that waited
+pub room-waits : (j k : ℕ) (t : Tally) → j + 1 ≤ k → RoomFor k t → Room (withWaits j t)
+room-waits j k t l r = (omega (arith, r .0), omega (arith, r .1), omega (arith, r .2), omega (arith, r .3), omega (arith, r .4))
 
 -- ---- the turns
 
@@ -166,15 +155,16 @@ module _ (n d s t : ℕ) (m : Image) (left : ℕ) (e : ready n (at n m) d s t �
         ∙ seen-leaves n d s t m left h y o made
 
     -- it took one turn
-    made-single : (h : ℕ) (y : Tally) → Turns n d 1 (single m left s t h y) (single v rest i j (didHeld x h) (tallied x 1 y))
+    made-single : (h : ℕ) (y : Tally) → Turns n d 1 (single m left s t h y) (single v rest i j (didHeld x h) (counted (didAnswer n x) (withWaits 0 y)))
     made-single h y =
-        then 0 (single m left s t h y) (single v rest i j (didHeld x h) (tallied x 1 y)) e (rw (← one-after h y, one-tally n x y) (none _))
+        rw (no-waits y)
+        (then 0 (single m left s t h y) (single v rest i j (didHeld x h) (counted (didAnswer n x) y)) e (rw (← one-after h y) (none _)))
 
-  -- so many turns: one, or where it waited as many as there are rounds
+  -- so many turns: one, or where it waited as many more as there are rounds
   pub made-one : (v : Image) (rest : ℕ) (x : Did) (i j : ℕ)
       → ((c : Cursors) → At c d s t → Acts n (world m c left) d x (world v (holding (didHeld x (c .held)) (setAt c d i j)) rest))
       → (r h : ℕ) (y : Tally)
-      → Turns n d (takenBy x r) (single m left s t h y) (single v rest i j (didHeld x h) (tallied x (takenBy x r) y))
+      → Turns n d (moreBy x r + 1) (single m left s t h y) (single v rest i j (didHeld x h) (counted (didAnswer n x) (withWaits (moreBy x r) y)))
   made-one v rest (Stored k) i j acts r h y = made-single v rest (Stored k) i j acts h y
   made-one v rest (Took b) i j acts r h y = made-single v rest (Took b) i j acts h y
   made-one v rest (Freed b) i j acts r h y = made-single v rest (Freed b) i j acts h y
@@ -182,5 +172,7 @@ module _ (n d s t : ℕ) (m : Image) (left : ℕ) (e : ready n (at n m) d s t �
   made-one v rest (Waiting b) i j acts r h y =
       let o = waits-is n b (turnAt n (at n m) d (on s t)) (made-ready n (at n m) d s t e) (one-did v rest (Waiting b) i j acts) in
       let q = one-after v rest (Waiting b) i j acts h y ∙ ap (after n (single m left s t h y)) o in
-      let same = ap (λ (z : Single). single (z .image) (z .left) (z .step) (z .turn) h (withWaits r y)) q in
-      rw same (made-waits b o h r y)
+      let same = ap (λ (z : Single). single (z .image) (z .left) (z .step) (z .turn) h (withWaits (r + 1) y)) q in
+      let turns : y .turns + r + 1 ≡ y .turns + (r + 1) = omega arith in
+      let waits : y .waits + r + 1 ≡ y .waits + (r + 1) = omega arith in
+      rw (turns, waits, same) (made-waits b o h (r + 1) y)

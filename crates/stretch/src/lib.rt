@@ -14,7 +14,7 @@ ghost use Rattle.image.specs.Image.{at};
 ghost use Rattle.image.specs.inner.Inside.{Inside};
 ghost use Rattle.plan.specs.Turn.{ready};
 ghost use Rattle.tally.specs.Tally.{RoomFor};
-ghost use Rattle.stretch.specs.inner.Stretch.{refusedAt, tallied, takenBy, Stretched, Attempted};
+ghost use Rattle.stretch.specs.inner.Stretch.{refusedAt, moreBy, Stretched, Attempted};
 ghost use Rattle.stretch.specs.inner.Whole.{noTurns};
 
 // So many turns, and what they leave beside the image: the worker's step and turn, the locks held, and the tally.
@@ -71,34 +71,20 @@ fn refused(s: u8, t: u8, held: u64, tally: Tally) -> Attempt
     }
 }
 
-// The tally after a turn that did this; where it waited, after k that did.
-fn tallied(x: Did, k: u16, t: Tally) -> Tally
-    requires { ⌜ RoomFor k t × (1 ≤ k) ⌝ }
-    ensures { λ r. ⌜ r ≡ tallied x k t ⌝ }
+// How many more of the rounds left a turn alone takes by what it did: none, or all of them where it waits, since no other worker is there to free the lock.
+fn more(x: Did, rest: u16) -> u16
+    ensures { λ r. ⌜ r ≡ moreBy x rest ⌝ }
 {
     match x {
-        Did::Stored(_) => tally::stored(t),
-        Did::Took(_) => tally::stored(t),
-        Did::Freed(_) => tally::stored(t),
-        Did::Passed(why) => turn::passed(why, t),
-        Did::Waiting(_) => tally::waits(t, k as u64),
+        Did::Stored(_) => 0,
+        Did::Took(_) => 0,
+        Did::Freed(_) => 0,
+        Did::Passed(_) => 0,
+        Did::Waiting(_) => rest,
     }
 }
 
-// How many of these rounds a turn alone takes by what it did: one, or all of them where it waits, since no other worker is there to free the lock.
-fn taken(x: Did, rounds: u16) -> u16
-    ensures { λ r. ⌜ r ≡ takenBy x rounds ⌝ }
-{
-    match x {
-        Did::Stored(_) => 1,
-        Did::Took(_) => 1,
-        Did::Freed(_) => 1,
-        Did::Passed(_) => 1,
-        Did::Waiting(_) => rounds,
-    }
-}
-
-// One turn as it is.
+// One turn as it is; where it waited, the other waits are counted at once.
 fn one(
     image: &mut [u64],
     d: usize,
@@ -116,13 +102,14 @@ fn one(
 {
     let acted = turn::turn_on(image, d, s, t, own, left);
     let did = acted.did;
-    let turns = taken(did, rounds);
+    let waits = more(did, rounds - 1);
+    let turns = waits + 1;
     Stretch {
         turns: turns,
         step: acted.step,
         turn: acted.turn,
         held: turn::held_after(did, held),
-        tally: tallied(did, turns, tally),
+        tally: turn::counted(did, tally::waits(tally, waits as u64)),
     }
 }
 

@@ -4,12 +4,9 @@ use mathlib.Core.Path.{_≡_}
 use mathlib.Core.Bool.{true, false}
 use Rattle.image.specs.Image.{Image, at}
 use Rattle.tally.specs.declared.Tally.{Tally}
-use Rattle.tally.specs.Tally.{withStored, withWaits}
 use Rattle.plan.specs.Turn.{ready}
-use Rattle.turn.specs.declared.Answer.the-variants.{Passed as PassedTurn}
 use Rattle.turn.specs.declared.Did.{Did}
 use Rattle.turn.specs.declared.Did.the-variants.{Stored, Took, Freed, Passed, Waiting}
-use Rattle.turn.specs.Counted.{counted}
 use Rattle.stretch.specs.declared.Stretch.{Stretch}
 use Rattle.stretch.specs.declared.Attempt.{Attempt}
 use Rattle.stretch.specs.inner.Single.{single, Turns}
@@ -18,21 +15,13 @@ use Rattle.stretch.specs.inner.Single.{single, Turns}
 abbrev pub refusedAt : ℕ → ℕ → ℕ → Tally → Attempt
 refusedAt s t h y = record { made = false; stretch = record { turns = 1; step = s; turn = t; held = h; tally = y } }
 
--- the tally after a turn that did this; where it waited, after k that did
-abbrev pub tallied : Did → ℕ → Tally → Tally
-tallied (Stored i) k t = withStored t
-tallied (Took b) k t = withStored t
-tallied (Freed b) k t = withStored t
-tallied (Passed why) k t = counted (PassedTurn why) t
-tallied (Waiting b) k t = withWaits k t
-
--- how many of so many rounds a turn alone takes: one, or all where it waits
-abbrev pub takenBy : Did → ℕ → ℕ
-takenBy (Stored i) r = 1
-takenBy (Took b) r = 1
-takenBy (Freed b) r = 1
-takenBy (Passed why) r = 1
-takenBy (Waiting b) r = r
+-- how many more of so many rounds a turn alone takes: none, or all where it waits
+abbrev pub moreBy : Did → ℕ → ℕ
+moreBy (Stored i) r = 0
+moreBy (Took b) r = 0
+moreBy (Freed b) r = 0
+moreBy (Passed why) r = 0
+moreBy (Waiting b) r = r
 
 -- the image was m with so many stores left and worker d at step s, turn t, with the locks held and the tally so far, and is v
 pub record Stretched (n d s t h : ℕ) (y : Tally) (m : Image) (left : ℕ) (v : Image) (rest : ℕ) (r : Stretch) : Type 0 where
