@@ -5,8 +5,7 @@ use mathlib.Core.Path.{_≡_, sym, ap, _∙_}
 use mathlib.Core.Bool.{Bool, true, false, cond, _&&_, false≢true}
 use mathlib.Core.List.{List}
 use native.Mathlib.Omega.{arith}
-use lib.ListN.{length, getD, take}
-use lib.Seq.{getD-take, length-take-le}
+use lib.ListN.{length, take}
 use lib.Dec.{leb, ltb, eqb}
 use borrow.Author.Tests.{ltb-true, ne-eqb, eq-eqb}
 use Rattle.base.proofs.Bools.{and-left, and-right}
@@ -19,11 +18,12 @@ use Rattle.code.specs.Op.{opOf}
 use Rattle.code.specs.Form.{inPlace}
 use Rattle.section.specs.declared.Verdict.the-variants.{Pass}
 use Rattle.section.specs.Check.{Code, codeOf, check, passes}
-use Rattle.section.proofs.Facts.{check-cong}
 use Rattle.section.proofs.Passing.{passed-is}
 use Rattle.log.specs.Log.{codeIn}
 use Rattle.owed.specs.Owed.{namedStep, namedOp, owed, entryOk, covers}
 use Rattle.soundness.specs.Sound.{sectionOk, pcOk, sound}
+use Rattle.soundness.specs.inner.Reading.{loaded}
+use Rattle.soundness.proofs.Loaded.{first-length, first-at, first-checks}
 use Rattle.soundness.proofs.Legible.{section-passes, sound-legible}
 use Rattle.needs.specs.declared.Left.the-variants.{Turns, Image as ImageRefused, Worker, Record}
 use Rattle.needs.specs.From.{lesser, larger, needsBy}
@@ -32,23 +32,17 @@ use Rattle.needs.specs.inner.Pass.{Passable}
 use Rattle.needs.proofs.Unrolled.{needs-cong}
 use Rattle.needs.proofs.Pass.{passed-placed, passed-passable}
 
--- ---- a list that begins with the first k words of a code
+-- ---- a list that the first k words of a code are loaded into
 
-module _ (k : ℕ) (code : Code) (words : List ℕ) (h : k ≤ length words) (same : (j : ℕ) → j < k → getD words j 0 ≡ code j) where
-  begins : (j : ℕ) → j < k → getD (take k words) j 0 ≡ code j
-  begins j l = getD-take k words j 0 l ∙ same j l
-
+module _ (code : Code) (ws : List ℕ) (k : ℕ) (w : List ℕ) (e : w ≡ loaded code ws k) (h : k ≤ length ws) where
   -- it may be passed over as they may
-  pub begins-passable : (own from : ℕ) → passes (check own k code) ≡ true → from ≤ k → Passable (take k words) from
-  begins-passable own from p l =
-      let e : check own (length (take k words)) (codeOf (take k words)) ≡ check own k code =
-      rw (length-take-le k words h) (check-cong own k (codeOf (take k words)) code begins)
-      in
-      passed-passable own (take k words) from (e ∙ passed-is (check own k code) p) (rw (length-take-le k words h) l)
+  pub first-passable : (own from : ℕ) → passes (check own k code) ≡ true → from ≤ k → Passable (take k w) from
+  first-passable own from p l =
+      passed-passable own (take k w) from (first-checks code ws k w e h own ∙ passed-is (check own k code) p) (rw (first-length code ws k w e h) l)
 
   -- and needs what they need
-  pub begins-needs : (pick : ℕ → ℕ → ℕ) (from : ℕ) → needsBy pick (length (take k words)) (codeOf (take k words)) from ≡ needsBy pick k code from
-  begins-needs pick from = rw (length-take-le k words h) (needs-cong pick k (codeOf (take k words)) code begins from)
+  pub first-needs : (pick : ℕ → ℕ → ℕ) (from : ℕ) → needsBy pick (length (take k w)) (codeOf (take k w)) from ≡ needsBy pick k code from
+  first-needs pick from = rw (first-length code ws k w e h) (needs-cong pick k (codeOf (take k w)) code (first-at code ws k w e h) from)
 
 -- ---- the turns of a named instruction
 

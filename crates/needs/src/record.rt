@@ -36,11 +36,7 @@ fn span_in(image: &[u64], d: usize, k: usize, from: usize, own: usize) -> Span
     ensures most { λ r. ⌜ r .most ≡ most k (codeIn own (at own (now (image .entry))) d) from ⌝ }
 {
     let mut words = [0u64; 64];
-    let mut i: usize = 0;
-    while i < k {
-        words[i] = image::read_step(image, d, i, own);
-        i += 1;
-    }
+    soundness::records::load_steps(image, d, k, own, &mut words);
     ahead::span_from(&words[..k], from)
 }
 

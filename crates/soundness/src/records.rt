@@ -17,8 +17,20 @@ ghost use Rattle.section.specs.Check.{check, passes};
 ghost use Rattle.log.specs.Log.{codeIn};
 ghost use Rattle.owed.specs.Owed.{covers, owed};
 ghost use Rattle.soundness.specs.Sound.{sectionOk, pcOk, sound, unsound};
-ghost use Rattle.soundness.specs.inner.Reading.{Helds, owedBy};
+ghost use Rattle.soundness.specs.inner.Reading.{Helds, loaded, owedBy};
 ghost use Rattle.soundness.specs.inner.Tests.{byRecord};
+
+// Loads the first k instruction words of worker d's record.
+pub fn load_steps(image: &[u64], d: usize, k: usize, own: usize, words: &mut [u64; 64])
+    requires { ⌜ (Inside own (now image) d) × (k ≤ 64) ⌝ }
+    ensures { λ _. ⌜ now (words .exit) ≡ loaded (codeIn own (at own (now (image .entry))) d) (now (words .entry)) k ⌝ }
+{
+    let mut i: usize = 0;
+    while i < k {
+        words[i] = image::read_step(image, d, i, own);
+        i += 1;
+    }
+}
 
 // Whether the first k instruction words of worker d's record, each loaded, pass the check, which then leaves the held sets.
 fn section_passes(image: &[u64], d: usize, k: usize, own: usize, held: &mut [u64]) -> bool
@@ -27,11 +39,7 @@ fn section_passes(image: &[u64], d: usize, k: usize, own: usize, held: &mut [u64
     ensures sets { λ r. ⌜ (r ≡ true → Helds own (at own (now (image .entry))) d k (now (held .exit))) ⌝ }
 {
     let mut words = [0u64; 64];
-    let mut i: usize = 0;
-    while i < k {
-        words[i] = image::read_step(image, d, i, own);
-        i += 1;
-    }
+    load_steps(image, d, k, own, &mut words);
     section::passes(section::check_held(&words[..k], own as u16, held))
 }
 

@@ -1,14 +1,14 @@
 -- What only the inner functions of a recovery need: records that can be read, and the owed sets in a list.
-use Prim.Native.Nat.{ℕ, _%_, _<_, _≤_}
+use Prim.Native.Nat.{ℕ, suc, zero, _%_, _<_, _≤_}
 use mathlib.Core.Path.{_≡_}
 use mathlib.Core.Bool.{true}
 use mathlib.Core.List.{List, [], _∷_}
-use lib.ListN.{length, getD}
+use lib.ListN.{length, getD, set}
 use Rattle.image.specs.declared.Field.the-variants.{Count, Pc}
 use Rattle.image.specs.Place.{field, Memory}
 use Rattle.image.specs.Image.{Image, lengthOf, at, workers}
 use Rattle.code.specs.Form.{inRange}
-use Rattle.section.specs.Check.{heldBefore}
+use Rattle.section.specs.Check.{Code, heldBefore}
 use Rattle.log.specs.Log.{codeIn}
 use Rattle.owed.specs.Owed.{namedStep}
 use Rattle.soundness.specs.Sound.{eight, owedAt}
@@ -36,6 +36,11 @@ pub record Restorable (n : ℕ) (m : Image) : Type 0 where
 -- a list has the held set before each of the first k steps of worker d's section
 abbrev pub Helds : ℕ → Memory → ℕ → ℕ → List ℕ → Type 0
 Helds n rd d k held = (j : ℕ) → j < k → getD held j 0 ≡ heldBefore (codeIn n rd d) j
+
+-- what loading the first k words of a code leaves of a list
+unfoldable pub loaded : Code → List ℕ → ℕ → List ℕ
+loaded code ws zero = ws
+loaded code ws (suc k) = set (loaded code ws k) k (code k)
 
 -- ---- owed sets
 
