@@ -38,7 +38,6 @@ loop-less c = omega arith
 loop-again : tie.Need-loop-again Inv-loop μ-loop
 unfolding loaded
 loop-again c =
-    let A = c .before .before .before .before .args in
     let L = c .before .before .loop in
     let e : L .i + 1 ≡ suc (L .i) = omega arith in
     (omega arith, rw (e, ← c .read-step .ensures, ← L .inv .1))
