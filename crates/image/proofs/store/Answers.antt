@@ -1,0 +1,15 @@
+-- `image::store` meets its contract: with none left it returns; else it makes the store, which past the end changes
+-- nothing, and takes one off.
+use borrow.Author.Rules.{rules}
+use mathlib.Core.Path.{sym, ap, ◌∙◌}
+use mathlib.Core.Logic.{⊎_elim}
+use native.Mathlib.Omega.{arith}
+use lib.ListN.{length, length-set}
+use lib.Seq.{set_out}
+use Rattle.image.specs.Image.{put}
+use Rattle.image.proofs.Stores.{put-lots}
+use Rattle.image.proofs.store.Goals as goal
+
+pub returns-then-k-eq0 : goal.returns-then-k-eq0
+unfolding put
+returns-then-k-eq0 c = record { image = rw c.if-k-eq0.true; left = omega arith }

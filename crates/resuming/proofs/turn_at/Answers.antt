@@ -1,0 +1,18 @@
+-- `resuming::turn_at` meets its contract, by whether the image has the worker.
+use borrow.Author.Tests.{lt-ltb, le-ltb}
+use borrow.Author.Rules.{rules}
+use Rattle.soundness.proofs.Legible.{inside}
+use Rattle.resuming.proofs.turn_at.Goals as goal
+
+pub returns-then-workers-d : goal.returns-then-workers-d
+returns-then-workers-d c = rw (← c.workers.ensures, le-ltb c.args.d c.workers.result c.if-workers-d.true)
+
+pub resumed_turn-requires : goal.resumed_turn-requires
+resumed_turn-requires c =
+    let h = rw c.workers.ensures at c.if-workers-d.false in
+    (inside c.args.own c.args.image.now c.args.d c.requires h, c.requires.legible c.args.d h)
+
+pub returns : goal.returns
+returns c =
+    rw (← c.workers.ensures, lt-ltb c.args.d c.workers.result c.if-workers-d.false)
+    c.resumed_turn.ensures

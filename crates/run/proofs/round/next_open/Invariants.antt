@@ -1,0 +1,17 @@
+-- `run::round::next_open` meets its contract. The loop's invariant: the workers from d up to k are idle, so that the first open one from d on is the
+-- first from k on.
+use Prim.Native.Nat.{◌-◌, ◌<◌}
+use borrow.Author.Rules.{rules}
+use mathlib.Core.Path.{◌≡◌, refl, sym, ◌∙◌}
+use native.Mathlib.Omega.{arith}
+use lib.ListN.{length}
+use Rattle.run.specs.Round.{next_open}
+use Rattle.working.proofs.Placed.{idle-turn, open_turn}
+use Rattle.run.proofs.Next.{next_here, next_past, next-end}
+use Rattle.run.proofs.round.next_open.Given as goal
+
+abbrev pub invariant-loop-k : goal.invariant-loop-k
+invariant-loop-k l = next_open (l.n - l.k) l.k l.c ≡ next_open (l.n - l.d) l.d l.c
+
+abbrev pub decreases-loop-k : goal.decreases-loop-k
+decreases-loop-k l = l.n - l.k

@@ -1,0 +1,74 @@
+-- `soundness::locks::locks` meets its contract. The loop's invariant: the lowest lock from b on that is wrong is the lowest of
+-- all. Below the first lock that two workers are owed only the owner words can be wrong.
+use Prim.Native.Nat.{◌-◌, ◌≤◌, ◌<◌}
+use borrow.Author.Rules.{rules}
+use mathlib.Core.Path.{◌≡◌, refl, sym, ap, ◌∙◌}
+use native.Mathlib.Omega.{arith}
+use lib.ListN.{length}
+use Rattle.base.proofs.Bools.{denied, granted}
+use Rattle.image.specs.Image.{at, workers}
+use Rattle.soundness.specs.Inner.Tests.{by_lock}
+use Rattle.soundness.specs.Sound.{badLock}
+use Rattle.owed.proofs.Sharing.{shared-told}
+use Rattle.soundness.proofs.Sets.{lock-single, lock-shared, bad-on, bad-here, bad-none}
+use Rattle.soundness.proofs.locks.locks.Goals as goal
+
+pub shared-end-requires : goal.shared-end-requires
+shared-end-requires c = omega (arith, ap length c.requires.2, c.workers.ensures)
+
+pub loop-b-init : goal.loop-b-init
+loop-b-init c = (omega arith, refl)
+
+pub owner_ok-requires : goal.owner_ok-requires
+owner_ok-requires c =
+    let h : c.loop-b.b < 64 = omega (arith, (shared-told _ _ _ c.shared-end.ensures).0) in
+    (c.requires.0, c.requires.1, h, c.requires.3)
+
+pub returns-then-not-owner_ok : goal.returns-then-not-owner_ok
+returns-then-not-owner_ok c =
+    let A = c.args in
+    let L = c.loop-b in
+    let f = c.shared-end in
+    let D = workers A.image.now in
+    let rd = at A.own A.image.now in
+    let low = shared-told _ _ _ f.ensures in
+    let h : L.b < 64 = omega (arith, low.0) in
+    let k = rw (c.requires.2, c.workers.ensures) at (low.1 L.b (omega arith) c.loop-b-test.true)
+    in
+    let e = lock-single A.own rd D L.b c.requires.1 k in
+    sym (ap by_lock (bad-here A.own rd D L.b h (e ∙ denied c.owner_ok.ensures c.if-not-owner_ok.true-raw))) ∙ L.invariant.1
+
+pub loop-b-preserved : goal.loop-b-preserved
+loop-b-preserved c =
+    let A = c.args in
+    let L = c.loop-b in
+    let f = c.shared-end in
+    let D = workers A.image.now in
+    let rd = at A.own A.image.now in
+    let low = shared-told _ _ _ f.ensures in
+    let h : L.b < 64 = omega (arith, low.0) in
+    let k = rw (c.requires.2, c.workers.ensures) at (low.1 L.b (omega arith) c.loop-b-test.true)
+    in
+    let e = lock-single A.own rd D L.b c.requires.1 k in
+    (omega arith, sym (ap by_lock (bad-on A.own rd D L.b h (e ∙ granted c.owner_ok.ensures c.if-not-owner_ok.false-raw))) ∙ L.invariant.1)
+
+pub returns-then-end-lt64 : goal.returns-then-end-lt64
+returns-then-end-lt64 c =
+    let A = c.args in
+    let L = c.loop-b in
+    let f = c.shared-end in
+    let D = workers A.image.now in
+    let rd = at A.own A.image.now in
+    let k = rw (c.requires.2, c.workers.ensures) at ((shared-told _ _ _ f.ensures).2 c.if-end-lt64.true) in
+    let z : L.b ≡ f.result = omega arith in
+    sym (ap by_lock (bad-here A.own rd D f.result c.if-end-lt64.true (lock-shared A.own rd D f.result c.requires.1 k))) ∙ rw z at L.invariant.1
+
+pub returns : goal.returns
+returns c =
+    let A = c.args in
+    let L = c.loop-b in
+    let f = c.shared-end in
+    let D = workers A.image.now in
+    let rd = at A.own A.image.now in
+    let h : 64 ≤ L.b = omega arith in
+    sym (ap by_lock (bad-none A.own rd D L.b h)) ∙ L.invariant.1

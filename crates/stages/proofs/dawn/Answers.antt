@@ -1,0 +1,6 @@
+-- `stages::dawn` meets its contract.
+use borrow.Author.Rules.{rules}
+use Rattle.stages.proofs.dawn.Goals as goal
+
+pub returns : goal.returns
+returns c = rw c.fresh.ensures

@@ -1,0 +1,8 @@
+-- `stretch::whole::instruction` meets its contract: an arm for each instruction, by its callee.
+use borrow.Author.Rules.{rules}
+use mathlib.Core.Path.{sym, ◌∙◌}
+use Rattle.stretch.proofs.Counting.{made_none}
+use Rattle.stretch.proofs.whole.instruction.Goals as goal
+
+pub returns-in-Jump : goal.returns-in-Jump
+returns-in-Jump c = record { made = c.jump.ensures.made _; next = c.jump.ensures.next }
