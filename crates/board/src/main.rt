@@ -1,12 +1,12 @@
 // The program `board`: frame lines on standard input, what they print on standard output, and what is wrong on standard error.
 #![tactic(auto)]
-fn main() {
-    if 1 < os::arg_count() {
-        io::write_all(
-            libc::STDERR_FILENO,
-            b"board: takes no arguments; frame lines come on standard input\n",
-        );
+use std::env::{Env, FillError};
+use std::io::Write;
+
+fn main(rt: HostRuntime) {
+    if let Err(FillError::NotPresent) = rt.arg(1, &mut [0u8; 1]) {
+        stream::play(&mut rt.stdin(), &mut rt.stdout(), &mut rt.stderr(), &mut rt.stderr());
         return;
     }
-    stream::play(libc::STDIN_FILENO, libc::STDOUT_FILENO, libc::STDERR_FILENO);
+    let _ = rt.stderr().write_all(b"board: takes no arguments; frame lines come on standard input\n");
 }

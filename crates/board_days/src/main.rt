@@ -1,49 +1,82 @@
 // Plays the days that the file `days` names, one to a line, and prints each one's name and what it prints.
 #![tactic(auto)]
-ghost use Rattle.std.specs.Prelude.{◌<◌, length};
+ghost use Rattle.std.specs.Prelude.{◌<◌, ◌≤◌, length};
 
-use libc::STDOUT_FILENO;
+use std::fs::File;
+use std::io;
+use std::io::{Error, ErrorKind, Read, Write};
+use std::str;
+use stream::Reason;
 
-fn play(name: &[u8]) {
-    io::write_all(STDOUT_FILENO, b"== ");
-    io::write_all(STDOUT_FILENO, name);
-    io::write_all(STDOUT_FILENO, b"\n");
-    let fd = os::open_read(name);
-    if fd < 0 {
-        os::fail(name);
-        return;
+// Opens a file.
+fn open(rt: &HostRuntime, name: &[u8]) -> io::Result<File> {
+    match str::from_utf8(name) {
+        Ok(name) => File::open(rt, name),
+        Err(_) => Err(Error::from(ErrorKind::InvalidFilename)),
     }
-    stream::play(fd, STDOUT_FILENO, -1);
-    libc::close(fd);
+}
+
+// Says on standard error that a file is not opened, and why.
+fn fail(rt: &HostRuntime, name: &[u8], e: &Error) {
+    let why = Reason(e);
+    let _ = rt.stderr().write_all(name);
+    let _ = writeln!(rt.stderr(), ": {why}");
+}
+
+fn play(rt: &HostRuntime, name: &[u8]) {
+    let mut output = rt.stdout();
+    let _ = output.write_all(b"== ");
+    let _ = output.write_all(name);
+    let _ = output.write_all(b"\n");
+    match open(rt, name) {
+        Ok(mut day) => {
+            stream::play(&mut day, &mut output, &mut io::sink(), &mut rt.stderr());
+        }
+        Err(e) => fail(rt, name, &e),
+    }
 }
 
 // Plays the day that is named from an index on, and answers where the next name starts.
-fn play_from(names: &[u8], from: usize) -> usize
+fn play_from(rt: &HostRuntime, names: &[u8], from: usize) -> usize
     requires { from < length names.now }
     ensures { from < result }
 {
     let to = names.len();
     let left = &names[from..];
     let end = from + buffers::line_end(left);
-    play(&names[from..end]);
+    play(rt, &names[from..end]);
     if end < to { end + 1 } else { to }
 }
 
-fn play_all(names: &[u8]) {
+fn play_all(rt: &HostRuntime, names: &[u8]) {
     let mut from: usize = 0;
     while from < names.len() {
-        from = play_from(names, from);
+        from = play_from(rt, names, from);
     }
 }
 
-fn main() {
-    let fd = os::open_read(b"days");
-    if fd < 0 {
-        os::fail(b"days");
-        return;
+// Reads until the buffer is full, the file ends or a read fails, and answers how many bytes came.
+fn read_full(file: &mut File, buf: &mut [u8]) -> usize
+    ensures { result ≤ length buf.new }
+{
+    let mut done: usize = 0;
+    while done < buf.len() {
+        match file.read(&mut buf[done..]) {
+            Ok(0) => return done,
+            Ok(n) => done += n,
+            Err(_) => return done,
+        }
     }
-    let mut names = io::large_buffer();
-    let n = io::read_full(fd, &mut names);
-    libc::close(fd);
-    play_all(&names[..n]);
+    done
+}
+
+fn main(rt: HostRuntime) {
+    match open(&rt, b"days") {
+        Ok(mut days) => {
+            let mut names = [0u8; 65536];
+            let n = read_full(&mut days, &mut names);
+            play_all(&rt, &names[..n]);
+        }
+        Err(e) => fail(&rt, b"days", &e),
+    }
 }

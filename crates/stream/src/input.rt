@@ -2,7 +2,9 @@
 ghost use Rattle.std.specs.Prelude.{◌≡◌, ◌+◌, ◌≤◌, ◌++◌, length, take, drop};
 ghost use Rattle.stream.specs.Shell.{Refilled};
 
-use crate::{Stream, telling};
+use crate::failures::Failures;
+use crate::{Stream, failures, telling};
+use std::io::{Read, Write};
 
 // Moves n bytes to the buffer's start. What is behind them stays.
 fn move_down(buf: &mut [u8], from: usize, n: usize)
@@ -17,20 +19,32 @@ fn move_down(buf: &mut [u8], from: usize, n: usize)
 }
 
 // Reads behind the first n bytes of the buffer, and answers how many came. A failure is told, and is the input's end.
-fn read_on(fd: i32, buf: &mut [u8], n: usize) -> usize
+fn read_on<R: Read, E: Write>(
+    input: &mut R,
+    failures: &mut Failures<E>,
+    buf: &mut [u8],
+    n: usize,
+) -> usize
     requires { n ≤ length buf.old }
     ensures first { take n buf.new ≡ take n buf.old }
     ensures held { n + result ≤ length buf.new }
 {
-    let got = libc::read(fd, &mut buf[n..]);
-    if got < 0 {
-        os::fail(b"board: standard input");
+    match input.read(&mut buf[n..]) {
+        Ok(got) => got,
+        Err(e) => {
+            failures::tell(failures, "standard input", &e);
+            0
+        }
     }
-    io::count(got, &buf[n..])
 }
 
 // The next piece of input is read behind the bytes that are not taken yet.
-pub fn more(fd: i32, buf: &mut [u8], s: Stream) -> Stream
+pub fn more<R: Read, E: Write>(
+    input: &mut R,
+    failures: &mut Failures<E>,
+    buf: &mut [u8],
+    s: Stream,
+) -> Stream
     requires { (s.from ≤ s.to) × (s.to ≤ length buf.old) }
     ensures { Refilled buf.old buf.new s result }
 {
@@ -38,11 +52,11 @@ pub fn more(fd: i32, buf: &mut [u8], s: Stream) -> Stream
     let n = s.to - from;
     let ended = telling::ends_in(buf, from);
     move_down(buf, from, n);
-    let got = read_on(fd, buf, n);
+    let got = read_on(input, failures, buf, n);
     let mut r = s;
     r.from = 0;
     r.to = n + got;
-    r.lines = std::num::wrapping_add_u64(s.lines, ended);
+    r.lines = s.lines.wrapping_add(ended);
     r.more = got > 0;
     r
 }

@@ -1,10 +1,12 @@
-// A day of frame lines from a descriptor, and what it prints to another. All that is done here is reading into a buffer, handing it to the
+// A day of frame lines from a reader, and what it prints to a writer. All that is done here is reading into a buffer, handing it to the
 // core (`day::advance`), writing what that put out, and moving what it left down; what is played and printed is the core's. Where a line stops the
 // day, a message says which.
 #![tactic(auto)]
 use day::Want;
 use stages::Day;
+use std::io::{Read, Write};
 
+mod failures;
 mod input;
 mod output;
 mod telling;
@@ -14,6 +16,9 @@ ghost use Rattle.pieces.specs.Pieces.{whole};
 ghost use Rattle.pieces.specs.Pieced.{point_of};
 ghost use Rattle.stream.specs.InBuffers.{InBuffers};
 ghost use Rattle.stream.specs.Shell.{unread, closed, Stepped};
+
+use failures::Failures;
+pub use failures::Reason;
 
 // Where a stream stands.
 #[derive(Clone, Copy)]
@@ -31,10 +36,11 @@ struct Stream {
 }
 
 // The core, its output written, and more input read where it asks for that.
-fn step(
-    input: i32,
-    output: i32,
-    messages: i32,
+fn step<R: Read, W: Write, M: Write, E: Write>(
+    input: &mut R,
+    output: &mut W,
+    messages: &mut M,
+    failures: &mut Failures<E>,
     image: &mut [u64],
     buf: &mut [u8],
     out: &mut [u8],
@@ -53,7 +59,7 @@ fn step(
     let after = r.day;
     let used = r.used;
     let taken = r.taken;
-    let written = output::flush(output, out, used);
+    let written = output::flush(output, failures, out, used);
     let want = day::wants(after, more, out.len() - used);
     let next = Stream {
         day: after,
@@ -65,13 +71,13 @@ fn step(
     };
     match want {
         Want::Room => next,
-        Want::Input => input::more(input, buf, next),
+        Want::Input => input::more(input, failures, buf, next),
         Want::Nothing => ended(messages, buf, next),
     }
 }
 
 // The end, and what is to be said of it.
-fn ended(messages: i32, buf: &[u8], s: Stream) -> Stream
+fn ended<M: Write>(messages: &mut M, buf: &[u8], s: Stream) -> Stream
     requires { s.from ≤ length buf.now }
     ensures { result ≡ closed s }
 {
@@ -90,11 +96,21 @@ fn ended(messages: i32, buf: &[u8], s: Stream) -> Stream
     r
 }
 
-// Plays the day that comes from one descriptor, and prints to another. What stopped it early is said on a third; -1 is nowhere.
-pub fn play(input: i32, output: i32, messages: i32) {
+// Plays the day that comes from a reader, prints to a writer, and answers whether all was read and written. What stopped the day early is said on a
+// third stream, and what failed on a fourth.
+pub fn play<R: Read, W: Write, M: Write, E: Write>(
+    input: &mut R,
+    output: &mut W,
+    messages: &mut M,
+    errors: &mut E,
+) -> bool {
     let mut image = [0u64; edition::LARGEST];
-    let mut buf = io::large_buffer();
-    let mut out = io::large_buffer();
+    let mut buf = [0u8; 65536];
+    let mut out = [0u8; 65536];
+    let mut failures = Failures {
+        to: errors,
+        any: false,
+    };
     let mut s = Stream {
         day: stages::dawn(),
         from: 0,
@@ -105,7 +121,8 @@ pub fn play(input: i32, output: i32, messages: i32) {
     };
     let mut turns = u64::MAX;
     while turns > 0 && !s.over {
-        s = step(input, output, messages, &mut image, &mut buf, &mut out, s);
+        s = step(input, output, messages, &mut failures, &mut image, &mut buf, &mut out, s);
         turns -= 1;
     }
+    s.over && !failures.any
 }

@@ -1,13 +1,46 @@
 // The output's buffer written.
-ghost use Rattle.std.specs.Prelude.{◌≤◌, length};
+ghost use Rattle.std.specs.Prelude.{◌≡◌, ◌≤◌, ◌<◌, true, if◌then◌else◌, length, take};
+ghost use Rattle.std.specs.Io.KnownBytes.{Appends};
+
+use crate::failures;
+use crate::failures::Failures;
+use std::io::{Error, ErrorKind, Write};
+
+// Writes bytes until a write fails or takes none, and answers how many are written. A failure is told.
+fn write_on<W: Write, E: Write>(
+    output: &mut W,
+    failures: &mut Failures<E>,
+    bytes: &[u8],
+) -> usize
+    ensures bound { result ≤ length bytes.now }
+    ensures written { Appends (W.contents output.old) (W.contents output.new) (take result bytes.now) }
+    ensures failed { failures.new.any ≡ (if result < length bytes.now then true else failures.old.any) }
+{
+    let mut done: usize = 0;
+    while done < bytes.len() {
+        match output.write(&bytes[done..]) {
+            Ok(0) => {
+                failures::tell(failures, "standard output", &Error::from(ErrorKind::WriteZero));
+                return done;
+            }
+            Ok(n) => done += n,
+            Err(e) => {
+                failures::tell(failures, "standard output", &e);
+                return done;
+            }
+        }
+    }
+    done
+}
 
 // Writes the first bytes of the buffer, and answers whether that went well. A failure is told.
-pub fn flush(fd: i32, out: &[u8], used: usize) -> bool
+pub fn flush<W: Write, E: Write>(
+    output: &mut W,
+    failures: &mut Failures<E>,
+    out: &[u8],
+    used: usize,
+) -> bool
     requires { used ≤ length out.now }
 {
-    let written = io::write_all(fd, &out[..used]);
-    if !written {
-        os::fail(b"board: standard output");
-    }
-    written
+    write_on(output, failures, &out[..used]) == used
 }

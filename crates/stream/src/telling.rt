@@ -4,6 +4,7 @@ ghost use Rattle.stream.specs.Lines.{ends_in, line_at};
 
 use frames::Printed;
 use lines::Job;
+use std::io::Write;
 
 // 1 for a byte that ends a line.
 fn ends(b: u8) -> u64
@@ -39,21 +40,21 @@ pub fn line_at(buf: &[u8], n: usize, before: u64) -> u64
 }
 
 // Why a line stopped the day, by what it printed.
-fn why(fd: i32, p: Printed) {
+fn why(p: Printed) -> &'static str {
     match p {
-        Printed::Nothing => {}
+        Printed::Nothing => "",
         Printed::Line { at: _, value } => {
             if value == frames::MALFORMED {
-                io::write_all(fd, b": malformed (14)");
+                ": malformed (14)"
             } else {
-                io::write_all(fd, b": no board has so many desks (10)");
+                ": no board has so many desks (10)"
             }
         }
     }
 }
 
 // Says which line stopped the day, if one did.
-pub fn tell(fd: i32, line: u64, job: Job, p: Printed) {
+pub fn tell<M: Write>(messages: &mut M, line: u64, job: Job, p: Printed) {
     match job {
         Job::Turns {
             worker: _,
@@ -66,10 +67,8 @@ pub fn tell(fd: i32, line: u64, job: Job, p: Printed) {
         Job::Stores(_) => {}
         Job::Next => {}
         Job::Stop => {
-            io::write_all(fd, b"board: line ");
-            io::print_decimal(fd, line);
-            why(fd, p);
-            io::write_all(fd, b"; nothing behind it is played\n");
+            let why = why(p);
+            let _ = writeln!(messages, "board: line {line}{why}; nothing behind it is played");
         }
     }
 }
