@@ -1,3 +1,4 @@
 pub mod Moving
 pub mod Counted
 pub mod Stepping
+pub mod Waiting

@@ -1,5 +1,8 @@
 -- Laws of a step of the shell: what the core took and used follows from what its definition gives, and by what it wants the step is served.
-use Rattle.std.proofs.Common.{◌≡◌, ℕ, ◌+◌, ◌-◌, ◌≤◌, Bool, List, length, take, drop, ap, arith, length-drop, length-take-le}
+use Rattle.std.proofs.Common.{◌≡◌, ℕ, ◌+◌, ◌-◌, ◌≤◌, Bool, List, [], length, take, drop, sym, ap, ◌∙◌, arith, append-nil, length-drop, length-take-le, drop-drop}
+use Rattle.core.specs.declared.option.Option.{Option}
+use Rattle.std.proofs.KnownBytes.{Consumes-nil}
+use Rattle.std.proofs.lemmas.List.{drop-take}
 use mathlib.Core.Path.{subst⁻¹}
 use Rattle.pieces.specs.Pieces.{Point, Progress}
 use Rattle.day.specs.declared.Stretch.{Stretch}
@@ -7,11 +10,19 @@ use Rattle.day.specs.declared.Want.{Want}
 use Rattle.day.specs.Core.{Advanced}
 use Rattle.day.specs.Wants.{want_of}
 use Rattle.stream.specs.declared.Stream.{Stream}
+use Rattle.stream.specs.Carried.{Came}
 use Rattle.stream.specs.Shell.{unread, Refilled, stretch_of, passed, Served, Stepped}
 
 -- as many bytes are not taken as there are between the two ends
 pub unread-long : (b : List ℕ) (s : Stream) → s.from ≤ s.to → s.to ≤ length b → length (unread b s) ≡ s.to - s.from
 unread-long b s rising held = length-take-le (s.to - s.from) (drop s.from b) (omega (arith, length-drop s.from b))
+
+-- where more of them are taken, the rest are not
+pub unread-passed : (b : List ℕ) (s : Stream) (h : Stretch) (over : Bool) → s.from + h.taken ≤ s.to
+    → unread b (passed s h over) ≡ drop h.taken (unread b s)
+unread-passed b s h over inside =
+    let e : s.to - s.from ≡ h.taken + (s.to - (s.from + h.taken)) = omega arith in
+    sym (rw (e, drop-take, drop-drop))
 
 -- that the output could not be written stays so behind the reading
 pub refilled-over : (b c : List ℕ) (s : Stream) (h : Stretch) (over : Bool) (r : Stream)
@@ -23,6 +34,16 @@ module _ (m k b o u : List ℕ) (s : Stream) (h : Stretch) (a : Progress) (risin
     (core : Advanced m k (unread b s) o u s.day h a) where
   pub taken-inside : s.from + h.taken ≤ s.to
   taken-inside = omega (arith, core.taken, unread-long b s rising held)
+
+  private-left : (over : Bool) → unread b (passed s h over) ≡ a.point.input
+  private-left over = unread-passed b s h over taken-inside ∙ ap (λ (q : Point). q.input) core.point
+
+  -- bytes came behind them, or none
+  pub came-behind : (p q : Option (List ℕ)) (w : List ℕ) (over : Bool) → Came p q (unread b (passed s h over)) w → Came p q a.point.input w
+  came-behind p q w over e = record { bytes = e.bytes; read = e.read; behind = rw (private-left over) at e.behind }
+
+  pub none-came : (p : Option (List ℕ)) (over : Bool) → Came p p a.point.input (unread b (passed s h over))
+  none-came p over = record { bytes = []; read = Consumes-nil p; behind = private-left over ∙ sym (append-nil a.point.input) }
 
   private-stretch : (r : Stream) → r.day ≡ h.day → stretch_of s r a ≡ h
   private-stretch r e =

@@ -1,3 +1,4 @@
 pub mod InBuffers
 pub mod Lines
 pub mod Shell
+pub mod Carried

@@ -1,4 +1,4 @@
--- What the shell does around the core, up to what the descriptors give: how many bytes came, and whether the output was written.
+-- What the shell does around the core, up to what the streams give: how many bytes came, and whether the output was written.
 use Rattle.std.specs.Prelude.{◌≡◌, ℕ, ◌+◌, ◌-◌, ◌%◌, ◌^◌, ◌≤◌, Bool, true, List, length, take, drop, nat_lt}
 use Rattle.pieces.specs.Pieces.{Progress}
 use Rattle.day.specs.declared.Stretch.{Stretch}

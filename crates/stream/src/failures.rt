@@ -1,10 +1,8 @@
 // Reads and writes that fail: each is told where it happens, and that there was one is kept.
 ghost use Rattle.std.specs.Prelude.{◌≡◌, true};
 
-use std::fmt;
-use std::io;
 use std::io::Write;
-use std::str;
+use std::{fmt, io, str};
 
 // Where failures are told, and whether there was one.
 #[derive(Drop)]

@@ -1,6 +1,8 @@
 // The input's buffer filled.
-ghost use Rattle.std.specs.Prelude.{◌≡◌, ◌+◌, ◌≤◌, ◌++◌, length, take, drop};
-ghost use Rattle.stream.specs.Shell.{Refilled};
+ghost use Rattle.std.specs.Prelude.{◌≡◌, ◌+◌, ◌-◌, ◌<◌, ◌≤◌, ◌++◌, true, false, length, take, drop};
+ghost use Rattle.std.specs.Io.KnownBytes.{Consumes, IsAtEnd};
+ghost use Rattle.stream.specs.Shell.{unread, Refilled};
+ghost use Rattle.stream.specs.Carried.{Came};
 
 use crate::failures::Failures;
 use crate::{Stream, failures, telling};
@@ -28,6 +30,9 @@ fn read_on<R: Read, E: Write>(
     requires { n ≤ length buf.old }
     ensures first { take n buf.new ≡ take n buf.old }
     ensures held { n + result ≤ length buf.new }
+    ensures read { Consumes (R.remaining input.old) (R.remaining input.new) (take result (drop n buf.new)) }
+    ensures ended { n < length buf.old → failures.new.any ≡ false → result ≡ 0 → IsAtEnd (R.remaining input.new) }
+    ensures told { failures.old.any ≡ true → failures.new.any ≡ true }
 {
     match input.read(&mut buf[n..]) {
         Ok(got) => got,
@@ -46,7 +51,11 @@ pub fn more<R: Read, E: Write>(
     s: Stream,
 ) -> Stream
     requires { (s.from ≤ s.to) × (s.to ≤ length buf.old) }
-    ensures { Refilled buf.old buf.new s result }
+    ensures refilled { Refilled buf.old buf.new s result }
+    ensures read { Came (R.remaining input.old) (R.remaining input.new) (unread buf.old s) (unread buf.new result) }
+    ensures ended { s.to - s.from < length buf.old → failures.new.any ≡ false → result.more ≡ false
+        → IsAtEnd (R.remaining input.new) }
+    ensures told { failures.old.any ≡ true → failures.new.any ≡ true }
 {
     let from = s.from;
     let n = s.to - from;
@@ -56,7 +65,7 @@ pub fn more<R: Read, E: Write>(
     let mut r = s;
     r.from = 0;
     r.to = n + got;
-    r.lines = s.lines.wrapping_add(ended);
+    r.lines = std::num::wrapping_add_u64(s.lines, ended);
     r.more = got > 0;
     r
 }

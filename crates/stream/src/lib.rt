@@ -2,6 +2,7 @@
 // core (`day::advance`), writing what that put out, and moving what it left down; what is played and printed is the core's. Where a line stops the
 // day, a message says which.
 #![tactic(auto)]
+
 use day::Want;
 use stages::Day;
 use std::io::{Read, Write};
@@ -11,11 +12,16 @@ mod input;
 mod output;
 mod telling;
 
-ghost use Rattle.std.specs.Prelude.{◌≡◌, ◌≤◌, length};
+ghost use Rattle.std.specs.Prelude.{◌≡◌, ℕ, ◌-◌, ◌<◌, ◌≤◌, ◌||◌, not, true, false, List, length, IfSome, IsTrue};
+ghost use Rattle.std.specs.Io.KnownBytes.{Appends, Consumes, IsAtEnd};
 ghost use Rattle.pieces.specs.Pieces.{whole};
 ghost use Rattle.pieces.specs.Pieced.{point_of};
 ghost use Rattle.stream.specs.InBuffers.{InBuffers};
+ghost use Rattle.day.specs.declared.Want.TheVariants.{Nothing};
+ghost use Rattle.day.specs.Wants.{want_of};
+ghost use Rattle.day.specs.Printout.{printout};
 ghost use Rattle.stream.specs.Shell.{unread, closed, Stepped};
+ghost use Rattle.stream.specs.Carried.{Came, Written};
 
 use failures::Failures;
 pub use failures::Reason;
@@ -50,6 +56,17 @@ fn step<R: Read, W: Write, M: Write, E: Write>(
     ensures within { InBuffers image.new buf.new result }
     ensures stepped { Stepped image.old image.new buf.old buf.new out.old out.new s result
         (whole s.more (length out.old) (point_of (unread buf.old s) image.old s.day)) }
+    ensures read { Came (R.remaining input.old) (R.remaining input.new)
+        (whole s.more (length out.old) (point_of (unread buf.old s) image.old s.day)).point.input (unread buf.new result) }
+    ensures ended { 4096 < length buf.old → failures.new.any ≡ false → s.more ≡ true → result.more ≡ false
+        → IsAtEnd (R.remaining input.new) }
+    ensures written { Written (W.contents output.old) (W.contents output.new)
+        (whole s.more (length out.old) (point_of (unread buf.old s) image.old s.day)).out
+        (not result.over || not failures.new.any) }
+    ensures over { failures.new.any ≡ false → result.over ≡ true
+        → want_of s.more (length out.old - length (whole s.more (length out.old) (point_of (unread buf.old s) image.old s.day)).out)
+        result.day.played.job ≡ Nothing }
+    ensures told { failures.old.any ≡ true → failures.new.any ≡ true }
 {
     let from = s.from;
     let to = s.to;
@@ -103,7 +120,12 @@ pub fn play<R: Read, W: Write, M: Write, E: Write>(
     output: &mut W,
     messages: &mut M,
     errors: &mut E,
-) -> bool {
+) -> bool
+    ensures printed { IsTrue result → IfSome (R.remaining input.old) (λ bytes.
+        Appends (W.contents output.old) (W.contents output.new) (printout bytes)) }
+    ensures first { (bytes : List ℕ) × Consumes (R.remaining input.old) (R.remaining input.new) bytes
+        × Written (W.contents output.old) (W.contents output.new) (printout bytes) result }
+{
     let mut image = [0u64; edition::LARGEST];
     let mut buf = [0u8; 65536];
     let mut out = [0u8; 65536];
@@ -121,7 +143,16 @@ pub fn play<R: Read, W: Write, M: Write, E: Write>(
     };
     let mut turns = u64::MAX;
     while turns > 0 && !s.over {
-        s = step(input, output, messages, &mut failures, &mut image, &mut buf, &mut out, s);
+        s = step(
+            input,
+            output,
+            messages,
+            &mut failures,
+            &mut image,
+            &mut buf,
+            &mut out,
+            s,
+        );
         turns -= 1;
     }
     s.over && !failures.any

@@ -1,26 +1,27 @@
 // The output's buffer written.
-ghost use Rattle.std.specs.Prelude.{◌≡◌, ◌≤◌, ◌<◌, true, if◌then◌else◌, length, take};
+ghost use Rattle.std.specs.Prelude.{◌≡◌, ◌≤◌, true, if◌then◌else◌, length, take, nat_lt};
 ghost use Rattle.std.specs.Io.KnownBytes.{Appends};
+ghost use Rattle.stream.specs.Carried.{Written};
 
 use crate::failures;
 use crate::failures::Failures;
 use std::io::{Error, ErrorKind, Write};
 
 // Writes bytes until a write fails or takes none, and answers how many are written. A failure is told.
-fn write_on<W: Write, E: Write>(
-    output: &mut W,
-    failures: &mut Failures<E>,
-    bytes: &[u8],
-) -> usize
+fn write_on<W: Write, E: Write>(output: &mut W, failures: &mut Failures<E>, bytes: &[u8]) -> usize
     ensures bound { result ≤ length bytes.now }
     ensures written { Appends (W.contents output.old) (W.contents output.new) (take result bytes.now) }
-    ensures failed { failures.new.any ≡ (if result < length bytes.now then true else failures.old.any) }
+    ensures failed { failures.new.any ≡ (if nat_lt result (length bytes.now) then true else failures.old.any) }
 {
     let mut done: usize = 0;
     while done < bytes.len() {
         match output.write(&bytes[done..]) {
             Ok(0) => {
-                failures::tell(failures, "standard output", &Error::from(ErrorKind::WriteZero));
+                failures::tell(
+                    failures,
+                    "standard output",
+                    &Error::from(ErrorKind::WriteZero),
+                );
                 return done;
             }
             Ok(n) => done += n,
@@ -41,6 +42,8 @@ pub fn flush<W: Write, E: Write>(
     used: usize,
 ) -> bool
     requires { used ≤ length out.now }
+    ensures written { Written (W.contents output.old) (W.contents output.new) (take used out.now) result }
+    ensures told { failures.new.any ≡ (if result then failures.old.any else true) }
 {
     write_on(output, failures, &out[..used]) == used
 }

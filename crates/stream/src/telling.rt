@@ -68,7 +68,10 @@ pub fn tell<M: Write>(messages: &mut M, line: u64, job: Job, p: Printed) {
         Job::Next => {}
         Job::Stop => {
             let why = why(p);
-            let _ = writeln!(messages, "board: line {line}{why}; nothing behind it is played");
+            let _ = writeln!(
+                messages,
+                "board: line {line}{why}; nothing behind it is played"
+            );
         }
     }
 }

@@ -1,59 +1,54 @@
 -- `stream::step` meets its contract: the core does what its definition says, and each part leaves the stream within its buffers.
-use Rattle.std.proofs.Common.{sym, refl, ap, ◌∙◌, arith, rules}
-use Rattle.stages.specs.declared.Day.{Day}
-use Rattle.day.specs.declared.Want.TheVariants.{Room, Input, Nothing}
+use Rattle.std.proofs.Common.{◌≡◌, ◌-◌, ◌≤◌, length, not, sym, ap, ◌∙◌, subst, arith, rules}
+use Rattle.pieces.specs.Pieces.{Point, Progress, whole}
+use Rattle.pieces.specs.Pieced.{point_of}
+use Rattle.day.specs.declared.Want.TheVariants.{Input}
+use Rattle.day.specs.Wants.{want_of}
 use Rattle.stream.specs.declared.Stream.{Stream}
-use Rattle.stream.proofs.Stepping.{taken-inside, steps, refilled-over}
+use Rattle.stream.specs.Shell.{unread}
+use Rattle.stream.proofs.Stepping.{came-behind, none-came, steps, refilled-over}
+use Rattle.stream.proofs.Waiting.{waits-short}
 use Rattle.stream.proofs.step.Goals as goal
 
-pub overflow_add-next : goal.overflow_add-next
-overflow_add-next c =
-    let T = c.advance-r in
-    search (rules, taken-inside _ _ c.args.buf.now _ _ c.args.s T.result _ c.requires.rising c.requires.held T.ensures)
-
-pub returns-in-Room : goal.returns-in-Room
-returns-in-Room c =
+pub returns-in-Room-clause-read : goal.returns-in-Room-clause-read
+returns-in-Room-clause-read g c =
     let T = c.advance-r in
     let s = c.args.s in
     let b = c.args.buf.now in
-    let want = sym c.wants-want.ensures ∙ c.enum_told-1.given.1 in record { within = record {
-        rising = taken-inside _ _ b _ _ s T.result _ c.requires.rising c.requires.held T.ensures;
-        held = c.requires.held;
-        holds = record { words = T.ensures.keeps.words; largest = omega (arith, T.auto.image, c.requires.holds.largest) };
-      }; stepped = steps _ _ b _ _ s T.result _ c.requires.rising c.requires.held T.ensures Room b _ T.auto.out want refl (refl, refl) }
+    none-came _ _ b _ _ s T.result (whole s.more (length c.args.out.now) (point_of (unread b s) c.args.image.now s.day))
+      c.requires.rising c.requires.held T.ensures _ (not c.flush-written.result)
 
-pub returns-in-Input : goal.returns-in-Input
-returns-in-Input c =
+pub returns-in-Input-clause-stepped : goal.returns-in-Input-clause-stepped
+returns-in-Input-clause-stepped g c =
     let T = c.advance-r in
     let M = c.more in
     let s = c.args.s in
     let b = c.args.buf.now in
-    let e = M.ensures.stream in
-    let day = ap (λ (x : Stream). x.day) e in
-    let want = sym c.wants-want.ensures ∙ c.enum_told-in-Input-1.given.1 in record { within = record {
-        rising = omega (arith, ap (λ (x : Stream). x.from) e);
-        held = M.ensures.held;
-        holds = record {
-          words = omega (arith, ap (λ (d : Day). d.words) day, T.ensures.keeps.words);
-          largest = omega (arith, T.auto.image, c.requires.holds.largest);
-        };
-      }; stepped = steps _ _ b _ _ s T.result _ c.requires.rising c.requires.held T.ensures Input M.new.buf M.result T.auto.out want day
-          (refilled-over b M.new.buf s T.result _ M.result M.ensures) }
+    let day = ap (λ (x : Stream). x.day) M.ensures.refilled.stream in
+    steps _ _ b _ _ s T.result _ c.requires.rising c.requires.held T.ensures Input M.new.buf M.result T.auto.out (sym c.in-Input.ensures) day
+      (refilled-over b M.new.buf s T.result _ M.result M.ensures.refilled)
 
-pub returns-in-Nothing : goal.returns-in-Nothing
-returns-in-Nothing c =
+pub returns-in-Input-clause-read : goal.returns-in-Input-clause-read
+returns-in-Input-clause-read g c =
     let T = c.advance-r in
     let s = c.args.s in
     let b = c.args.buf.now in
-    let e = c.ended.ensures in
-    let day = ap (λ (x : Stream). x.day) e in
-    let to = ap (λ (x : Stream). x.to) e in
-    let taken = taken-inside _ _ b _ _ s T.result _ c.requires.rising c.requires.held T.ensures in
-    let want = sym c.wants-want.ensures ∙ c.enum_told-in-Nothing-1.given.1 in record { within = record {
-        rising = omega (arith, ap (λ (x : Stream). x.from) e, to, taken);
-        held = omega (arith, to, c.requires.held);
-        holds = record {
-          words = omega (arith, ap (λ (d : Day). d.words) day, T.ensures.keeps.words);
-          largest = omega (arith, T.auto.image, c.requires.holds.largest);
-        };
-      }; stepped = steps _ _ b _ _ s T.result _ c.requires.rising c.requires.held T.ensures Nothing b _ T.auto.out want day (e, refl) }
+    came-behind _ _ b _ _ s T.result (whole s.more (length c.args.out.now) (point_of (unread b s) c.args.image.now s.day))
+      c.requires.rising c.requires.held T.ensures _ _ _ (not c.flush-written.result) c.more.ensures.read
+
+pub returns-in-Nothing-clause-read : goal.returns-in-Nothing-clause-read
+returns-in-Nothing-clause-read g c =
+    let T = c.advance-r in
+    let s = c.args.s in
+    let b = c.args.buf.now in
+    rw c.ended.ensures (none-came _ _ b _ _ s T.result (whole s.more (length c.args.out.now) (point_of (unread b s) c.args.image.now s.day))
+      c.requires.rising c.requires.held T.ensures _ (not c.flush-written.result))
+
+pub returns-in-Input-clause-ended : goal.returns-in-Input-clause-ended
+returns-in-Input-clause-ended g c long =
+    let T = c.advance-r in
+    let s = c.args.s in
+    let b = c.args.buf.now in
+    let short = waits-short _ _ b _ _ s T.result (point_of (unread b s) c.args.image.now s.day) c.requires.rising c.requires.held T.ensures T.auto.out
+      (sym c.in-Input.ensures) in
+    λ none more. c.more.ensures.ended (omega arith) none
