@@ -2,3 +2,4 @@ pub mod Moving
 pub mod Counted
 pub mod Stepping
 pub mod Waiting
+pub mod Underway

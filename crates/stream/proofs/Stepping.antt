@@ -35,15 +35,15 @@ module _ (m k b o u : List ℕ) (s : Stream) (h : Stretch) (a : Progress) (risin
   pub taken-inside : s.from + h.taken ≤ s.to
   taken-inside = omega (arith, core.taken, unread-long b s rising held)
 
-  private-left : (over : Bool) → unread b (passed s h over) ≡ a.point.input
-  private-left over = unread-passed b s h over taken-inside ∙ ap (λ (q : Point). q.input) core.point
+  pub left-behind : (over : Bool) → unread b (passed s h over) ≡ a.point.input
+  left-behind over = unread-passed b s h over taken-inside ∙ ap (λ (q : Point). q.input) core.point
 
   -- bytes came behind them, or none
   pub came-behind : (p q : Option (List ℕ)) (w : List ℕ) (over : Bool) → Came p q (unread b (passed s h over)) w → Came p q a.point.input w
-  came-behind p q w over e = record { bytes = e.bytes; read = e.read; behind = rw (private-left over) at e.behind }
+  came-behind p q w over e = record { bytes = e.bytes; read = e.read; behind = rw (left-behind over) at e.behind }
 
   pub none-came : (p : Option (List ℕ)) (over : Bool) → Came p p a.point.input (unread b (passed s h over))
-  none-came p over = record { bytes = []; read = Consumes-nil p; behind = private-left over ∙ sym (append-nil a.point.input) }
+  none-came p over = record { bytes = []; read = Consumes-nil p; behind = left-behind over ∙ sym (append-nil a.point.input) }
 
   private-stretch : (r : Stream) → r.day ≡ h.day → stretch_of s r a ≡ h
   private-stretch r e =

@@ -1,18 +1,24 @@
--- Where the core waits for input, it left 4,096 bytes at most: of a longer line it needs no end.
-use Rattle.std.proofs.Common.{◌≡◌, ℕ, ◌+◌, ◌-◌, ◌≤◌, Bool, true, false, cond, ◌&&◌, List, length, refl, ap, ltb, leb, arith, length-drop}
+-- What the core leaves where it wants input or nothing. Where it wants input, that is 4,096 bytes at most: of a longer line it needs no end.
+-- Where it wants nothing, nothing is printed of what it left, whatever comes behind it.
+use Rattle.std.proofs.Common.{◌≡◌, ℕ, ◌+◌, ◌-◌, ◌≤◌, Bool, true, false, cond, ◌&&◌, List, [], ◌++◌, length, refl, ap, ◌∙◌, ltb, leb, arith, append-nil, length-drop}
 use borrow.Author.Tests.{ltb-false, le-leb}
 use Rattle.lines.specs.declared.Job.{Job}
 use Rattle.lines.specs.declared.Job.TheVariants.{Turns, Rounds, Stores, Next, Stop}
 use Rattle.buffers.specs.Input.{line_of, complete, complete_at}
 use Rattle.day.specs.declared.Stretch.{Stretch}
 use Rattle.day.specs.declared.Want.TheVariants.{Room, Input, Nothing}
-use Rattle.pieces.specs.Pieces.{Point, ready_for, whole}
+use Rattle.lines.specs.Play.{Stage}
+use Rattle.pieces.specs.Pieces.{Point, point, ready_for, whole}
 use Rattle.day.specs.Core.{Advanced}
 use Rattle.day.specs.Wants.{input_for, want_of}
-use Rattle.day.proofs.Ends.{whole-stops}
+use Rattle.day.specs.Days.{rest}
+use Rattle.day.proofs.Anyhow.{stopped}
+use Rattle.day.proofs.Ends.{whole-stops, nothing_left}
 use Rattle.stream.specs.declared.Stream.{Stream}
 use Rattle.stream.specs.Shell.{unread}
 use Rattle.stream.proofs.Stepping.{unread-long}
+
+-- ---- input
 
 incomplete : (l : List ℕ) → complete true l ≡ false → length l ≤ 4096
 unfolding complete_at
@@ -62,3 +68,30 @@ waits-short m k b o u s h q rising held core same want =
       unread-long b s rising held,
       core.taken,
     )
+
+-- ---- nothing
+
+stop-for : (j : Job) → input_for j ≡ Nothing → j ≡ Stop
+stop-for (Turns w k) e = let z : ◌≡◌ {A = ℕ} 0 1 = cc in absurd (omega arith)
+stop-for (Rounds d r) e = let z : ◌≡◌ {A = ℕ} 0 1 = cc in absurd (omega arith)
+stop-for (Stores i) e = let z : ◌≡◌ {A = ℕ} 0 1 = cc in absurd (omega arith)
+stop-for Next e = let z : ◌≡◌ {A = ℕ} 0 1 = cc in absurd (omega arith)
+stop-for Stop e = refl
+
+stop : (room : ℕ) (j : Job) → want_of true room j ≡ Nothing → j ≡ Stop
+unfolding want_of
+stop room j e = by (ltb room 22) e
+  where
+    by : (t : Bool) → cond t Room (input_for j) ≡ Nothing → j ≡ Stop
+    by true e = let z : ◌≡◌ {A = ℕ} 0 1 = cc in absurd (omega arith)
+    by false e = stop-for j e
+
+pub nothing-more : (more : Bool) (room : ℕ) (q : Point) (x : List ℕ)
+    → want_of more (room - length (whole more room q).out) (whole more room q).point.stage.played.job ≡ Nothing → (more ≡ false → x ≡ [])
+    → rest (point ((whole more room q).point.input ++ x) (whole more room q).point.stage) ≡ []
+nothing-more true room q x w e =
+    let a = whole true room q in stopped (a.point.input ++ x) a.point.stage (stop (room - length a.out) a.point.stage.played.job w)
+nothing-more false room q x w e =
+    let a = whole false room q in
+    ap (λ (l : List ℕ). rest (point l a.point.stage)) (ap (λ (l : List ℕ). a.point.input ++ l) (e refl) ∙ append-nil a.point.input)
+    ∙ nothing_left false room q w
