@@ -9,4 +9,5 @@ done-requires c = plan-lock _ _ _ _ _ _ c.planned-p.ensures
 pub returns : goal.returns
 returns c =
     let r = c.done.ensures in
-    record { lock = (plan-acts _ _ _ _ _ _ c.planned-p.ensures _ _ _ _ c.requires.1 r.did r.after).0; acts = (plan-acts _ _ _ _ _ _ c.planned-p.ensures _ _ _ _ c.requires.1 r.did r.after).1 }
+    let h = plan-acts _ _ _ _ _ _ c.planned-p.ensures _ _ _ _ c.requires.1 r.did r.after in
+    record { lock = h.0; acts = h.1 }
