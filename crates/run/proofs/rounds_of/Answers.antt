@@ -1,7 +1,6 @@
 -- `run::rounds_of` meets its contract: its loops keep what Laps says of a round and of the rounds, and each way on
 -- or out of them is one of its laws, or for a worker alone one of Solo's.
 use Prim.Native.Nat.{ℕ, ◌<◌, ◌≤◌}
-use borrow.Author.Rules.{rules}
 use mathlib.Core.Path.{◌≡◌, refl, sym, ap, ◌∙◌}
 use native.Mathlib.Omega.{arith}
 use lib.ListN.{length, length-set}
@@ -50,10 +49,11 @@ rounds-preserved-then-below-eq0 c =
     let here = rw L.invariant.3 at c.loop-d-test.true in
     let busy = open_turn (holding L.held L.c) L.d (rw l.full.turns (few l here)) c.if-t.false in
     let set : holding w.held J.c ≡ holding w.held (set_at (holding L.held L.c) L.d w.step w.turn) = elim J.branch [
-        then-not-rests x ↦ settled_on L.c J.c L.held w.held L.d w.step w.turn x.c-is
-      | else-not-rests x ↦ settled-idle L.c J.c L.held w.held L.d w.step w.turn x.c-is (sym c.rests.ensures ∙ x.if-not-rests.false) ] in
+      | then-not-rests x ↦ settled_on L.c J.c L.held w.held L.d w.step w.turn x.c-is
+      | else-not-rests x ↦ settled-idle L.c J.c L.held w.held L.d w.step w.turn x.c-is (sym c.rests.ensures ∙ x.if-not-rests.false)
+    ] in
     let more = laps-alone _ _ _ R.invariant.1 (R.invariant.2 lone) _ (holding L.held L.c) _ _ (L.invariant.4 lone) L.d here busy T.ensures.went.made
-        L.invariant.2 (omega (arith, c.if-w-eq0.false)) T.ensures.most c.open_with-to.ensures _ set in
+    L.invariant.2 (omega (arith, c.if-w-eq0.false)) T.ensures.most c.open_with-to.ensures _ set in
     (T.auto.image ∙ L.invariant.0 ∙ R.invariant.0, more.0, λ e. more.1)
 
 pub loop-d-preserved : goal.loop-d-preserved
@@ -69,8 +69,7 @@ loop-d-preserved c =
     let acts = u.ensures.acts yes (holding L.held L.c) (record { inside = inside; step = refl; turn = refl }) in
     let h = c.held_after-held in
     let full : Full (holding h.result (set_at L.c L.d a.step a.turn)) =
-        record { steps = length-set L.c.step L.d a.step ∙ l.full.steps; turns = length-set L.c.turn L.d a.turn ∙ l.full.turns } in
-    (
+    record { steps = length-set L.c.step L.d a.step ∙ l.full.steps; turns = length-set L.c.turn L.d a.turn ∙ l.full.turns } in (
       u.auto.image ∙ L.invariant.0,
       lap-turn _ _ _ _ _ _ _ _ l _ _ _ _ here full (sym u.ensures.made ∙ yes) acts.did (rw (← h.ensures) at acts.after)
           (c.counted-tally.ensures _) c.open_with-next.ensures,
@@ -91,14 +90,14 @@ rounds-preserved c =
     let R = c.rounds in
     let over : R.to ≤ L.d = omega (arith, L.invariant.3, c.loop-d-test.false) in
     let more : R.round < c.args.rounds = omega (arith, c.if-round-rounds.false, R.invariant.1.below) in
-    let again = laps-again _ _ _ _ _ _ _ R.invariant.1 _ _ _ L.invariant.1 over c.if-to-eq0.false more in
-    (
+    let again = laps-again _ _ _ _ _ _ _ R.invariant.1 _ _ _ L.invariant.1 over c.if-to-eq0.false more in (
       L.invariant.0 ∙ R.invariant.0,
       rw L.invariant.2 again,
       λ e. elim c.if-ended-2.branch [
-          then-ended-2 x ↦ sym (x.open_below-below-then-ended-2.ensures (holding L.held L.c) refl) ∙ sym x.below-is ∙ e
+        | then-ended-2 x ↦ sym (x.open_below-below-then-ended-2.ensures (holding L.held L.c) refl) ∙ sym x.below-is ∙ e
         | else-ended-2 x ↦ let z = sym x.below-is ∙ e in
-            laps-still _ _ _ _ _ _ _ R.invariant.1 _ _ _ L.invariant.1 over (L.invariant.4 z) (R.invariant.2 z) ],
+            laps-still _ _ _ _ _ _ _ R.invariant.1 _ _ _ L.invariant.1 over (L.invariant.4 z) (R.invariant.2 z)
+      ],
     )
 
 pub returns-then-to-eq0 : goal.returns-then-to-eq0
@@ -118,8 +117,9 @@ returns-then-w-eq0 c =
     let still = T.ensures.went.stays c.if-w-eq0.true in
     let here = rw L.invariant.3 at c.loop-d-test.true in
     let set : holding L.held J.c ≡ holding L.held (set_at (holding L.held L.c) L.d w.step w.turn) = elim J.branch [
-        then-not-rests x ↦ settled_on L.c J.c L.held L.held L.d w.step w.turn x.c-is
-      | else-not-rests x ↦ settled-idle L.c J.c L.held L.held L.d w.step w.turn x.c-is (sym c.rests.ensures ∙ x.if-not-rests.false) ] in
+      | then-not-rests x ↦ settled_on L.c J.c L.held L.held L.d w.step w.turn x.c-is
+      | else-not-rests x ↦ settled-idle L.c J.c L.held L.held L.d w.step w.turn x.c-is (sym c.rests.ensures ∙ x.if-not-rests.false)
+    ] in
     let back = set ∙ ap (holding L.held) (settled_same (holding L.held L.c) L.d still.2 still.3) in
     let halts = lap-halts _ _ _ _ _ _ _ _ L.invariant.1 here c.if-t.false (T.ensures.went.refused c.if-w-eq0.true) in
     let more : R.round < c.args.rounds = omega (arith, c.if-round-rounds.false, R.invariant.1.below) in

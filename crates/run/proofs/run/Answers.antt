@@ -1,5 +1,4 @@
 -- `run::run` meets its contract: the header test, then the rounds over the workers that the header names.
-use borrow.Author.Rules.{rules}
 use mathlib.Core.Path.{sym, ◌∙◌}
 use Rattle.image.proofs.Header.{header-true}
 use Rattle.working.specs.World.{world}

@@ -1,5 +1,4 @@
 -- `turn::tests` meets its contract: the header's test, then the worker's number, then the worker's own.
-use borrow.Author.Rules.{rules}
 use Prim.Native.Nat.{◌≤◌, ◌<◌}
 use mathlib.Core.Path.{sym, ap, ◌∙◌}
 use Rattle.image.specs.Image.{workers}

@@ -1,5 +1,4 @@
 -- `turn::turn_in_place` meets its contract, as `turn_on` does: the plan is the outcome's, and what is done of it is what the outcome leaves.
-use borrow.Author.Rules.{rules}
 use Rattle.turn.proofs.Ready.{plan-lock, plan-acts}
 use Rattle.turn.proofs.turn_in_place.Goals as goal
 

@@ -1,6 +1,5 @@
 -- `turn::turn_on` meets its contract: a worker that is ready is open, the plan is the outcome's, and what is done of
 -- it is what the outcome leaves.
-use borrow.Author.Rules.{rules}
 use Rattle.turn.proofs.Ready.{plan-lock, plan-acts}
 use Rattle.turn.proofs.turn_on.Goals as goal
 

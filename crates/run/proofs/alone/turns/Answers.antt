@@ -4,7 +4,7 @@ use native.Mathlib.Omega.{arith}
 use borrow.Author.Tests.{not-true, not-false}
 use Rattle.stretch.proofs.Alone.{room-less}
 use Rattle.stretch.proofs.Sequence.{turns-still, turns-room}
-use Rattle.run.proofs.Going.{turns-inside, went-walk, went_then, went-refused}
+use Rattle.run.proofs.Going.{turns-inside, went_then, went-refused}
 use Rattle.run.proofs.alone.turns.Goals as goal
 
 pub instructions-x-requires : goal.instructions-x-requires

@@ -1,7 +1,6 @@
 -- `run::round::only` meets its contract: its tests are those of a turn call, in the same order, and an open worker's turn is a round's.
-use borrow.Author.Rules.{rules}
 use Prim.Native.Nat.{◌<◌, ◌≤◌}
-use mathlib.Core.Path.{◌≡◌, sym, ap, ◌∙◌}
+use mathlib.Core.Path.{sym, ◌∙◌}
 use Rattle.image.specs.Image.{workers}
 use Rattle.image.proofs.Header.{header-inside}
 use Rattle.working.specs.World.{world}

@@ -1,5 +1,4 @@
 -- `run::round::turn` meets its contract: ready it is the worker's turn, and else nothing.
-use borrow.Author.Rules.{rules}
 use mathlib.Core.Path.{refl, sym, ◌∙◌}
 use Rattle.run.proofs.Lapped.{lapped-refused, lapped-made}
 use Rattle.run.proofs.round.turn.Goals as goal
