@@ -1,8 +1,9 @@
--- What the turns of a worker alone leave: a turn as it is with whole instructions behind it (`went_then`), or nothing, where its next turn is refused
--- (`went-refused`).
-use Prim.Native.Nat.{ℕ}
-use mathlib.Core.Path.{◌≡◌, refl}
+-- What the turns of a worker alone leave: whole instructions (`went-walk`), a turn as it is with whole instructions behind it (`went_then`), or nothing, where
+-- its next turn is refused (`went-refused`).
+use Prim.Native.Nat.{ℕ, ◌+◌}
+use mathlib.Core.Path.{◌≡◌, refl, sym, ◌∙◌}
 use mathlib.Core.Bool.{false}
+use mathlib.Core.Logic.{◌≢◌}
 use native.Mathlib.Omega.{arith}
 use Rattle.image.specs.Image.{Image, workers, at}
 use Rattle.image.specs.Inner.Inside.{Inside}
@@ -24,6 +25,13 @@ module _ (n d : ℕ) where
       sized_inside n (workers a.image) b.image d i.few (turns-sized n d (workers a.image) t z) i.most i.below
 
   module _ {m v : Image} {left rest s t h : ℕ} {y : Tally} where
+    pub went-walk : (x : Walk)
+        → ((z : Tally) → Turns n d x.turns (single m left s t h z) (single v rest x.step x.turn x.held (with_turns x.turns x.passes z)))
+        → x.turns ≢ 0 → WentAlone n d s t h y m left v rest (went_on (record { turns = 0; step = s; turn = t; held = h; tally = y }) x)
+    went-walk x t o =
+        let q : 0 + x.turns ≡ x.turns = omega arith in
+        record { made = rw q (t y); refused = λ z. absurd (o (sym q ∙ z)); stays = λ z. absurd (o (sym q ∙ z)) }
+
     -- the image was w before, with as many stores left
     pub went_then : {w u : Image} {some more : ℕ} (r : Stretch) (x : Walk) → w ≡ m → some ≡ left → Stretched n d s t h y w some u more r
         → ((z : Tally) → Turns n d x.turns (single u more r.step r.turn r.held z)

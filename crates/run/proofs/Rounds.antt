@@ -1,13 +1,13 @@
 -- Rounds over the workers: what a turn's answer says of its count and of the round, and one equation for each way that a
 -- search for an open worker, a round or a run goes on from the place that it has reached.
-use Prim.Native.Nat.{ℕ, zero, suc, ◌+◌, ◌-◌, ◌<◌, ◌≤◌}
+use Prim.Native.Nat.{ℕ, zero, suc, ◌+◌, ◌-◌, ◌<◌, ◌≤◌, ◌^◌}
 use mathlib.Core.Path.{◌≡◌, refl}
 use mathlib.Core.Bool.{true, false, true≢false}
 use native.Mathlib.Omega.{arith}
 use Rattle.base.proofs.Counting.{left_step, left-none}
 use Rattle.image.specs.Image.{workers, header_ok}
 use Rattle.tally.specs.declared.Tally.{Tally}
-use Rattle.tally.specs.Tally.{none}
+use Rattle.tally.specs.Tally.{none, RoomFor}
 use Rattle.turn.specs.declared.Answer.{Answer}
 use Rattle.working.specs.declared.Refusal.{Refusal}
 use Rattle.working.specs.declared.Refusal.TheVariants.{Image as ImageRefused}
@@ -30,6 +30,9 @@ pub record Most (k : ℕ) (t : Tally) : Type 0 where
   pub free : t.free ≤ k
   pub others : t.others ≤ k
 
+pub most-none : Most 0 none
+most-none = record { turns = omega arith; waits = omega arith; stores = omega arith; free = omega arith; others = omega arith }
+
 pub most-more : (k m : ℕ) {t : Tally} → Most k t → k ≤ m → Most m t
 most-more k m b h = record { turns = omega arith; waits = omega arith; stores = omega arith; free = omega arith; others = omega arith }
 
@@ -38,6 +41,9 @@ pub most-counted : (k : ℕ) (a : Answer) {t : Tally} → Most k t → Most (k +
 most-counted k a {t} b =
     let m = counted-most a t in
     record { turns = omega (arith, m.0); waits = omega (arith, m.1); stores = omega (arith, m.2); free = omega (arith, m.3); others = omega (arith, m.4) }
+
+pub most-room : (k j : ℕ) {t : Tally} → Most k t → k + j < 2 ^ 64 → RoomFor j t
+most-room k j b h = (omega arith, omega arith, omega arith, omega arith, omega arith)
 
 module _ (n : ℕ) where
   -- a turn that is not refused goes on
