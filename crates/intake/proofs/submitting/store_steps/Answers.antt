@@ -8,3 +8,9 @@ use Rattle.intake.proofs.submitting.store_steps.Goals as goal
 
 pub store_words-requires : goal.store_words-requires
 store_words-requires c = omega (arith, c.step_index.ensures, c.requires)
+
+pub returns-clause-image : goal.returns-clause-image
+returns-clause-image c = let A = c.args in rw (row_words A.n (step A.d) (step-next A.n A.d) 0, ← c.step_index.ensures) c.store_words.ensures.image
+
+pub returns-clause-left : goal.returns-clause-left
+returns-clause-left c = rw (assigns-length (step c.args.d) 0 c.args.words.now) c.store_words.ensures.left
