@@ -67,7 +67,8 @@ module _ (mark n : ℕ) (m : Image) where
 
   -- ---- what an answer says
 
-  private-done : (b : Bool) (g : Recovered) (us ls : List ℕ) → is_done (answer_of (cond b (by_first Record (by_first Lock g ls) us) (rejected ImageRefused))) ≡ true
+  private-done : (b : Bool) (g : Recovered) (us ls : List ℕ)
+      → is_done (answer_of (cond b (by_first Record (by_first Lock g ls) us) (rejected ImageRefused))) ≡ true
       → (b ≡ true) × (us ≡ []) × (cond b (by_first Record (by_first Lock g ls) us) (rejected ImageRefused) ≡ g)
   private-done true g [] [] e = (refl, refl, refl)
   private-done true g [] (b ∷ bs) e = absurd (false≢true e)
@@ -113,8 +114,8 @@ unfolding recovery
 stores-are mark n m = by (header_ok mark n m) refl
   where
     by : (b : Bool) → header_ok mark n m ≡ b
-        → rows (slot_at (repair_by n m (cond b (by_first Record (by_first Lock (Good mark n m) (Bad mark n m)) (Unsound mark n m)) (rejected ImageRefused)))) 0 592
-        ≡ stores_of (cond b (by_first Record (by_first Lock (Good mark n m) (Bad mark n m)) (Unsound mark n m)) (rejected ImageRefused))
+        → let r = cond b (by_first Record (by_first Lock (Good mark n m) (Bad mark n m)) (Unsound mark n m)) (rejected ImageRefused) in
+        rows (slot_at (repair_by n m r)) 0 592 ≡ stores_of r
     by true h = private-stores n m (Good mark n m) (Unsound mark n m) (Bad mark n m) (repair-slots n m (header-true mark n m h).few)
     by false h = empty-slots
 

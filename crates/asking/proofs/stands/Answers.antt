@@ -8,13 +8,10 @@ returns-then-number-read_field c = rw (← c.read_field.ensures, le-leb _ _ c.if
 
 pub returns-then-read_field-eq0 : goal.returns-then-read_field-eq0
 returns-then-read_field-eq0 c =
-    let c = c in
     rw (← c.read_field.ensures, lt-leb _ _ c.if-number-read_field.false, ← c.read_field-2.ensures, eq-eqb _ _ c.if-read_field-eq0.true)
 
 pub returns-then-read_field-number : goal.returns-then-read_field-number
 returns-then-read_field-number c =
-    let c = c in
-    let c = c in
     rw (
       ← c.read_field.ensures,
       lt-leb _ _ c.if-number-read_field.false,
@@ -26,8 +23,6 @@ returns-then-read_field-number c =
 
 pub returns : goal.returns
 returns c =
-    let c = c in
-    let c = c in
     rw (
       ← c.read_field.ensures,
       lt-leb _ _ c.if-number-read_field.false,

@@ -20,4 +20,9 @@ unfolding format_answer
 returns c =
     let A = c.args in
     let e : format_answer A.own A.image.now A.workers ≡ Done = rw (sym c.formattable.ensures ∙ c.if-not-formattable.false) in
-    record { answer = sym e; cursors = c.all_idle-idle.ensures; image = rw e c.store_all.ensures.image; left = rw e c.store_all.ensures.left }
+    record {
+      answer = sym e;
+      cursors = c.all_idle-idle.ensures;
+      image = rw e c.store_all.ensures.image;
+      left = rw e c.store_all.ensures.left;
+    }

@@ -15,7 +15,8 @@ use Rattle.owed.proofs.Sharing.{none_has, once-next, twice-next, shared-is}
 use Rattle.owed.proofs.shared.Given as goal
 
 abbrev pub invariant-loop-d : goal.invariant-loop-d
-invariant-loop-d l = (l.d ≤ l.n) × ((b : ℕ) → has l.once b ≡ ltb 0 (claimants (sets_in l.sets) b l.d)) × ((b : ℕ) → has l.twice b ≡ ltb 1 (claimants (sets_in l.sets) b l.d))
+invariant-loop-d l = (l.d ≤ l.n) × ((b : ℕ) → has l.once b ≡ ltb 0 (claimants (sets_in l.sets) b l.d))
+    × ((b : ℕ) → has l.twice b ≡ ltb 1 (claimants (sets_in l.sets) b l.d))
 
 abbrev pub decreases-loop-d : goal.decreases-loop-d
 decreases-loop-d l = l.n - l.d

@@ -17,7 +17,8 @@ use Rattle.soundness.proofs.Sets.{eight_is, union-are}
 use Rattle.resuming.proofs.resumed_all.Given as goal
 
 abbrev pub invariant-loop-d : goal.invariant-loop-d
-invariant-loop-d l = (l.d ≤ 8) × (length l.step ≡ 8) × (length l.turn ≡ 8) × ((j : ℕ) → j < l.d → get_or l.step j 0 ≡ step_no (resumedAt l.own (at l.own l.image) (workers l.image) j))
+invariant-loop-d l = (l.d ≤ 8) × (length l.step ≡ 8) × (length l.turn ≡ 8)
+    × ((j : ℕ) → j < l.d → get_or l.step j 0 ≡ step_no (resumedAt l.own (at l.own l.image) (workers l.image) j))
     × ((j : ℕ) → j < l.d → get_or l.turn j 0 ≡ turn_no (resumedAt l.own (at l.own l.image) (workers l.image) j))
 
 abbrev pub decreases-loop-d : goal.decreases-loop-d

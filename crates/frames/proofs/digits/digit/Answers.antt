@@ -20,21 +20,27 @@ returns-then-b-lt97 c = record { value = simp (le-ltb _ _ c.if-b-lt48.false, lt-
 pub returns-then-b-le102 : goal.returns-then-b-le102
 unfolding hex_of
 returns-then-b-le102 c =
-    record { value = simp (
+    record {
+      value = simp (
     le-ltb _ _ c.if-b-lt48.false,
     lt-leb _ _ c.if-b-le57.false,
     le-ltb _ _ c.if-b-lt97.false,
     le-leb _ _
         c.if-b-le102.true,
-  ); bound = omega arith }
+  );
+      bound = omega arith;
+    }
 
 pub returns : goal.returns
 unfolding hex_of
 returns c =
-    record { value = simp (
+    record {
+      value = simp (
     le-ltb _ _ c.if-b-lt48.false,
     lt-leb _ _ c.if-b-le57.false,
     le-ltb _ _ c.if-b-lt97.false,
     lt-leb _ _
         c.if-b-le102.false,
-  ); bound = omega arith }
+  );
+      bound = omega arith;
+    }

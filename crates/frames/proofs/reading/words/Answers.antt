@@ -36,4 +36,5 @@ returns c =
     let p = c.args.part.now in
     let n = length p / 16 in
     let e : L.i ≡ n = omega arith in
-    let w : take n L.out ≡ words_of p = rw e at (sym (words-end p n L.out L.i c.loop-i-test.false) ∙ L.invariant.2) in record { count = refl; words = rw (← w, ← L.invariant.3) (sym (take-append-drop n L.out)) }
+    let w : take n L.out ≡ words_of p = rw e at (sym (words-end p n L.out L.i c.loop-i-test.false) ∙ L.invariant.2) in
+    record { count = refl; words = rw (← w, ← L.invariant.3) (sym (take-append-drop n L.out)) }

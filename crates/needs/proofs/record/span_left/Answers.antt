@@ -72,4 +72,7 @@ begun c pick s e =
 pub returns : goal.returns
 returns c =
     let k = (goal.at.returns c).After-resumed_turns-turns in
-    record { fewest = begun k lesser _ c.span_in-s.ensures.fewest; most = begun k larger _ c.span_in-s.ensures.most }
+    record {
+      fewest = begun k lesser _ c.span_in-s.ensures.fewest;
+      most = begun k larger _ c.span_in-s.ensures.most;
+    }

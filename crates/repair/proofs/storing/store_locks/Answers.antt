@@ -54,4 +54,8 @@ pub returns : goal.returns
 returns c =
     let L = c.loop-rest in
     let A = c.args in
-    let z = c.loop-rest-test.false in record { image = λ n. sym (image-none L.rest A.value z n L.k L.image) ∙ L.invariant.2 n; left = sym (left-none L.rest A.value z L.k) ∙ L.invariant.3 }
+    let z = c.loop-rest-test.false in
+    record {
+      image = λ n. sym (image-none L.rest A.value z n L.k L.image) ∙ L.invariant.2 n;
+      left = sym (left-none L.rest A.value z L.k) ∙ L.invariant.3;
+    }

@@ -35,4 +35,8 @@ returns c =
     let L = c.loop-d in
     let r = c.args.r in
     let e = relocks-end r L.d c.loop-d-test.false in
-    let z : L.left - 0 ≡ L.left = omega arith in record { image = λ n. sym (put_all-nil n L.left L.image) ∙ rw e at (L.invariant.2 n); left = sym z ∙ rw e at L.invariant.3 }
+    let z : L.left - 0 ≡ L.left = omega arith in
+    record {
+      image = λ n. sym (put_all-nil n L.left L.image) ∙ rw e at (L.invariant.2 n);
+      left = sym z ∙ rw e at L.invariant.3;
+    }

@@ -14,7 +14,8 @@ use Rattle.repair.proofs.storing.store_relocks.Given as goal
 
 abbrev pub invariant-loop-d : goal.invariant-loop-d
 invariant-loop-d l = (l.d ≤ 8) × (length l.image ≡ length l.initial.image)
-    × ((n : ℕ) → put_all n l.left l.image (rows (slot_at l.r) (80 + 64 * l.d) (512 - 64 * l.d)) ≡ put_all n l.initial.left l.initial.image (rows (slot_at l.r) 80 512))
+    × ((n : ℕ) → put_all n l.left l.image (rows (slot_at l.r) (80 + 64 * l.d) (512 - 64 * l.d))
+    ≡ put_all n l.initial.left l.initial.image (rows (slot_at l.r) 80 512))
     × (l.left - length (rows (slot_at l.r) (80 + 64 * l.d) (512 - 64 * l.d)) ≡ l.initial.left - length (rows (slot_at l.r) 80 512))
 
 abbrev pub decreases-loop-d : goal.decreases-loop-d

@@ -38,4 +38,8 @@ returns c =
     let L = c.loop-d in
     let A = c.args in
     let e = slots_end A.r 72 8 L.d c.loop-d-test.false in
-    let z : L.left - 0 ≡ L.left = omega arith in record { image = sym (put_all-nil A.own L.left L.image) ∙ rw e at L.invariant.2; left = sym z ∙ rw e at L.invariant.3 }
+    let z : L.left - 0 ≡ L.left = omega arith in
+    record {
+      image = sym (put_all-nil A.own L.left L.image) ∙ rw e at L.invariant.2;
+      left = sym z ∙ rw e at L.invariant.3;
+    }

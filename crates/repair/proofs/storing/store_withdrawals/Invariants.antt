@@ -13,7 +13,9 @@ use Rattle.repair.proofs.Slots.{slot-withdraw, slots_end, image-step, left-step-
 use Rattle.repair.proofs.storing.store_withdrawals.Given as goal
 
 abbrev pub invariant-loop-d : goal.invariant-loop-d
-invariant-loop-d l = (l.d ≤ 8) × (length l.image ≡ length l.initial.image) × (put_all l.own l.left l.image (rows (slot_at l.r) (72 + l.d) (8 - l.d)) ≡ put_all l.own l.initial.left l.initial.image (rows (slot_at l.r) 72 8))
+invariant-loop-d l = (l.d ≤ 8) × (length l.image ≡ length l.initial.image)
+    × (put_all l.own l.left l.image (rows (slot_at l.r) (72 + l.d) (8 - l.d))
+    ≡ put_all l.own l.initial.left l.initial.image (rows (slot_at l.r) 72 8))
     × (l.left - length (rows (slot_at l.r) (72 + l.d) (8 - l.d)) ≡ l.initial.left - length (rows (slot_at l.r) 72 8))
 
 abbrev pub decreases-loop-d : goal.decreases-loop-d

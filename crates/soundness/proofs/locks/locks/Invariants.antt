@@ -14,7 +14,8 @@ use Rattle.soundness.proofs.Sets.{lock-single, lock-shared, bad-on, bad-here, ba
 use Rattle.soundness.proofs.locks.locks.Given as goal
 
 abbrev pub invariant-loop-b : goal.invariant-loop-b
-invariant-loop-b l = (l.b ≤ l.end) × (by_lock (badLock l.own (at l.own l.image) (workers l.image) l.b (64 - l.b)) ≡ by_lock (badLock l.own (at l.own l.image) (workers l.image) 0 64))
+invariant-loop-b l = (l.b ≤ l.end)
+    × (by_lock (badLock l.own (at l.own l.image) (workers l.image) l.b (64 - l.b)) ≡ by_lock (badLock l.own (at l.own l.image) (workers l.image) 0 64))
 
 abbrev pub decreases-loop-b : goal.decreases-loop-b
 decreases-loop-b l = l.end - l.b

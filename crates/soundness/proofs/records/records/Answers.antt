@@ -13,4 +13,5 @@ pub returns : goal.returns
 returns c =
     let D = workers c.args.image.now in
     let w = c.workers.ensures in
-    let j = c.judged.ensures in record { answer = (rw (w, left-all D) at j.answer); owed = rw (w, left-all D) at (j.owed refl) }
+    let j = c.judged.ensures in
+    record { answer = (rw (w, left-all D) at j.answer); owed = rw (w, left-all D) at (j.owed refl) }
