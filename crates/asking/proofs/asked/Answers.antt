@@ -1,7 +1,6 @@
 -- `asking::asked` meets its contract: the header test, then the worker's.
 use mathlib.Core.Path.{sym, ◌∙◌}
 use borrow.Author.Tests.{lt-ltb, le-ltb}
-use borrow.Author.Rules.{rules}
 use Rattle.asking.specs.Asking.{ask_code}
 use Rattle.asking.proofs.asked.Goals as goal
 

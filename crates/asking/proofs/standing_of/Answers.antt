@@ -1,6 +1,5 @@
 -- `asking::standing_of` meets its contract: the header test, then the worker's, past which its record can be read.
 use mathlib.Core.Path.{sym, ◌∙◌}
-use borrow.Author.Rules.{rules}
 use borrow.Author.Tests.{lt-ltb, le-ltb}
 use Rattle.image.proofs.Header.{header-inside}
 use Rattle.asking.specs.Asking.{standing_of}

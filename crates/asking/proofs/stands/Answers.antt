@@ -1,5 +1,4 @@
 -- `asking::stands` meets its contract: the finished number, then the pc, then the section's number.
-use borrow.Author.Rules.{rules}
 use borrow.Author.Tests.{le-leb, lt-leb, eq-eqb, ne_eqb}
 use Rattle.asking.proofs.stands.Goals as goal
 

@@ -1,5 +1,4 @@
 -- `formatting::store_all` meets its contract: its stores are the definition's, one by one.
-use borrow.Author.Rules.{rules}
 use native.Mathlib.Omega.{arith}
 use Rattle.image.proofs.Apart.{length-ge}
 use Rattle.formatting.proofs.Formats.{formattable-true, format-stores}

@@ -1,6 +1,5 @@
 -- `intake::submit` meets its contract, by its answer. A section that is taken has met all causes (`accepted`), so its worker is
 -- one of the eight and it has at most 64 instructions, as storing it asks.
-use borrow.Author.Rules.{rules}
 use mathlib.Core.Path.{sym, ◌∙◌}
 use Rattle.image.proofs.Header.{header-inside}
 use Rattle.section.proofs.Facts.{check-parts}

@@ -1,5 +1,4 @@
 -- `recovery::judge` meets its contract: its tests are the definition's, in the same order, each past those before it.
-use borrow.Author.Rules.{rules}
 use mathlib.Core.Path.{sym, ap, ◌∙◌}
 use Rattle.image.specs.Image.{at, workers}
 use Rattle.image.proofs.Header.{header-true}

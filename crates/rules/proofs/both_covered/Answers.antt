@@ -1,7 +1,5 @@
 -- `rules::both_covered` meets its contract.
 use mathlib.Core.Path.{sym, ◌∙◌}
-use borrow.Author.Tests.{not-true, not-false}
-use borrow.Author.Rules.{rules}
 use Rattle.rules.proofs.both_covered.Goals as goal
 
 pub returns-then-not-covered : goal.returns-then-not-covered

@@ -1,5 +1,4 @@
 -- `frames::digits::digit` meets its contract: its tests are the definition's, in the same order.
-use borrow.Author.Rules.{rules}
 use borrow.Author.Tests.{lt-ltb, le-ltb, le-leb, lt-leb}
 use native.Mathlib.Omega.{arith}
 use Rattle.frames.specs.Hex.{hex_of}

@@ -1,6 +1,5 @@
 -- `frames::reading::first` meets its contract: its tests are the definition's, in the same order.
 use mathlib.Core.Path.{sym, ◌∙◌}
-use borrow.Author.Rules.{rules}
 use borrow.Author.Tests.{eq-eqb, ne_eqb}
 use Rattle.frames.specs.Line.{first_of}
 use Rattle.frames.proofs.reading.first.Goals as goal

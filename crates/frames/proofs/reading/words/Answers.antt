@@ -1,13 +1,11 @@
 -- `frames::reading::words` meets its contract. The loop's invariant: the words put so far, and those that are left, are the whole, and what is
 -- behind them is as it was.
-use borrow.Author.Rules.{rules}
 use native.Mathlib.Omega.{arith}
-use Prim.Native.Nat.{◌≤◌, ◌<◌, ◌-◌, ◌/◌}
+use Prim.Native.Nat.{◌<◌, ◌/◌}
 use mathlib.Core.Path.{◌≡◌, refl, sym, ◌∙◌}
-use mathlib.Core.List.{◌++◌}
-use lib.ListN.{length, take, drop, length-set, take-append-drop}
+use lib.ListN.{length, take, length-set, take-append-drop}
 use lib.Seq.{drop-set-lt}
-use Rattle.frames.specs.Line.{words_from, words_of}
+use Rattle.frames.specs.Line.{words_of}
 use Rattle.frames.proofs.Numbers.{words_step, words-end, words-all}
 use Rattle.frames.proofs.reading.words.Goals as goal
 

@@ -1,7 +1,6 @@
 -- `intake::submitting::before_check` meets its contract: its tests are the definition's, in the same order, each past those before it.
 use mathlib.Core.Path.{sym, ◌∙◌}
 use borrow.Author.Tests.{lt-ltb, le-ltb}
-use borrow.Author.Rules.{rules}
 use Rattle.image.proofs.Header.{header-inside}
 use Rattle.intake.specs.Split.{before_check}
 use Rattle.intake.proofs.submitting.before_check.Goals as goal

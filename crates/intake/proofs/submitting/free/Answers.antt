@@ -1,7 +1,6 @@
 -- `intake::submitting::free` meets its contract: the three tests are the definition's, in the same order.
 use mathlib.Core.Path.{sym, ◌∙◌}
 use borrow.Author.Tests.{eq-eqb, ne_eqb}
-use borrow.Author.Rules.{rules}
 use native.Mathlib.Omega.{arith}
 use Rattle.intake.specs.Submit.{free}
 use Rattle.intake.proofs.submitting.free.Goals as goal

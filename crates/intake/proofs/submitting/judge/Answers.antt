@@ -1,5 +1,4 @@
 -- `intake::submitting::judge` meets its contract: a submit's answer is divided in the tests before the check and the check.
-use borrow.Author.Rules.{rules}
 use mathlib.Core.Path.{◌≡◌, sym, ◌∙◌}
 use mathlib.Core.Bool.{true, false}
 use Rattle.working.specs.World.{world}

@@ -1,5 +1,4 @@
 -- `intake::submitting::store_section` meets its contract: its stores are the definition's, one call after the other.
-use borrow.Author.Rules.{rules}
 use Prim.Native.Nat.{◌<◌}
 use native.Mathlib.Omega.{arith}
 use Rattle.image.proofs.Stores.{inside-own, inside-steps}

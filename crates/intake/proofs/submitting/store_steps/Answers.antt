@@ -1,5 +1,4 @@
 -- `intake::submitting::store_steps` meets its contract: the words from the first instruction's index up are the row of the instructions.
-use borrow.Author.Rules.{rules}
 use native.Mathlib.Omega.{arith}
 use Rattle.image.specs.Place.{step}
 use Rattle.intake.proofs.Assigns.{row_words, assigns-length}

@@ -1,5 +1,4 @@
 -- `ahead::from` meets its contract: the check's answer, then whether there is such a step, then the pass.
-use borrow.Author.Rules.{rules}
 use mathlib.Core.Path.{sym, ◌∙◌}
 use native.Mathlib.Omega.{arith}
 use lib.ListN.{length}

@@ -1,7 +1,6 @@
 -- `ahead::span_from` meets its contract. The loop's invariant: from step i on both arrays have what the steps need, and behind the last step 0. The
 -- steps that one leads to stand behind it (`reached`), and no step needs more than six turns for each that is left, so the sums fit.
-use Prim.Native.Nat.{ℕ, suc, ◌+◌, ◌-◌, ◌<◌, ◌≤◌}
-use borrow.Author.Rules.{rules}
+use Prim.Native.Nat.{suc, ◌+◌, ◌-◌, ◌<◌, ◌≤◌}
 use mathlib.Core.Path.{◌≡◌, refl, sym, ◌∙◌}
 use native.Mathlib.Omega.{arith}
 use lib.ListN.{length, get_or, length-set}

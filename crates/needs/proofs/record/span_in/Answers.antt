@@ -1,6 +1,5 @@
 -- `record::span_in` meets its contract: the words loaded need what the record's do.
 use Prim.Native.Nat.{◌≤◌}
-use borrow.Author.Rules.{rules}
 use mathlib.Core.Path.{sym, ◌∙◌}
 use native.Mathlib.Omega.{arith}
 use Rattle.soundness.proofs.Loaded.{first-fit, first-length}

@@ -1,7 +1,6 @@
 -- `record::span_left` meets its contract: nothing where the pc is 0; else, of a sound record, the step behind the one named is one of a section that
 -- passes the check (`next`).
 use Prim.Native.Nat.{ℕ, ◌+◌, ◌%◌, ◌<◌, ◌≤◌}
-use borrow.Author.Rules.{rules}
 use mathlib.Core.Path.{◌≡◌, refl}
 use mathlib.Core.Bool.{true}
 use native.Mathlib.Omega.{arith}

@@ -1,6 +1,5 @@
 -- `repair::stock::with_withdrawn` meets its contract, by whether the section is begun.
 use mathlib.Core.Path.{sym, ◌∙◌}
-use borrow.Author.Rules.{rules}
 use Rattle.repair.proofs.stock.with_withdrawn.Goals as goal
 
 pub returns-then-not-unbegun : goal.returns-then-not-unbegun

@@ -1,6 +1,5 @@
 -- `repair::storing::lock_slot` meets its contract, by whether the lock is in the set.
 use mathlib.Core.Path.{sym, ◌∙◌}
-use borrow.Author.Rules.{rules}
 use Rattle.repair.proofs.storing.lock_slot.Goals as goal
 
 pub returns-then-not-has : goal.returns-then-not-has

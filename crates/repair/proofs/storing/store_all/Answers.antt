@@ -1,5 +1,4 @@
 -- `repair::storing::store_all` meets its contract: the four stages, one after the other, are all slots.
-use borrow.Author.Rules.{rules}
 use Rattle.repair.proofs.Slots.{stages-leave}
 use Rattle.repair.proofs.storing.store_all.Goals as goal
 

@@ -1,6 +1,5 @@
 -- `repair::storing::withdraw_slot` meets its contract, by whether the worker is in the set.
 use mathlib.Core.Path.{sym, ◌∙◌}
-use borrow.Author.Rules.{rules}
 use Rattle.repair.proofs.storing.withdraw_slot.Goals as goal
 
 pub returns-then-not-has : goal.returns-then-not-has

@@ -1,6 +1,5 @@
 -- `soundness::records::pc_ok` meets its contract: the definition's tests in their order, at the step that the pc names; past all
 -- of them the owed set is that of the instruction there.
-use borrow.Author.Rules.{rules}
 use Prim.Native.Nat.{◌%◌, ◌-◌}
 use borrow.Author.Tests.{eq-eqb, le-leb, lt-leb, le-ltb}
 use mathlib.Core.Path.{sym, ◌∙◌}

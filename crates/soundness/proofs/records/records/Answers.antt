@@ -1,5 +1,4 @@
 -- `soundness::records::records` meets its contract: all records are those from worker 0 to the last.
-use borrow.Author.Rules.{rules}
 use mathlib.Core.Path.{refl}
 use native.Mathlib.Omega.{arith}
 use Rattle.base.proofs.Counting.{left-all}

@@ -1,10 +1,9 @@
 -- `soundness::records::section_ok` meets its contract: the definition's tests in their order; a count past 64 does not
 -- pass. The held sets are those of the check.
 use mathlib.Core.Path.{sym, ◌∙◌}
-use borrow.Author.Tests.{eq-eqb, ne_eqb, lt-leb, le-leb, not-false}
+use borrow.Author.Tests.{eq-eqb, ne_eqb, lt-leb, le-leb}
 use mathlib.Core.Bool.{false≢true}
 use native.Mathlib.Omega.{arith}
-use borrow.Author.Rules.{rules}
 use Rattle.image.specs.Image.{at}
 use Rattle.log.specs.Log.{code_in}
 use Rattle.soundness.specs.Sound.{sectionOk}

@@ -1,6 +1,5 @@
 -- `soundness::records::section_passes` meets its contract: the words loaded pass the check as the record's do, and have their held sets.
 use Prim.Native.Nat.{◌≤◌}
-use borrow.Author.Rules.{rules}
 use mathlib.Core.Path.{ap, ◌∙◌, sym}
 use native.Mathlib.Omega.{arith}
 use Rattle.section.specs.Check.{passes}

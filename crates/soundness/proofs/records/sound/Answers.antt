@@ -1,5 +1,4 @@
 -- `soundness::records::sound` meets its contract: the three tests are the definition's, in the same order.
-use borrow.Author.Rules.{rules}
 use mathlib.Core.Path.{sym, ◌∙◌}
 use mathlib.Core.Bool.{false≢true}
 use native.Mathlib.Omega.{arith}
