@@ -21,12 +21,12 @@ unfolding hex_of
 returns-then-b-le102 c =
     record {
       value = simp (
-    le-ltb _ _ c.if-b-lt48.false,
-    lt-leb _ _ c.if-b-le57.false,
-    le-ltb _ _ c.if-b-lt97.false,
-    le-leb _ _
-        c.if-b-le102.true,
-  );
+        le-ltb _ _ c.if-b-lt48.false,
+        lt-leb _ _ c.if-b-le57.false,
+        le-ltb _ _ c.if-b-lt97.false,
+        le-leb _ _
+            c.if-b-le102.true,
+      );
       bound = omega arith;
     }
 
@@ -35,11 +35,11 @@ unfolding hex_of
 returns c =
     record {
       value = simp (
-    le-ltb _ _ c.if-b-lt48.false,
-    lt-leb _ _ c.if-b-le57.false,
-    le-ltb _ _ c.if-b-lt97.false,
-    lt-leb _ _
-        c.if-b-le102.false,
-  );
+        le-ltb _ _ c.if-b-lt48.false,
+        lt-leb _ _ c.if-b-le57.false,
+        le-ltb _ _ c.if-b-lt97.false,
+        lt-leb _ _
+            c.if-b-le102.false,
+      );
       bound = omega arith;
     }

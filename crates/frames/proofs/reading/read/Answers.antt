@@ -27,7 +27,7 @@ returns-in-1 c =
       ← c.number-kind.ensures,
       c.in-1.is,
     )
-        c.submit.ensures
+    c.submit.ensures
 
 pub returns-in-2 : goal.returns-in-2
 unfolding frame_of by_kind
@@ -39,7 +39,7 @@ returns-in-2 c =
       ← c.number-kind.ensures,
       c.in-2.is,
     )
-        c.turns.ensures
+    c.turns.ensures
 
 pub returns-in-3 : goal.returns-in-3
 unfolding frame_of by_kind
@@ -51,7 +51,7 @@ returns-in-3 c =
       ← c.number-kind.ensures,
       c.in-3.is,
     )
-        c.recover.ensures
+    c.recover.ensures
 
 pub returns-in-4 : goal.returns-in-4
 unfolding frame_of by_kind
@@ -63,7 +63,7 @@ returns-in-4 c =
       ← c.number-kind.ensures,
       c.in-4.is,
     )
-        c.rounds.ensures
+    c.rounds.ensures
 
 pub returns-in_default : goal.returns-in_default
 unfolding frame_of by_kind

@@ -35,7 +35,7 @@ returns-clause-image c =
       ← c.store_words.ensures.image,
       ← c.store_words.ensures.left,
     )
-        c.clear.ensures.image
+    c.clear.ensures.image
 
 pub returns-clause-left : goal.returns-clause-left
 returns-clause-left c =
