@@ -1,6 +1,7 @@
 // The worker's log: two entries of an address and a value, of which the pc's top bit names the active one; and the logged
 // store of four turns. The words that an instruction names stand in words.rt.
 #![tactic(auto)]
+
 pub mod words;
 
 ghost use Rattle.std.specs.Prelude.{◌≡◌, ℕ, ◌+◌, ◌<◌};

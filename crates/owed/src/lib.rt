@@ -1,6 +1,7 @@
 // What a recovery asks of one record and of one lock: whether the log entry is the named instruction's, what the worker is owed, whether
 // two are owed the same lock, and whether an owner word is right.
 #![tactic(auto)]
+
 ghost use Rattle.std.specs.Prelude.{◌≡◌, ◌||◌, ◌<◌, ◌≤◌, length, eqb};
 ghost use Rattle.mask.specs.Mask.{union};
 ghost use Rattle.image.specs.Place.{lock};

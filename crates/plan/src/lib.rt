@@ -1,6 +1,7 @@
 // The plan of a turn: cause 11, and for a turn to which it does not apply at most one store with the step and turn after it. Nothing is
 // stored here. Each instruction's turns stand in steps.rt.
 #![tactic(auto)]
+
 pub mod steps;
 
 ghost use Rattle.std.specs.Prelude.{◌≡◌, true};

@@ -15,13 +15,15 @@ overflow_add-result c =
     let A = c.args in
     let small = index-small A.own (operand A.d A.x) c.requires.2 (operand-valid A.own A.d A.x 8 c.requires.0 c.requires.1) in
     let at : c.if-x-lt512.from + A.x ≡ index_of A.own (operand A.d A.x) = elim c.if-x-lt512.branch [
-    then-x-lt512 w ↦ rw (w.from-is, w.cell_index-from.ensures A.own) (operand-cell A.own A.d A.x w.if-x-lt512.true)
-    | else-x-lt512 w ↦ rw (w.from-is, w.own_index.ensures) (operand-own A.own A.d A.x w.if-x-lt512.false) ] in
+      | then-x-lt512 w ↦ rw (w.from-is, w.cell_index-from.ensures A.own) (operand-cell A.own A.d A.x w.if-x-lt512.true)
+      | else-x-lt512 w ↦ rw (w.from-is, w.own_index.ensures) (operand-own A.own A.d A.x w.if-x-lt512.false)
+    ] in
     omega (arith, small, at)
 
 pub returns : goal.returns
 returns c =
     let A = c.args in
     elim c.if-x-lt512.branch [
-    then-x-lt512 w ↦ rw (w.from-is, w.cell_index-from.ensures A.own) (operand-cell A.own A.d A.x w.if-x-lt512.true)
-    | else-x-lt512 w ↦ rw (w.from-is, w.own_index.ensures) (operand-own A.own A.d A.x w.if-x-lt512.false) ]
+      | then-x-lt512 w ↦ rw (w.from-is, w.cell_index-from.ensures A.own) (operand-cell A.own A.d A.x w.if-x-lt512.true)
+      | else-x-lt512 w ↦ rw (w.from-is, w.own_index.ensures) (operand-own A.own A.d A.x w.if-x-lt512.false)
+    ]
