@@ -12,7 +12,7 @@ ghost use Rattle.plan.specs.Turn.{ready, turnAt};
 ghost use Rattle.plan.specs.Inner.Plan.{plan_of};
 
 use image::Field;
-use log::Plan;
+use worklog::Plan;
 
 // What a release reports of its lock's owner word: it named this worker and is freed, it was 0, or it is another's.
 #[derive(Clone, Copy)]

@@ -26,7 +26,7 @@ use Rattle.section.proofs.Facts.{check-parts}
 use Rattle.section.proofs.Held.{held-step}
 use Rattle.section.proofs.Passing.{passed_is}
 use Rattle.code.proofs.Ranges.{formed-range}
-use Rattle.log.specs.Log.{code_in}
+use Rattle.worklog.specs.Log.{code_in}
 use Rattle.owed.specs.Owed.{namedStep, namedOp, heldNext, owed_of, owed, entryOk, covers}
 use Rattle.soundness.specs.Sound.{sectionOk, pcOk, sound, unsound}
 use Rattle.soundness.specs.Inner.Reading.{Legible, Restorable}

@@ -2,7 +2,7 @@
 #![tactic(auto)]
 
 use code::Op;
-use log::{Passing, Plan};
+use worklog::{Passing, Plan};
 use plan::steps;
 use tally::Tally;
 use working::{Cursors, Refusal};

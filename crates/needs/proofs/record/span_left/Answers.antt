@@ -6,7 +6,7 @@ use mathlib.Core.Bool.{true}
 use native.Mathlib.Omega.{arith}
 use Rattle.image.specs.Image.{at}
 use Rattle.section.specs.Check.{check, passes}
-use Rattle.log.specs.Log.{code_in}
+use Rattle.worklog.specs.Log.{code_in}
 use Rattle.needs.specs.From.{lesser, larger, needs_by}
 use Rattle.needs.specs.Left.{leftBy}
 use Rattle.needs.proofs.Unrolled.{fewest-most, most-most}

@@ -3,7 +3,7 @@ use Prim.Native.Nat.{suc, ◌+◌}
 use mathlib.Core.Path.{◌≡◌, refl, ap, ◌∙◌}
 use native.Mathlib.Omega.{arith}
 use Rattle.image.specs.Image.{at}
-use Rattle.log.specs.Log.{code_in}
+use Rattle.worklog.specs.Log.{code_in}
 use Rattle.soundness.specs.Inner.Reading.{loaded}
 use Rattle.soundness.proofs.records.load_steps.Goals as goal
 

@@ -5,7 +5,7 @@ use borrow.Author.Tests.{eq-eqb, ne_eqb, lt-leb, le-leb}
 use mathlib.Core.Bool.{false≢true}
 use native.Mathlib.Omega.{arith}
 use Rattle.image.specs.Image.{at}
-use Rattle.log.specs.Log.{code_in}
+use Rattle.worklog.specs.Log.{code_in}
 use Rattle.soundness.specs.Sound.{sectionOk}
 use Rattle.soundness.proofs.Legible.{check-long}
 use Rattle.soundness.proofs.records.section_ok.Goals as goal

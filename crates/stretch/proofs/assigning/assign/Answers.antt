@@ -4,7 +4,7 @@ use Prim.Native.Nat.{◌+◌}
 use native.Mathlib.Omega.{arith}
 use borrow.Author.Tests.{not-false, lt-ltb}
 use Rattle.image.proofs.Stores.{inside-lt}
-use Rattle.log.proofs.Operands.{operand-valid}
+use Rattle.worklog.proofs.Operands.{operand-valid}
 use Rattle.stretch.proofs.Running.{fetched-fits}
 use Rattle.stretch.proofs.ByKind.{assign-turns}
 use Rattle.stretch.proofs.Fetching.{here-fetched, row-ranged}

@@ -5,8 +5,8 @@ use borrow.Author.Tests.{lt-ltb}
 use Rattle.image.specs.Place.{field}
 use Rattle.image.specs.Image.{at, index_of}
 use Rattle.image.proofs.Apart.{index-small}
-use Rattle.log.specs.Log.{spareVal}
-use Rattle.log.proofs.Switching.{spare-behind}
+use Rattle.worklog.specs.Log.{spareVal}
+use Rattle.worklog.proofs.Switching.{spare-behind}
 use Rattle.stretch.proofs.Running.{field_lt}
 use Prim.Native.Nat.{◌<◌}
 use Rattle.stretch.proofs.logged.stores.Goals as goal
