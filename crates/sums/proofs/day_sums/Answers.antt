@@ -31,3 +31,9 @@ loop-image-smaller c =
 
 pub loop-image-preserved : goal.loop-image-preserved
 loop-image-preserved c = (c.next-s.auto.image ∙ c.loop-image.invariant.0, c.next-s.ensures.stands)
+
+pub returns : goal.returns
+returns c =
+    let L = c.loop-image in
+    let o = stands-over _ _ L.s _ L.invariant.1 (sym c.more.ensures ∙ c.loop-image-test.false) in
+    record { sums = o.0; ends = o.1; lines = o.2 }

@@ -41,5 +41,8 @@ returns c =
     let t : take E.result (take (length n - A.s.from) rest) ≡ line_of rest = rw (l, d) (line-front rest) in
     let m : length (take (length n - A.s.from) rest) ≡ length rest = ap length l in
     let further = behind-further n A.s.from E.result _ c.requires.1 d m in
-    let B = c.behind.ensures in record { further = rw B further.0; stands = stands-next n A.image.now L.new.image A.s _ _ _ c.requires.2 c.requires.0 c.requires.1 (rw t at L.ensures) c.ended.ensures refl
-          (rw B (behind-rest n A.s.from E.result _ c.requires.1 d m)) (rw B further.0) (rw B further.1) L.auto.image }
+    let B = c.behind.ensures in record {
+      further = rw B further.0;
+      stands = stands-next n A.image.now L.new.image A.s _ _ _ c.requires.2 c.requires.0 c.requires.1 (rw t at L.ensures) c.ended.ensures refl
+          (rw B (behind-rest n A.s.from E.result _ c.requires.1 d m)) (rw B further.0) (rw B further.1) L.auto.image;
+    }
