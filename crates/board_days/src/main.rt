@@ -1,11 +1,11 @@
 // Plays the days that the file `days` names, one to a line, and prints each one's name and what it prints.
 #![tactic(auto)]
+
 ghost use Rattle.std.specs.Prelude.{◌<◌, ◌≤◌, length};
 
 use std::fs::File;
-use std::io;
 use std::io::{Error, ErrorKind, Read, Write};
-use std::str;
+use std::{io, str};
 use stream::Reason;
 
 // Opens a file.

@@ -1,7 +1,7 @@
 -- A day under way between a reader and a writer: what is written is the front of what the bytes read print, and what is not taken prints the
 -- rest, whatever comes behind it (`left`). A step keeps this (`goes-on`), as the core's calls do (`day/proofs/Anyhow.antt`); at the day's end it
 -- is all (`prints`).
-use Rattle.std.proofs.Common.{◌≡◌, ℕ, ◌-◌, ◌≤◌, ◌<◌, Bool, true, false, cond, not, ◌||◌, List, [], ◌++◌, length, take, drop, refl, sym, ap, subst, ◌∙◌, arith, append_assoc, append-nil, Some, None, IfSome, ltb}
+use Rattle.std.proofs.Common.{◌≡◌, ℕ, ◌-◌, Bool, true, false, cond, not, ◌||◌, List, [], ◌++◌, length, drop, refl, sym, ap, subst, ◌∙◌, append_assoc, append-nil, Some, None, IfSome, ltb}
 use Rattle.core.specs.declared.option.Option.{Option}
 use Rattle.std.proofs.lemmas.Bool.{not-true}
 use Rattle.std.proofs.lemmas.List.{append_cancel_left}
@@ -13,17 +13,16 @@ use Rattle.pieces.specs.Pieces.{Point, point, Progress, whole, pieces_left}
 use Rattle.pieces.specs.Pieced.{point_of}
 use Rattle.day.specs.declared.Want.{Want}
 use Rattle.day.specs.declared.Want.TheVariants.{Room, Input, Nothing}
-use Rattle.day.specs.Wants.{input_for, want_of}
+use Rattle.day.specs.Wants.{want_of}
 use Rattle.day.specs.Days.{rest}
 use Rattle.day.specs.Printout.{printout}
 use Rattle.day.proofs.Anyhow.{cut}
 use Rattle.day.proofs.Printout.{day-printout}
 use Rattle.lines.specs.declared.Job.{Job}
-use Rattle.stages.specs.declared.Day.{Day}
 use Rattle.stages.specs.Begun.{fresh}
 use Rattle.stream.specs.declared.Stream.{Stream}
 use Rattle.stream.specs.InBuffers.{InBuffers}
-use Rattle.stream.specs.Shell.{unread, closed, passed, stretch_of, Refilled, Served, Stepped}
+use Rattle.stream.specs.Shell.{unread, passed, stretch_of, Served, Stepped}
 use Rattle.stream.specs.Carried.{Came, Written}
 use Rattle.stream.proofs.Stepping.{left-behind}
 use Rattle.stream.proofs.Waiting.{nothing-more}
@@ -70,7 +69,7 @@ module _ (m k b c o u : List ℕ) (s r : Stream) (in-buffers : InBuffers m b s) 
   still e =
       let a = core_of m b o s in
       let n = λ (f : want_of s.more (length o - length a.out) r.day.played.job ≡ Input). no-input (length o - length a.out) r.day.played.job
-          (subst (λ (x : Bool). want_of x (length o - length a.out) r.day.played.job ≡ Input) e f) in
+      (subst (λ (x : Bool). want_of x (length o - length a.out) r.day.played.job ≡ Input) e f) in
       let h = private-still (want_of s.more (length o - length a.out) r.day.played.job) step.served n in
       (h.0 ∙ e, h.1)
 
@@ -107,9 +106,9 @@ module _ (p q z w v y : Option (List ℕ)) (m k b c o u : List ℕ) (s r : Strea
       let e : a.out ≡ put.bytes ++ drop (length put.bytes) a.out = starts_with_rest a.out put.bytes put.first in
       let t = drop (length put.bytes) a.out ++ l in
       let all : printout (day.bytes ++ came.bytes) ≡ (day.out ++ put.bytes) ++ t =
-        ap printout (sym (append-nil (day.bytes ++ came.bytes))) ∙ sym (private-on [] (λ f. refl))
-        ∙ ap (λ (x : List ℕ). day.out ++ (x ++ l)) e ∙ ap (λ (x : List ℕ). day.out ++ x) (append_assoc put.bytes (drop (length put.bytes) a.out) l)
-        ∙ sym (append_assoc day.out put.bytes t) in
+      ap printout (sym (append-nil (day.bytes ++ came.bytes))) ∙ sym (private-on [] (λ f. refl))
+      ∙ ap (λ (x : List ℕ). day.out ++ (x ++ l)) e ∙ ap (λ (x : List ℕ). day.out ++ x) (append_assoc put.bytes (drop (length put.bytes) a.out) l)
+      ∙ sym (append_assoc day.out put.bytes t) in
       rw all (take-append_seam (day.out ++ put.bytes) t)
 
   -- all that the core put out is written, where the day goes on or nothing failed
@@ -133,7 +132,7 @@ module _ (p q z w v y : Option (List ℕ)) (m k b c o u : List ℕ) (s r : Strea
       let none = nothing-more s.more (length o) g t want (private-behind x h) in
       let input : unread c r ++ x ≡ a.point.input ++ t = ap (λ (l : List ℕ). l ++ x) came.behind ∙ append_assoc a.point.input came.bytes x in
       let nil : rest (point_of (unread c r ++ x) k r.day) ≡ [] =
-        ap (λ (l : List ℕ). rest (point_of l k r.day)) input ∙ ap (λ (n : Point). rest (point (a.point.input ++ t) n.stage)) step.core.point ∙ none in
+      ap (λ (l : List ℕ). rest (point_of l k r.day)) input ∙ ap (λ (n : Point). rest (point (a.point.input ++ t) n.stage)) step.core.point ∙ none in
       ap (λ (l : List ℕ). day.out ++ l) (whole ∙ sym (append-nil a.out) ∙ ap (λ (l : List ℕ). a.out ++ l) (sym nil)) ∙ private-on x h
 
   private-ended : (failed ≡ true → fails ≡ true) → (fails ≡ false → s.more ≡ true → r.more ≡ false → IsAtEnd z)
@@ -143,6 +142,7 @@ module _ (p q z w v y : Option (List ℕ)) (m k b c o u : List ℕ) (s r : Strea
       before : (t : Bool) → (t ≡ true → fails ≡ true) → failed ≡ t → failed ≡ false
       before true h x = let n : false ≡ true = sym f ∙ h refl in cc
       before false h x = x
+
       by : (t : Bool) → s.more ≡ t → IfSome p (λ xs. xs ≡ day.bytes ++ came.bytes)
       by true h = Consumes-whole p z (day.bytes ++ came.bytes) (λ xs. xs ≡ day.bytes ++ came.bytes) (Consumes-trans _ _ _ _ _ day.read came.read) (end f h e) refl
       by false h = let same : day.bytes ≡ day.bytes ++ came.bytes = sym (append-nil day.bytes) ∙ ap (λ (l : List ℕ). day.bytes ++ l) (sym (private-none h)) in
@@ -205,6 +205,7 @@ module _ (p q w v : Option (List ℕ)) (m b : List ℕ) (s : Stream) (failed : B
     where
       none : failed ≡ false
       none = not-true failed e
+
       by : (t : Bool) → s.more ≡ t → IfSome p (λ xs. Appends w v (printout xs))
       by true f = more-given p q w v day.bytes day.out day.read day.written (λ x. day.done over none x (λ h. let n : true ≡ false = sym f ∙ h in cc))
       by false f = all-given p w v day.bytes day.out (day.ended none f) day.written (private-read none)

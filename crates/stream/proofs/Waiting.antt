@@ -7,7 +7,6 @@ use Rattle.lines.specs.declared.Job.TheVariants.{Turns, Rounds, Stores, Next, St
 use Rattle.buffers.specs.Input.{line_of, complete, complete_at}
 use Rattle.day.specs.declared.Stretch.{Stretch}
 use Rattle.day.specs.declared.Want.TheVariants.{Room, Input, Nothing}
-use Rattle.lines.specs.Play.{Stage}
 use Rattle.pieces.specs.Pieces.{Point, point, ready_for, whole}
 use Rattle.day.specs.Core.{Advanced}
 use Rattle.day.specs.Wants.{input_for, want_of}

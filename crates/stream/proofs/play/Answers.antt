@@ -1,9 +1,8 @@
 -- `stream::play` meets its contract. The loop's invariant: the buffers have their lengths, the stream stays within them, and the day is under way.
-use Rattle.std.proofs.Common.{◌≡◌, ◌≤◌, length, refl, ap, arith, rules, lit<}
+use Rattle.std.proofs.Common.{◌≤◌, refl, ap, arith, rules}
 use Rattle.std.proofs.lemmas.Bool.{not-true}
 use Rattle.edition.specs.Edition.{largest}
 use Rattle.stages.specs.declared.Day.{Day}
-use Rattle.stream.specs.InBuffers.{InBuffers}
 use Rattle.stream.proofs.Underway.{starts, goes-on, prints-read, prints}
 use Rattle.stream.proofs.play.Goals as goal
 

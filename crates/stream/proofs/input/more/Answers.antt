@@ -11,7 +11,7 @@ returns-clause-read g c =
     let n = s.to - s.from in
     let R = c.read_on-got in
     let first : take n R.new.buf ≡ unread b s = R.ensures.first ∙ (ap (take n) c.move_down.ensures
-      ∙ take_at _ _ n (length-take-le n (drop s.from b) (omega (arith, length-drop s.from b)))) in
+    ∙ take_at _ _ n (length-take-le n (drop s.from b) (omega (arith, length-drop s.from b)))) in
     let all : n + R.result - 0 ≡ n + R.result = omega arith in
     record {
       bytes = take R.result (drop n R.new.buf);

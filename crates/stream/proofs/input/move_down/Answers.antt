@@ -1,6 +1,6 @@
 -- `stream::input::move_down` meets its contract. The loop's invariant: so many bytes are moved, and those from there up are as they
 -- were.
-use Rattle.std.proofs.Common.{◌≡◌, ◌-◌, ◌≤◌, length, take, drop, sym, refl, ◌∙◌, arith, length-set, take-append-drop, rules}
+use Rattle.std.proofs.Common.{◌≡◌, sym, refl, ◌∙◌, arith, length-set, take-append-drop}
 use Rattle.stream.proofs.Moving.{moved-one, moved-rest}
 use Rattle.stream.proofs.input.move_down.Goals as goal
 

@@ -1,7 +1,6 @@
 -- `stream::input::move_down` meets its contract. The loop's invariant: so many bytes are moved, and those from there up are as they
 -- were.
-use Rattle.std.proofs.Common.{◌≡◌, ◌-◌, ◌≤◌, length, take, drop, sym, refl, ◌∙◌, arith, length-set, take-append-drop, rules}
-use Rattle.stream.proofs.Moving.{moved-one, moved-rest}
+use Rattle.std.proofs.Common.{◌≡◌, ◌-◌, ◌≤◌, length, take, drop}
 use Rattle.stream.proofs.input.move_down.Given as goal
 
 abbrev pub invariant-loop-i : goal.invariant-loop-i

@@ -1,5 +1,5 @@
 -- `stream::telling::ends_in` meets its contract: before byte i the count is that of the first i bytes.
-use Rattle.std.proofs.Common.{◌≡◌, ◌+◌, ◌-◌, ◌≤◌, take, refl, arith, rules}
+use Rattle.std.proofs.Common.{◌≡◌, ◌+◌, refl, arith, rules}
 use Rattle.stream.specs.Lines.{ends_in}
 use Rattle.stream.proofs.Counted.{ends_next, ends-most}
 use Rattle.stream.proofs.telling.ends_in.Goals as goal

@@ -1,7 +1,6 @@
 -- `stream::telling::ends_in` meets its contract: before byte i the count is that of the first i bytes.
-use Rattle.std.proofs.Common.{◌≡◌, ◌+◌, ◌-◌, ◌≤◌, take, refl, arith, rules}
+use Rattle.std.proofs.Common.{◌≡◌, ◌-◌, ◌≤◌, take}
 use Rattle.stream.specs.Lines.{ends_in}
-use Rattle.stream.proofs.Counted.{ends_next, ends-most}
 use Rattle.stream.proofs.telling.ends_in.Given as goal
 
 abbrev pub invariant-loop-i : goal.invariant-loop-i
