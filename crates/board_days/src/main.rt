@@ -30,7 +30,9 @@ fn play(rt: &HostRuntime, name: &[u8]) {
     let _ = output.write_all(b"\n");
     match open(rt, name) {
         Ok(mut day) => {
-            stream::play(&mut day, &mut output, &mut io::sink(), &mut rt.stderr());
+            if !stream::play(&mut day, &mut output, &mut io::sink(), &mut rt.stderr()) {
+                let _ = output.write_all(b"not all was read and written\n");
+            }
         }
         Err(e) => fail(rt, name, &e),
     }

@@ -1,6 +1,6 @@
 // A day of frame lines from a reader, and what it prints to a writer. All that is done here is reading into a buffer, handing it to the
 // core (`day::advance`), writing what that put out, and moving what it left down; what is played and printed is the core's. Where a line stops the
-// day, a message says which.
+// day, a message says which, and where a read or a write fails, one says why.
 #![tactic(auto)]
 
 use day::Want;
@@ -113,8 +113,9 @@ fn ended<M: Write>(messages: &mut M, buf: &[u8], s: Stream) -> Stream
     r
 }
 
-// Plays the day that comes from a reader, prints to a writer, and answers whether all was read and written. What stopped the day early is said on a
-// third stream, and what failed on a fourth.
+// Plays the day that comes from a reader, prints to a writer, and answers whether all was read and written. What stopped the day early is said on
+// a third stream, and what failed on a fourth. Where it is known which bytes the reader has and the writer is given: those printed are the first of
+// what the bytes read print, all of them if nothing failed, and then all that the reader's bytes print.
 pub fn play<R: Read, W: Write, M: Write, E: Write>(
     input: &mut R,
     output: &mut W,
