@@ -1,5 +1,6 @@
 // The buffers of a day's input and output: lines found in the one, printed lines put into the other.
 #![tactic(auto)]
+
 mod input;
 mod printing;
 

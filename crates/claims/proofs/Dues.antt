@@ -148,7 +148,8 @@ module _ (n : ℕ) (rd : Memory) (d : ℕ) (g : Given) (s locks : ℕ) (sec : Se
     intent-without : without (rd (field Intent d)) a ≡ held_at n rd d (suc s)
     intent-without = by z
       where
-        by : (rd (field Intent d) ≡ held_at n rd d s) ⊎ (rd (field Intent d) ≡ held_at n rd d (suc s)) → without (rd (field Intent d)) a ≡ held_at n rd d (suc s)
+        by : (rd (field Intent d) ≡ held_at n rd d s) ⊎ (rd (field Intent d) ≡ held_at n rd d (suc s))
+            → without (rd (field Intent d)) a ≡ held_at n rd d (suc s)
         by (inl e) = rw e (sym shrunk)
         by (inr e) = rw e (without-stranger (held_at n rd d (suc s)) a shrunk-lacks)
 

@@ -84,7 +84,8 @@ module _ (n : ℕ) (rd : Memory) (d : ℕ) where
   Due s locks (Acquire a) = ((rd (field Owned d) ≡ held_at s) ⊎ (rd (field Owned d) ≡ held_at (suc s))) × (rd (field Intent d) ≡ held_at (suc s)) ×
       (locks ≡ held_at (suc s))
   Due s locks (Release a) =
-      (((rd (field Owned d) ≡ held_at s) × (rd (field Intent d) ≡ held_at s)) ⊎ ((rd (field Owned d) ≡ held_at (suc s)) × (rd (field Intent d) ≡ held_at (suc s))))
+      (((rd (field Owned d) ≡ held_at s) × (rd (field Intent d) ≡ held_at s))
+      ⊎ ((rd (field Owned d) ≡ held_at (suc s)) × (rd (field Intent d) ≡ held_at (suc s))))
       × (locks ≡ rd (field Intent d))
   Due s locks (Assign a e) = (rd (field Owned d) ≡ held_at s) × (rd (field Intent d) ≡ held_at s) × (locks ≡ held_at s)
   Due s locks (Jump a b) = ⊥

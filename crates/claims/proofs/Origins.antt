@@ -82,7 +82,8 @@ pub data Origin (n : ℕ) (rd : Memory) (d : ℕ) (g : Given) : ℕ → ℕ → 
   began : Lodged n rd d g → rd (field Pc d) ≡ 0 → Origin n rd d g 0 0
   -- its step s is over
   after :
-      (s k j : ℕ) → Named n rd d s → rd (target_of d (opAt n rd d s)) ≡ rd (field (activeVal n rd d) d) → Jumps n rd d (suc s) j k → held_at n rd d k ≡ held_at n
+      (s k j : ℕ) → Named n rd d s → rd (target_of d (opAt n rd d s)) ≡ rd (field (activeVal n rd d) d) → Jumps n rd d (suc s) j k
+      → held_at n rd d k ≡ held_at n
       rd d (suc s)
       → Origin n rd d g k j
 

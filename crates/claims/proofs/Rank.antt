@@ -210,7 +210,8 @@ module _ (n : ℕ) (rd : Memory) (d s t : ℕ) (I : AtTurn n rd d s t) where
           unlock-either n rd d a s Sinks (stored_falls _ _ _ (unranked-lock a d) l) (λ why. later-falls n rd d s t (on s 5) I l)
       by false e false f = stored_falls _ _ _ (unranked-intent d d) next-step
 
-  jump-falls : (a b : ℕ) → in_place (rd (field Count d)) s (Jump a b) ≡ true → Sinks (passed PassedJump (cond (eqb (word_in n rd d a) 0) (on b 0) (on (s + 1) 0)))
+  jump-falls : (a b : ℕ) → in_place (rd (field Count d)) s (Jump a b) ≡ true
+      → Sinks (passed PassedJump (cond (eqb (word_in n rd d a) 0) (on b 0) (on (s + 1) 0)))
   jump-falls a b i = by (eqb (word_in n rd d a) 0)
     where
       by : (z : Bool) → Sinks (passed PassedJump (cond z (on b 0) (on (s + 1) 0)))

@@ -62,7 +62,8 @@ module _ (n : ℕ) where
 
   -- two memories whose entries do the same at q, and which have the same there, look the same there
   pub virtual-cong :
-      (rd rd' : Memory) (k : ℕ) (q : Place) → rd' q ≡ rd q → ((d : ℕ) → d < k → (x : ℕ) → over (entry_of rd' d) q x ≡ over (entry_of rd d) q x) → virtual rd' k q
+      (rd rd' : Memory) (k : ℕ) (q : Place) → rd' q ≡ rd q → ((d : ℕ) → d < k → (x : ℕ) → over (entry_of rd' d) q x ≡ over (entry_of rd d) q x)
+      → virtual rd' k q
       ≡ virtual rd k q
   unfolding virtual
   virtual-cong rd rd' zero q e h = e

@@ -1,6 +1,7 @@
 // A day of frame lines, without input and output of its own: the complete lines of an input buffer are played on an image buffer, and
 // what they print is put into an output buffer. Whoever calls it reads, writes and calls again.
 #![tactic(auto)]
+
 ghost use Rattle.std.specs.Prelude.{◌≡◌, length};
 ghost use Rattle.stages.specs.Buffer.{Holds};
 ghost use Rattle.pieces.specs.Pieces.{whole};

@@ -71,7 +71,8 @@ module _ (more : Image → Cursors → Output) (m : Image) (c : Cursors) where
   -- is what it is from the first open one on
   private-found : (k d : ℕ) → next_open k d c < d + k
       → round_line more k d m c
-      ≡ turn_then (round_line more (d + k - (next_open k d c + 1)) (next_open k d c + 1)) m c (next_open k d c) (outcome_at own_words (uncut m c) (next_open k d c))
+      ≡ turn_then (round_line more (d + k - (next_open k d c + 1)) (next_open k d c + 1)) m c (next_open k d c)
+      (outcome_at own_words (uncut m c) (next_open k d c))
   unfolding round_line next_open
   private-found zero d h = absurd (omega arith)
   private-found (suc k) d h = by (is_idle (cursor_at c d)) refl (λ g. private-found k (d + 1) g)

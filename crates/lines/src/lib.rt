@@ -1,6 +1,7 @@
 // One line played on an image and cursors, with what is to be printed. A line is begun, and then gone on with, a turn or a printed
 // store at a time, so that nothing here needs a large buffer.
 #![tactic(auto)]
+
 use frames::{Frame, Printed};
 use repair::Repair;
 use turn::Answer;

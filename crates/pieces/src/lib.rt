@@ -1,5 +1,6 @@
 // Pieces of a day: the next line begun, or the line gone on with. A piece prints one line at most.
 #![tactic(auto)]
+
 ghost use Rattle.std.specs.Prelude.{◌≡◌, ◌≤◌, length, drop};
 ghost use Rattle.lines.specs.declared.Job.TheVariants.{Next};
 ghost use Rattle.stages.specs.Buffer.{Holds};

@@ -1,6 +1,7 @@
 // Where a day stands: a stage of `lines` whose image is the first words of a buffer. A line is begun there, the first one or another, and
 // gone on with.
 #![tactic(auto)]
+
 ghost use Rattle.std.specs.Prelude.{◌≡◌, ◌≤◌, length, take};
 ghost use Rattle.edition.specs.Edition.{largest};
 ghost use Rattle.frames.specs.Line.{first_of};

@@ -1,6 +1,7 @@
 // The sums of a recorded day: the turns that waited, by lock and by worker, and those that did not, by worker. A whole day in memory is played line by
 // line by what `board` plays it by, and nothing is printed.
 #![tactic(auto)]
+
 mod counting;
 mod playing;
 

@@ -94,7 +94,8 @@ laid-works :
 laid-works n rd rd' d k g gs least fit laid intent owned numbers room =
     let parts = check-parts n (length g.code) (code_of g.code) fit.passed in
     let l = parts.0 in
-    let same : check n (length g.code) (code_in n rd' d) ≡ Pass = check-cong n (length g.code) (code_in n rd' d) (code_of g.code) laid.code-words ∙ fit.passed in
+    let same : check n (length g.code) (code_in n rd' d) ≡ Pass =
+    check-cong n (length g.code) (code_in n rd' d) (code_of g.code) laid.code-words ∙ fit.passed in
     let z = held-zero (code_in n rd' d) in
     let full = own-size n g.args least fit.eight in
     record {

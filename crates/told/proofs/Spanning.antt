@@ -254,7 +254,8 @@ module _ (mark n D : ℕ) (cells : List ℕ) where
           let c = crashed-parts n D rd k.crashed in
           ok-entry n rd e (ok_named n rd e (c.pc e l) (ne_eqb (rd (field Pc e)) 0 (λ z. omega arith)))
 
-      pub entry-turns : (s : ℕ) → rd (field Pc e) % 2 ^ 63 ≡ suc s → turns_of (rd (step e s)) ≡ resumed_turns (op_of (rd (step e s))) + target_turn (namedOp n rd e)
+      pub entry-turns : (s : ℕ) → rd (field Pc e) % 2 ^ 63 ≡ suc s
+          → turns_of (rd (step e s)) ≡ resumed_turns (op_of (rd (step e s))) + target_turn (namedOp n rd e)
       unfolding namedOp
       entry-turns s q =
           let f = named_step n rd e s q in

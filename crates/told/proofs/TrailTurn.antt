@@ -76,7 +76,8 @@ made-turn n rd d s t o e m = by (ready n rd d s t) refl e
     count : ℕ
     count = rd (field Count d)
 
-    by : (b : Bool) → ready n rd d s t ≡ b → cond b (opTurn n rd d s t (op_of (code_in n rd d s))) (refused (CursorRefused d)) ≡ o → t < turns_of (code_in n rd d s)
+    by : (b : Bool) → ready n rd d s t ≡ b → cond b (opTurn n rd d s t (op_of (code_in n rd d s))) (refused (CursorRefused d)) ≡ o
+        → t < turns_of (code_in n rd d s)
     by true h q =
         ltb-true t (turns_of (code_in n rd d s))
         (and_right (leb 3 count && leb count 64 && ltb s count && well_formed n count s (code_in n rd d s)) (ltb t (turns_of (code_in n rd d s))) h)

@@ -124,7 +124,8 @@ module _ (mark n D : ℕ) (cells : List ℕ) where
       by (no i) =
           rw (heed-aside e c (moved d s ∷ []) (rw (ne_eqb d e i)), tread-aside e c t (moved d s ∷ []) (rw (ne_eqb d e i))) (a, o)
 
-  waited-cut : (d b e : ℕ) (P : Paths) (t : Trail) (c : Passage) → CutTrod P t c → CutTrod P (tread_all e c t (waited d b ∷ [])) (heed_all e c (waited d b ∷ []))
+  waited-cut : (d b e : ℕ) (P : Paths) (t : Trail) (c : Passage) → CutTrod P t c
+      → CutTrod P (tread_all e c t (waited d b ∷ [])) (heed_all e c (waited d b ∷ []))
   waited-cut d b e P t c k = by (ℕ_discrete d e)
     where
       by : Dec (d ≡ e) → CutTrod P (tread_all e c t (waited d b ∷ [])) (heed_all e c (waited d b ∷ []))

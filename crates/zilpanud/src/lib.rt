@@ -3,6 +3,7 @@
 // cause, which is below 32, or another answer of a turn or a run, which is not (proofs/Apart.antt). The working record crosses
 // as two arrays, a step and a turn for each worker, and the mask of the locks held.
 #![tactic(auto)]
+
 mod answers;
 mod cursors;
 

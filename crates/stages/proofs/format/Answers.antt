@@ -23,7 +23,7 @@ returns-in-Done c =
     let h : W.result ≤ length A.image.now = omega (arith, words-most A.workers, W.ensures, c.requires) in
     record {
       stage = rw (front-words A.image.now F.new.image W.result h F.auto.image, c.fresh.ensures)
-        (format-done _ A.workers _ (sym F.ensures.answer ∙ c.in-Done.is) F.ensures.image);
+          (format-done _ A.workers _ (sym F.ensures.answer ∙ c.in-Done.is) F.ensures.image);
       buffer = front-buffered A.image.now F.new.image W.result h F.auto.image 0 (omega arith);
     }
 

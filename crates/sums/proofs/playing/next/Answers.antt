@@ -13,7 +13,6 @@ line-after-requires c = c.requires.2.holds
 
 pub behind-requires : goal.behind-requires
 behind-requires c =
-    let c = c in
     let A = c.args in
     let n = A.bytes.now in
     let w : length n < 2 ^ 64 = search rules in
@@ -22,15 +21,11 @@ behind-requires c =
 
 pub overflow_add-result : goal.overflow_add-result
 overflow_add-result c =
-    let c = c in
-    let c = c in
     let w : length c.args.bytes.now < 2 ^ 64 = search rules in
     omega (arith, w, c.requires.2.few, c.requires.1)
 
 pub returns : goal.returns
 returns c =
-    let c = c in
-    let c = c in
     let A = c.args in
     let n = A.bytes.now in
     let l = part-rest n A.s.from c.requires.2.inside in
@@ -41,5 +36,8 @@ returns c =
     let t : take E.result (take (length n - A.s.from) rest) ≡ line_of rest = rw (l, d) (line-front rest) in
     let m : length (take (length n - A.s.from) rest) ≡ length rest = ap length l in
     let further = behind-further n A.s.from E.result _ c.requires.1 d m in
-    let B = c.behind.ensures in record { further = rw B further.0; stands = stands-next n A.image.now L.new.image A.s _ _ _ c.requires.2 c.requires.0 c.requires.1 (rw t at L.ensures) c.ended.ensures refl
-          (rw B (behind-rest n A.s.from E.result _ c.requires.1 d m)) (rw B further.0) (rw B further.1) L.auto.image }
+    let B = c.behind.ensures in record {
+      further = rw B further.0;
+      stands = stands-next n A.image.now L.new.image A.s _ _ _ c.requires.2 c.requires.0 c.requires.1 (rw t at L.ensures) c.ended.ensures refl
+          (rw B (behind-rest n A.s.from E.result _ c.requires.1 d m)) (rw B further.0) (rw B further.1) L.auto.image;
+    }
