@@ -19,7 +19,7 @@ use Rattle.section.proofs.Facts.{passed-valid}
 use Rattle.section.proofs.Held.{after-assign}
 use Rattle.section.proofs.Passing.{passed_is}
 use Rattle.working.specs.Cursor.{idle, on}
-use Rattle.log.specs.Log.{code_in, activeAddr, activeVal}
+use Rattle.worklog.specs.Log.{code_in, activeAddr, activeVal}
 use Rattle.owed.specs.Owed.{target_of, owed_of, owed, namedStep, namedOp, entryOk}
 use Rattle.soundness.specs.Sound.{sectionOk, pcOk}
 use Rattle.resuming.specs.Resumed.{target_turn, resumed}

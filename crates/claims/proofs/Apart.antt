@@ -24,7 +24,7 @@ use Rattle.code.specs.declared.Op.TheVariants.{Acquire, Release, Assign, Jump, F
 use Rattle.rules.specs.Rules.{covered}
 use Rattle.section.proofs.Held.{after-release, after-assign}
 use Rattle.working.specs.Cursor.{Cursor}
-use Rattle.log.specs.Log.{operand, code_in, word_in, activeVal}
+use Rattle.worklog.specs.Log.{operand, code_in, word_in, activeVal}
 use Rattle.owed.specs.Owed.{target_of, namedOp}
 use Rattle.claims.specs.Reference.{Given, Job, State, read_in}
 use Rattle.claims.proofs.Virtual.{misses, entry_of, virtual, virtual-none, virtual-due}

@@ -23,7 +23,7 @@ use Rattle.code.specs.declared.Op.{Op}
 use Rattle.code.specs.declared.Op.TheVariants.{Acquire, Release, Assign, Finish}
 use Rattle.code.specs.Op.{op_of, eval}
 use Rattle.working.specs.Cursor.{Cursor}
-use Rattle.log.specs.Log.{operand, spareVal, switched}
+use Rattle.worklog.specs.Log.{operand, spareVal, switched}
 use Rattle.owed.specs.Owed.{target_of}
 use Rattle.claims.specs.Reference.{Given, Job, job, State, state, read_in, held_in, taken, onto, assigned, advance}
 use Rattle.claims.proofs.Virtual.{virtual}

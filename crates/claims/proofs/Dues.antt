@@ -23,7 +23,7 @@ use Rattle.code.specs.declared.Op.TheVariants.{Acquire, Release, Assign, Jump, F
 use Rattle.section.proofs.Held.{after-release, after-assign}
 use Rattle.code.proofs.Ranges.{release-range, assign-range, op_turns}
 use Rattle.working.specs.Cursor.{on}
-use Rattle.log.specs.Log.{operand, code_in, activeVal}
+use Rattle.worklog.specs.Log.{operand, code_in, activeVal}
 use Rattle.plan.specs.declared.Report.{Report}
 use Rattle.plan.specs.declared.Report.TheVariants.{Freed, AlreadyFree, Others}
 use Rattle.plan.specs.Report.{report_of}

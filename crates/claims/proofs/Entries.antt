@@ -15,7 +15,7 @@ use Rattle.image.specs.Place.{Place, cell, lock, field, own, step, Memory}
 use Rattle.image.proofs.Places.{same_place}
 use Rattle.code.specs.declared.Op.{Op}
 use Rattle.code.specs.declared.Op.TheVariants.{Acquire, Release, Assign, Jump, Finish, Unknown}
-use Rattle.log.specs.Log.{operand, second, spareAddr, spareVal, activeVal}
+use Rattle.worklog.specs.Log.{operand, second, spareAddr, spareVal, activeVal}
 use Rattle.owed.specs.Owed.{target_of, namedStep, namedOp}
 use Rattle.claims.specs.Calls.{is_pc}
 use Rattle.claims.proofs.Virtual.{none, due, entry_of}

@@ -12,8 +12,8 @@ use Rattle.image.specs.declared.Field.TheVariants.{Count, Pc, Addr0, Val0, Addr1
 use Rattle.image.specs.Place.{cell, lock, field, own, step, Memory}
 use Rattle.image.specs.Inner.Same.{same_field, upd}
 use Rattle.image.proofs.Places.{upd_same}
-use Rattle.log.specs.Log.{operand, second, spareAddr, spareVal, activeAddr, activeVal, switched}
-use Rattle.log.proofs.Switching.{switched-addr, switched-val}
+use Rattle.worklog.specs.Log.{operand, second, spareAddr, spareVal, activeAddr, activeVal, switched}
+use Rattle.worklog.proofs.Switching.{switched-addr, switched-val}
 
 -- what every store but those of the pc, the count and the active entry keeps
 pub record KeepsNamed (n : ℕ) (rd rd' : Memory) (d : ℕ) : Type 0 where

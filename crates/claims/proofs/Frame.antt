@@ -25,7 +25,7 @@ use Rattle.code.specs.Inner.Fits.{ranged}
 use Rattle.section.proofs.Held.{held-zero, after-jump, after-assign}
 use Rattle.code.proofs.Ranges.{expr-range}
 use Rattle.working.specs.Cursor.{Cursor, on}
-use Rattle.log.specs.Log.{operand, code_in, word_in, spareAddr, spareVal, activeAddr, activeVal}
+use Rattle.worklog.specs.Log.{operand, code_in, word_in, spareAddr, spareVal, activeAddr, activeVal}
 use Rattle.owed.specs.Owed.{target_of}
 use Rattle.resuming.specs.Resumed.{target_turn}
 use Rattle.claims.specs.Reference.{Given}

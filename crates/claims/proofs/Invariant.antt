@@ -19,7 +19,7 @@ use Rattle.code.specs.Op.{op_of, eval}
 use Rattle.section.specs.Check.{held_before}
 use Rattle.section.specs.Valid.{Valid}
 use Rattle.working.specs.Cursor.{Cursor, idle, on}
-use Rattle.log.specs.Log.{operand, code_in, word_in, spareAddr, spareVal, activeAddr, activeVal}
+use Rattle.worklog.specs.Log.{operand, code_in, word_in, spareAddr, spareVal, activeAddr, activeVal}
 use Rattle.owed.specs.Owed.{target_of, namedStep}
 use Rattle.soundness.specs.Sound.{sound, lock_ok}
 use Rattle.resuming.specs.Resumed.{target_turn}

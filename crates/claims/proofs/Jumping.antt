@@ -16,7 +16,7 @@ use Rattle.code.specs.Op.{op_of}
 use Rattle.rules.specs.Rules.{covered}
 use Rattle.section.specs.Valid.{Valid}
 use Rattle.code.proofs.Ranges.{jump-range}
-use Rattle.log.specs.Log.{code_in, word_in}
+use Rattle.worklog.specs.Log.{code_in, word_in}
 use Rattle.claims.specs.Reference.{Job, job, State, state, read_in, onto, advance, follow}
 use Rattle.claims.proofs.Invariant.{opAt, held_at, Jumps, stay, leap}
 use Rattle.claims.proofs.Machine.{follow-none, follow-last, advance-jump}

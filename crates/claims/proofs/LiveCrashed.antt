@@ -18,7 +18,7 @@ use Rattle.code.specs.declared.Op.TheVariants.{Acquire, Release, Assign, Jump, F
 use Rattle.section.proofs.Facts.{valid-passed}
 use Rattle.section.proofs.Held.{after-release}
 use Rattle.working.specs.Cursor.{Cursor}
-use Rattle.log.specs.Log.{code_in, activeAddr}
+use Rattle.worklog.specs.Log.{code_in, activeAddr}
 use Rattle.owed.specs.Owed.{target_of, owed_of, owed, namedStep, namedOp, entryOk}
 use Rattle.soundness.specs.Sound.{sectionOk, pcOk}
 use Rattle.claims.specs.Reference.{Given}

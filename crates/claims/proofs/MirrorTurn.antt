@@ -18,7 +18,7 @@ use Rattle.code.specs.declared.Op.{Op}
 use Rattle.code.specs.declared.Op.TheVariants.{Acquire, Release, Assign, Jump, Finish, Unknown}
 use Rattle.code.specs.Op.{eval}
 use Rattle.working.specs.Cursor.{Cursor, idle, on}
-use Rattle.log.specs.Log.{operand, word_in, spareAddr, spareVal, activeVal, switched}
+use Rattle.worklog.specs.Log.{operand, word_in, spareAddr, spareVal, activeVal, switched}
 use Rattle.plan.specs.Turn.{Outcome, stored, passed, waiting, resting, refused, logged}
 use Rattle.plan.specs.Turn.{lockTurn, unlockTurn, acquireTurn, releaseTurn, finishTurn, turnAt}
 use Rattle.plan.proofs.Outcomes.{unlock-either}

@@ -25,7 +25,7 @@ use Rattle.section.proofs.Facts.{acquire-above}
 use Rattle.section.proofs.Held.{after-acquire, after-release, after-jump}
 use Rattle.code.proofs.Ranges.{acquire-range}
 use Rattle.working.specs.Cursor.{on}
-use Rattle.log.specs.Log.{operand, code_in, word_in, spareAddr, spareVal, switched}
+use Rattle.worklog.specs.Log.{operand, code_in, word_in, spareAddr, spareVal, switched}
 use Rattle.plan.specs.Turn.{opTurn, turnAt, stored, waiting}
 use Rattle.owed.specs.Owed.{target_of}
 use Rattle.resuming.specs.Resumed.{target_turn}

@@ -16,7 +16,7 @@ use Rattle.section.specs.Valid.{Valid}
 use Rattle.section.proofs.Held.{held-zero}
 use Rattle.code.proofs.Ranges.{known, op_turns}
 use Rattle.working.specs.Cursor.{on}
-use Rattle.log.specs.Log.{operand, code_in, word_in, activeAddr, activeVal}
+use Rattle.worklog.specs.Log.{operand, code_in, word_in, activeAddr, activeVal}
 use Rattle.owed.specs.Owed.{target_of}
 use Rattle.claims.specs.Reference.{Given}
 use Rattle.claims.proofs.Invariant.{opAt, held_at, Sectioned, logsHeld, Named, Nearing, Jumps, stay, leap, Lodged, Phase, fresh, between}

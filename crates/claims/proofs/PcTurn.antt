@@ -22,7 +22,7 @@ use Rattle.rules.specs.Rules.{covered}
 use Rattle.section.proofs.Facts.{acquire-free}
 use Rattle.code.proofs.Ranges.{acquire-range, assign-range, expr-range}
 use Rattle.working.specs.Cursor.{Cursor}
-use Rattle.log.specs.Log.{code_in, word_in, spareVal, activeVal, switched}
+use Rattle.worklog.specs.Log.{code_in, word_in, spareVal, activeVal, switched}
 use Rattle.owed.specs.Owed.{target_of}
 use Rattle.claims.specs.Reference.{Given, Job, job, State, state, read_in, onto, follow, start, enqueue}
 use Rattle.claims.proofs.Invariant.{opAt, held_at, Sectioned, Jumps, Lodged, Live, JobOf, Mirrors}

@@ -15,7 +15,7 @@ use Rattle.code.specs.declared.Op.TheVariants.{Acquire, Release, Assign, Jump, F
 use Rattle.code.specs.Op.{op_of}
 use Rattle.working.specs.Cursor.{Cursor, idle, on}
 use Rattle.working.specs.declared.Refusal.TheVariants.{Cursor as CursorRefused}
-use Rattle.log.specs.Log.{operand, code_in}
+use Rattle.worklog.specs.Log.{operand, code_in}
 use Rattle.plan.specs.Turn.{Outcome, stored, passed, waiting, resting, refused, logged, lockTurn, unlockTurn, acquireTurn, releaseTurn}
 use Rattle.plan.specs.Turn.{finishTurn, opTurn, ready, turnAt}
 use Rattle.plan.proofs.Outcomes.{unlock-either}

@@ -19,7 +19,7 @@ use Rattle.code.specs.declared.Op.{Op}
 use Rattle.code.specs.declared.Op.TheVariants.{Acquire, Release, Assign, Jump, Finish, Unknown}
 use Rattle.code.specs.Op.{op_of}
 use Rattle.working.specs.Cursor.{Cursor, idle, on, is_idle}
-use Rattle.log.specs.Log.{code_in}
+use Rattle.worklog.specs.Log.{code_in}
 use Rattle.plan.specs.Turn.{Outcome, stored, passed, waiting, resting, refused, logged, acquireTurn, finishTurn, opTurn, ready, turnAt}
 use Rattle.plan.proofs.Outcomes.{either, unlock-either}
 use Rattle.claims.specs.Reference.{Given}

@@ -22,10 +22,10 @@ use Rattle.code.proofs.Ranges.{turns-most}
 use Rattle.section.proofs.Steps.{place-jump}
 use Rattle.working.specs.declared.Refusal.TheVariants.{Cursor as CursorRefused}
 use Rattle.working.specs.Cursor.{Cursor, idle, on}
-use Rattle.log.specs.Log.{operand, code_in, word_in, second, spareAddr, spareVal}
+use Rattle.worklog.specs.Log.{operand, code_in, word_in, second, spareAddr, spareVal}
 use Rattle.plan.specs.Turn.{Outcome, stored, passed, waiting, resting, refused, logged}
 use Rattle.plan.specs.Turn.{acquireTurn, unlockTurn, releaseTurn, finishTurn, opTurn, ready, turnAt}
-use Rattle.log.specs.declared.Passing.TheVariants.{Jump as PassedJump}
+use Rattle.worklog.specs.declared.Passing.TheVariants.{Jump as PassedJump}
 use Rattle.plan.proofs.Outcomes.{unlock-either}
 
 -- ---- the turns of steps

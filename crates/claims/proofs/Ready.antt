@@ -19,7 +19,7 @@ use Rattle.section.specs.Valid.{Valid}
 use Rattle.section.proofs.Facts.{valid-passed, check-parts}
 use Rattle.code.proofs.Ranges.{op_turns, turns-op}
 use Rattle.working.specs.Cursor.{on}
-use Rattle.log.specs.Log.{code_in}
+use Rattle.worklog.specs.Log.{code_in}
 use Rattle.plan.specs.Turn.{opTurn, ready, turnAt}
 
 -- ---- the tests before a turn

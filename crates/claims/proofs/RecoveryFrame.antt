@@ -10,7 +10,7 @@ use Rattle.code.specs.declared.Op.TheVariants.{Acquire, Release, Assign, Jump, F
 use Rattle.section.specs.Check.{held_before}
 use Rattle.section.proofs.Facts.{check-cong}
 use Rattle.section.proofs.Held.{held-cong}
-use Rattle.log.specs.Log.{code_in, activeAddr, activeVal}
+use Rattle.worklog.specs.Log.{code_in, activeAddr, activeVal}
 use Rattle.owed.specs.Owed.{owed, namedStep, namedOp, entryOk}
 use Rattle.soundness.specs.Sound.{sectionOk, pcOk}
 use Rattle.resuming.specs.Resumed.{resumed}

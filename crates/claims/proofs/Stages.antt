@@ -17,7 +17,7 @@ use Rattle.mask.specs.Mask.{has}
 use Rattle.image.specs.declared.Field.TheVariants.{Count, Pc, Addr0, Val0, Addr1, Val1, Intent, Owned, Number, Finished}
 use Rattle.image.specs.Place.{Place, cell, lock, field, own, step, Memory}
 use Rattle.image.specs.Inner.Same.{same_field, upd, upd_all}
-use Rattle.log.specs.Log.{second, activeAddr, activeVal}
+use Rattle.worklog.specs.Log.{second, activeAddr, activeVal}
 use Rattle.repair.specs.Plan.{◌≔◌, rows, unbegun, intended, intend, withdraw, relock, relocks, unlock, plan}
 use Rattle.owed.specs.Owed.{owed}
 use Rattle.soundness.specs.Sound.{sectionOk, pcOk}

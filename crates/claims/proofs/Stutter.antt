@@ -13,7 +13,7 @@ use Rattle.image.specs.declared.Field.TheVariants.{Count, Pc, Intent, Owned, Fin
 use Rattle.image.specs.Inner.Same.{same_field, same, upd}
 use Rattle.image.specs.Place.{Place, cell, lock, field, own, step, Memory}
 use Rattle.image.proofs.Places.{same_refl, same_place, upd_other}
-use Rattle.log.specs.Log.{spareAddr, spareVal, activeVal}
+use Rattle.worklog.specs.Log.{spareAddr, spareVal, activeVal}
 use Rattle.owed.specs.Owed.{target_of}
 use Rattle.claims.specs.Reference.{Job, State}
 use Rattle.claims.proofs.Virtual.{Entry, none, due, over, misses, entry_of, virtual, virtual-due, virtual-cong}

@@ -17,7 +17,7 @@ use Rattle.image.specs.Inner.Same.{same_field, same, upd, upd_all}
 use Rattle.section.specs.declared.Verdict.TheVariants.{Pass}
 use Rattle.section.specs.Check.{code_of, check}
 use Rattle.section.proofs.Facts.{check-parts, check-cong}
-use Rattle.log.specs.Log.{code_in, second, activeAddr, activeVal}
+use Rattle.worklog.specs.Log.{code_in, second, activeAddr, activeVal}
 use Rattle.intake.specs.Submit.{assigns, submission}
 use Rattle.repair.specs.Plan.{◌≔◌}
 use Rattle.owed.specs.Owed.{owed}

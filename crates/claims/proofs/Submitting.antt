@@ -15,7 +15,7 @@ use Rattle.section.specs.Check.{code_of, check}
 use Rattle.section.specs.Valid.{Valid}
 use Rattle.section.proofs.Facts.{check-cong, passed-valid}
 use Rattle.working.specs.Cursor.{Cursor, idle, on}
-use Rattle.log.specs.Log.{code_in}
+use Rattle.worklog.specs.Log.{code_in}
 use Rattle.claims.specs.Reference.{Given, given}
 use Rattle.claims.specs.Events.{but}
 use Rattle.claims.proofs.Invariant.{Sectioned, Nearing, Phase, resting, fresh, due, unlocking, unlocked, between, ended, Live}

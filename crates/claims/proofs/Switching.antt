@@ -19,7 +19,7 @@ use Rattle.image.specs.Inner.Same.{same_field, same, upd}
 use Rattle.image.specs.Place.{Place, cell, field, own, Memory}
 use Rattle.image.proofs.Places.{same_refl, same_place, upd_same, upd_other}
 use Rattle.working.specs.Cursor.{Cursor}
-use Rattle.log.specs.Log.{second, spareVal, activeVal, switched}
+use Rattle.worklog.specs.Log.{second, spareVal, activeVal, switched}
 use Rattle.owed.specs.Owed.{target_of, namedStep}
 use Rattle.claims.specs.Reference.{Given, Job, State, state}
 use Rattle.claims.proofs.Virtual.{Entry, due, over, misses, entry_of, virtual, virtual-none, virtual-due, virtual-cong}

@@ -11,7 +11,7 @@ use native.Mathlib.Decide.{ℕ_discrete}
 use Rattle.image.specs.declared.Field.TheVariants.{Pc}
 use Rattle.image.specs.Place.{Place, field, Memory}
 use Rattle.image.specs.Inner.Same.{same}
-use Rattle.log.specs.Log.{activeVal}
+use Rattle.worklog.specs.Log.{activeVal}
 use Rattle.owed.specs.Owed.{target_of, namedOp}
 
 -- what a worker's log has: nothing under way, or a value for a place

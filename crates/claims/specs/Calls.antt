@@ -7,8 +7,8 @@ use Rattle.image.specs.Image.{Image, at, workers, header_ok}
 use Rattle.intake.specs.declared.Submitted.{Submitted}
 use Rattle.intake.specs.declared.Submitted.TheVariants.{Taken, Refused}
 use Rattle.working.specs.Cursor.{step_no, cursor_at, all_idle}
-use Rattle.log.specs.declared.Passing.{Passing}
-use Rattle.log.specs.declared.Passing.TheVariants.{Jump, AlreadyFree, Others}
+use Rattle.worklog.specs.declared.Passing.{Passing}
+use Rattle.worklog.specs.declared.Passing.TheVariants.{Jump, AlreadyFree, Others}
 use Rattle.plan.specs.Turn.{Outcome, stored, passed, waiting, resting, refused}
 use Rattle.working.specs.World.{World, world}
 use Rattle.turn.specs.Call.{answer_of, leaves, outcome_at, outcome, is_refused}

@@ -1,5 +1,6 @@
 // Instruction words: the fixed table of the kinds, the fields of an instruction word, the instruction that it says, and cause 5.
 #![tactic(auto)]
+
 ghost use Rattle.std.specs.Prelude.{◌≡◌, ℕ, ◌+◌, ◌<◌, ◌≤◌, true, cond, get_or, eqb};
 ghost use Rattle.code.specs.Table.{entry, turns_of, kind_of, field_a, field_b, field_c};
 ghost use Rattle.code.specs.Op.{by_kind, op_of};

@@ -2,6 +2,7 @@
 // entry points take any image, any working record and any number of stores left, and refuse with document 01's numbers; what they do is in the
 // crates below, which take mark and own words as they are given.
 #![tactic(auto)]
+
 ghost use Rattle.std.specs.Prelude.{◌≡◌, ℕ, length, get_or};
 ghost use Rattle.section.specs.Check.{code_of, check};
 ghost use Rattle.section.specs.Sets.{sets_answer, sets_leave};

@@ -1,5 +1,6 @@
 // Formatting an image for a number of workers.
 #![tactic(auto)]
+
 use working::{Cursors, Refusal};
 
 pub mod codes;

@@ -1,5 +1,6 @@
 // Frame lines: what a line of any bytes says, and how a line is printed.
 #![tactic(auto)]
+
 mod digits;
 mod reading;
 mod saying;

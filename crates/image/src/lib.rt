@@ -1,6 +1,7 @@
 // The image: how many words it has, single-word loads and stores, the header test, and the index of each place. Nothing
 // above this crate touches an image in another way.
 #![tactic(auto)]
+
 ghost use Rattle.std.specs.Prelude.{◌≡◌, ℕ, ◌+◌, ◌-◌, ◌<◌, ◌≤◌, length, get_or};
 ghost use Rattle.image.specs.Place.{cell, lock, field, own, step, offset};
 ghost use Rattle.image.specs.Image.{front, put, header_ok, record_at, index_of, workers, at};

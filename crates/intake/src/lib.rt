@@ -1,5 +1,6 @@
 // Submitting a section to a worker: causes 10, 1, 2, 3, then the check that `section` has by itself, then the stores.
 #![tactic(auto)]
+
 use working::{Cursors, Refusal};
 
 pub mod codes;

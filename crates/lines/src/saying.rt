@@ -4,7 +4,7 @@ ghost use Rattle.lines.specs.Answers.{submit_prints, pass_prints, turn_prints, r
 
 use frames::Printed;
 use intake::Submitted;
-use log::Passing;
+use worklog::Passing;
 use repair::Slot;
 use turn::Answer;
 

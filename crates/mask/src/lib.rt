@@ -1,5 +1,6 @@
 // Sets of locks as u64 masks: bit b stands for lock b.
 #![tactic(auto)]
+
 ghost use Rattle.std.specs.Prelude.{◌≡◌, ◌<◌};
 ghost use Rattle.std.specs.Int.Count.{ones};
 ghost use Rattle.mask.specs.Mask.{has, with, without, above};

@@ -19,7 +19,7 @@ use Rattle.code.specs.Form.{in_place}
 use Rattle.section.specs.declared.Verdict.TheVariants.{Pass}
 use Rattle.section.specs.Check.{Code, code_of, check, passes}
 use Rattle.section.proofs.Passing.{passed_is}
-use Rattle.log.specs.Log.{code_in}
+use Rattle.worklog.specs.Log.{code_in}
 use Rattle.owed.specs.Owed.{namedStep, namedOp, owed, entryOk, covers}
 use Rattle.soundness.specs.Sound.{sectionOk, pcOk, sound}
 use Rattle.soundness.specs.Inner.Reading.{loaded}

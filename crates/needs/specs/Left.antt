@@ -7,7 +7,7 @@ use Rattle.image.specs.Image.{Image, at, workers, header_ok}
 use Rattle.code.specs.declared.Op.{Op}
 use Rattle.code.specs.declared.Op.TheVariants.{Acquire, Release, Assign, Jump, Finish, Unknown}
 use Rattle.section.specs.Check.{Code}
-use Rattle.log.specs.Log.{code_in}
+use Rattle.worklog.specs.Log.{code_in}
 use Rattle.owed.specs.Owed.{namedStep, namedOp}
 use Rattle.soundness.specs.Sound.{sound}
 use Rattle.needs.specs.declared.Left.{Left}

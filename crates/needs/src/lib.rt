@@ -1,6 +1,7 @@
 // How many turns a section needs to its end, those not counted that wait: along the steps that it goes through (path.rt); from a step on, before
 // they are known, the fewest and the most (ahead.rt); and after a recovery, from its worker's record (record.rt).
 #![tactic(auto)]
+
 pub mod ahead;
 pub mod codes;
 pub mod path;

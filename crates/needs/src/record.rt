@@ -3,7 +3,7 @@ ghost use Rattle.std.specs.Prelude.{◌≡◌, true, ◌≤◌};
 ghost use Rattle.image.specs.Image.{at};
 ghost use Rattle.image.specs.Inner.Inside.{Inside};
 ghost use Rattle.section.specs.Check.{check, passes};
-ghost use Rattle.log.specs.Log.{code_in};
+ghost use Rattle.worklog.specs.Log.{code_in};
 ghost use Rattle.soundness.specs.Sound.{sound};
 ghost use Rattle.needs.specs.From.{lesser, larger, fewest, most};
 ghost use Rattle.needs.specs.Left.{resumed_turns, leftBy, left_of};

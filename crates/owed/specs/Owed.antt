@@ -9,7 +9,7 @@ use Rattle.code.specs.declared.Op.{Op}
 use Rattle.code.specs.declared.Op.TheVariants.{Acquire, Release, Assign, Jump, Finish, Unknown}
 use Rattle.code.specs.Op.{op_of}
 use Rattle.section.specs.Check.{held_before}
-use Rattle.log.specs.Log.{operand, code_in, activeAddr, activeVal}
+use Rattle.worklog.specs.Log.{operand, code_in, activeAddr, activeVal}
 
 -- every lock of `small`, below b, is in `big`
 unfoldable pub covers : ℕ → ℕ → ℕ → Bool

@@ -1,6 +1,7 @@
 // What a recovery asks of one record and of one lock: whether the log entry is the named instruction's, what the worker is owed, whether
 // two are owed the same lock, and whether an owner word is right.
 #![tactic(auto)]
+
 ghost use Rattle.std.specs.Prelude.{◌≡◌, ◌||◌, ◌<◌, ◌≤◌, length, eqb};
 ghost use Rattle.mask.specs.Mask.{union};
 ghost use Rattle.image.specs.Place.{lock};
@@ -18,10 +19,10 @@ fn set_logged(image: &[u64], d: usize, set: u64, own: usize) -> bool
     requires { Inside own image.now d }
     ensures { result ≡ setLogged own (at own image.now) d set }
 {
-    if log::logged_addr(image, d, own) != image::field_index(Field::Owned, d, own) as u64 {
+    if worklog::logged_addr(image, d, own) != image::field_index(Field::Owned, d, own) as u64 {
         return false;
     }
-    log::logged_value(image, d, own) == set
+    worklog::logged_value(image, d, own) == set
 }
 
 // Whether the active entry logs the store of an instruction, after which `next` is held.
@@ -33,7 +34,7 @@ pub fn entry_ok(image: &[u64], d: usize, x: Op, next: u64, own: usize) -> bool
         Op::Acquire(_) => set_logged(image, d, next, own),
         Op::Release(_) => set_logged(image, d, next, own),
         Op::Assign(a, _) => {
-            log::logged_addr(image, d, own) == log::words::operand_index(d, a, own) as u64
+            worklog::logged_addr(image, d, own) == worklog::words::operand_index(d, a, own) as u64
         }
         Op::Jump(_, _) => false,
         Op::Finish => false,

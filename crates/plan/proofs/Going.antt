@@ -15,9 +15,9 @@ use Rattle.code.specs.Op.{op_of}
 use Rattle.code.specs.Inner.Fits.{fits}
 use Rattle.code.proofs.Ranges.{op_turns, turns-op}
 use Rattle.working.specs.Cursor.{Cursor, idle, on}
-use Rattle.log.specs.declared.Passing.{Passing}
-use Rattle.log.specs.declared.Passing.TheVariants.{Jump as PassedJump}
-use Rattle.log.specs.Log.{operand, code_in, second, spareAddr, spareVal}
+use Rattle.worklog.specs.declared.Passing.{Passing}
+use Rattle.worklog.specs.declared.Passing.TheVariants.{Jump as PassedJump}
+use Rattle.worklog.specs.Log.{operand, code_in, second, spareAddr, spareVal}
 use Rattle.plan.specs.Turn.{Outcome, stored, passed, waiting, logged, acquireTurn, finishTurn, opTurn, ready, turnAt}
 use Rattle.plan.proofs.Planned.{ready-says}
 use Rattle.plan.proofs.Outcomes.{either, unlock-either}

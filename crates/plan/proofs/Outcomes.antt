@@ -7,7 +7,7 @@ use mathlib.Core.Bool.{Bool, true, false, cond}
 use lib.Dec.{eqb}
 use borrow.Author.Tests.{eqb-true, eqb-false, eq-eqb}
 use Rattle.image.specs.Place.{lock, Memory}
-use Rattle.log.specs.declared.Passing.{Passing}
+use Rattle.worklog.specs.declared.Passing.{Passing}
 use Rattle.working.specs.Cursor.{on}
 use Rattle.plan.specs.declared.Report.{Report}
 use Rattle.plan.specs.declared.Report.TheVariants.{Freed, AlreadyFree, Others}

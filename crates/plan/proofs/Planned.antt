@@ -19,10 +19,10 @@ use Rattle.code.specs.Inner.Fits.{fits}
 use Rattle.code.specs.Form.{well_formed}
 use Rattle.code.proofs.Ranges.{formed-range, in-range, turns-most}
 use Rattle.working.specs.Cursor.{idle, on}
-use Rattle.log.specs.Log.{operand, code_in}
-use Rattle.log.specs.declared.Plan.TheVariants.{Store}
+use Rattle.worklog.specs.Log.{operand, code_in}
+use Rattle.worklog.specs.declared.Plan.TheVariants.{Store}
 use Rattle.plan.specs.Turn.{stored, logged, acquireTurn, finishTurn, opTurn, ready, turnAt}
-use Rattle.log.specs.Inner.Logged.{logged_plan}
+use Rattle.worklog.specs.Inner.Logged.{logged_plan}
 use Rattle.plan.specs.Inner.Plan.{store_plan, plan_of}
 
 -- ---- stores at no owner word

@@ -14,7 +14,7 @@ use Rattle.image.specs.Inner.Same.{same_field, same}
 use Rattle.image.specs.Image.{Image, index_of, at, put}
 use Rattle.image.proofs.Header.{Sized}
 use Rattle.image.proofs.Stores.{put-none, at_store}
-use Rattle.log.specs.Log.{operand}
+use Rattle.worklog.specs.Log.{operand}
 use Rattle.plan.specs.Turn.{ready}
 
 -- a place of an image of D workers with n own words each that is no count and no instruction word

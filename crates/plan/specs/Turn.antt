@@ -9,9 +9,9 @@ use Rattle.code.specs.declared.Op.TheVariants.{Acquire, Release, Assign, Jump, F
 use Rattle.code.specs.Table.{turns_of}
 use Rattle.code.specs.Op.{op_of, eval}
 use Rattle.code.specs.Form.{well_formed}
-use Rattle.log.specs.Log.{operand, code_in, word_in, spareAddr, spareVal, activeVal, switched}
-use Rattle.log.specs.declared.Passing.{Passing}
-use Rattle.log.specs.declared.Passing.TheVariants.{Jump as PassedJump, AlreadyFree as PassedFree, Others as PassedOthers}
+use Rattle.worklog.specs.Log.{operand, code_in, word_in, spareAddr, spareVal, activeVal, switched}
+use Rattle.worklog.specs.declared.Passing.{Passing}
+use Rattle.worklog.specs.declared.Passing.TheVariants.{Jump as PassedJump, AlreadyFree as PassedFree, Others as PassedOthers}
 use Rattle.working.specs.declared.Refusal.{Refusal}
 use Rattle.working.specs.declared.Refusal.TheVariants.{Cursor as CursorRefused}
 use Rattle.working.specs.Cursor.{Cursor, idle, on}

@@ -1,6 +1,7 @@
 // The plan of a turn: cause 11, and for a turn to which it does not apply at most one store with the step and turn after it. Nothing is
 // stored here. Each instruction's turns stand in steps.rt.
 #![tactic(auto)]
+
 pub mod steps;
 
 ghost use Rattle.std.specs.Prelude.{◌≡◌, true};
@@ -11,7 +12,7 @@ ghost use Rattle.plan.specs.Turn.{ready, turnAt};
 ghost use Rattle.plan.specs.Inner.Plan.{plan_of};
 
 use image::Field;
-use log::Plan;
+use worklog::Plan;
 
 // What a release reports of its lock's owner word: it named this worker and is freed, it was 0, or it is another's.
 #[derive(Clone, Copy)]

@@ -10,7 +10,7 @@ ghost use Rattle.plan.specs.Inner.Plan.{plan_of};
 use crate::Report;
 use code::{Expr, Op};
 use image::Field;
-use log::{Passing, Plan, words};
+use worklog::{Passing, Plan, words};
 
 // An acquire's turn 1: the lock is taken where it is free.
 fn lock_turn(image: &[u64], d: usize, own: usize, a: u64, s: u8) -> Plan
@@ -45,7 +45,7 @@ pub fn acquire_turn(image: &[u64], d: usize, own: usize, a: u64, s: u8, t: u8) -
     }
     let owned = image::field_index(Field::Owned, d, own);
     let v = mask::with(image::read_field(image, Field::Owned, d, own), a);
-    log::logged(image, d, own, s, t, owned, v, s + 1, 0, t - 2)
+    worklog::logged(image, d, own, s, t, owned, v, s + 1, 0, t - 2)
 }
 
 // What the release of a lock with this owner word reports: it is freed where it names the worker.
@@ -92,7 +92,7 @@ pub fn disown_turn(image: &[u64], d: usize, own: usize, a: u64, s: u8, t: u8) ->
 {
     let at = image::field_index(Field::Owned, d, own);
     let v = mask::without(image::read_field(image, Field::Owned, d, own), a);
-    log::logged(image, d, own, s, t, at, v, s, 4, t)
+    worklog::logged(image, d, own, s, t, at, v, s, 4, t)
 }
 
 // A release's turns 4 and 5: the lock's owner word, then the intent.
@@ -119,9 +119,9 @@ pub fn assign_turn(image: &[u64], d: usize, own: usize, a: u64, e: Expr, s: u8, 
     let target = words::operand_index(d, a, own);
     if t == 1 {
         let v = words::eval(image, d, e, own);
-        return log::logged(image, d, own, s, t, target, v, s + 1, 0, t);
+        return worklog::logged(image, d, own, s, t, target, v, s + 1, 0, t);
     }
-    log::logged(image, d, own, s, t, target, 0, s + 1, 0, t)
+    worklog::logged(image, d, own, s, t, target, 0, s + 1, 0, t)
 }
 
 pub fn jump_turn(image: &[u64], d: usize, own: usize, a: u64, b: u64, s: u8) -> Plan

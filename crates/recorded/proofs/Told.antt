@@ -14,7 +14,7 @@ use Rattle.image.specs.Image.{at, index_of}
 use Rattle.edition.specs.Edition.{mark, own_words}
 use Rattle.plan.specs.Turn.{Outcome, stored, passed, waiting, resting, refused}
 use Rattle.working.specs.declared.Refusal.{Refusal}
-use Rattle.log.specs.declared.Passing.{Passing}
+use Rattle.worklog.specs.declared.Passing.{Passing}
 use Rattle.turn.specs.declared.Answer.TheVariants.{Stored, Passed, Waiting, Idle, Refused}
 use Rattle.turn.specs.Call.{answer_of}
 use Rattle.claims.specs.Reference.{Given}

@@ -1,6 +1,7 @@
 // Recovery after a cut: it refuses an image with causes 10, 12 and 13, or frees and takes again the locks, so that every
 // section that was begun can go on where its log says.
 #![tactic(auto)]
+
 ghost use Rattle.std.specs.Prelude.{◌≡◌, ◌≤◌};
 ghost use Rattle.image.specs.Image.{header_ok};
 ghost use Rattle.recovery.specs.Recovery.{recovery};

@@ -78,7 +78,8 @@ module _ (r : Repair) (a k d : ℕ) where
   slots_end h = rw (left-none k d h)
 
   module _ (n : ℕ) (h : d < k) where
-    pub image-step : (left left' : ℕ) (m m' : Image) → m' ≡ slot_put left m (slot_of n (slot_at r (a + d))) → left' ≡ slot_left left (slot_of n (slot_at r (a + d)))
+    pub image-step : (left left' : ℕ) (m m' : Image)
+        → m' ≡ slot_put left m (slot_of n (slot_at r (a + d))) → left' ≡ slot_left left (slot_of n (slot_at r (a + d)))
         → put_all n left' m' (rows (slot_at r) (a + (d + 1)) (k - (d + 1))) ≡ put_all n left m (rows (slot_at r) (a + d) (k - d))
     image-step left left' m m' p q =
         rw (p, q, slots-step h, put-slot n left m (slot_at r (a + d)) (slot-single r (a + d)), left-slot n left (slot_at r (a + d)) (slot-single r (a + d)))

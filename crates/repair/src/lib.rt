@@ -1,6 +1,7 @@
 // What an accepted recovery does: its stores in their order, worked out before the first of them, so that a caller can look at them one slot
 // after the other.
 #![tactic(auto)]
+
 pub mod stock;
 pub mod storing;
 

@@ -1,5 +1,6 @@
 // Where the workers go on after a recovery: each section that was begun at the turn of its logged store.
 #![tactic(auto)]
+
 ghost use Rattle.std.specs.Prelude.{◌≡◌};
 ghost use Rattle.image.specs.Image.{at, workers};
 ghost use Rattle.image.specs.Inner.Inside.{Inside};

@@ -1,5 +1,6 @@
 // Rows of stores: words from an index up. The stores left are kept in a local meanwhile, so that a loop keeps them in a register.
 #![tactic(auto)]
+
 ghost use Rattle.std.specs.Prelude.{◌≡◌, ◌+◌, ◌-◌, ◌≤◌, length, replicate};
 ghost use Rattle.rows.specs.Rows.{put_from};
 

@@ -1,5 +1,6 @@
 // The rules of one step: causes 6 to 9, each the test of an instruction with what is held before it.
 #![tactic(auto)]
+
 ghost use Rattle.std.specs.Prelude.{◌≡◌, true, ◌&&◌, length};
 ghost use Rattle.code.specs.Form.{lock_ok};
 ghost use Rattle.rules.specs.Rules.{covered, covered_in, begins, goes_on, bracketed, ordered, guarded};

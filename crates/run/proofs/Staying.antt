@@ -16,7 +16,7 @@ use Rattle.code.specs.Table.{turns_of}
 use Rattle.working.specs.Cursor.{Cursor, idle, on, step_no, turn_no, set_at, placed}
 use Rattle.working.specs.World.{World, world}
 use Rattle.working.proofs.Placed.{Full, on-is, open_turn}
-use Rattle.log.specs.Log.{code_in}
+use Rattle.worklog.specs.Log.{code_in}
 use Rattle.plan.specs.Turn.{Outcome, stored, passed, waiting, resting, refused, ready}
 use Rattle.plan.proofs.Planned.{ready-says, ready-turn}
 use Rattle.plan.proofs.Quiet.{quiet-ready, ends-ready}

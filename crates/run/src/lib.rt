@@ -1,5 +1,6 @@
 // Runs: rounds of turns over the workers, counted in a tally.
 #![tactic(auto)]
+
 use tally::Tally;
 use working::{Cursors, Refusal};
 

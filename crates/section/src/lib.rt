@@ -1,6 +1,7 @@
 // Sections of instructions: the check of causes 4 to 9, and the pass over the held sets by itself. The pass stands in sets.rt, one step against
 // causes 6 to 9 in judge.rt, and in well.rt the quick test that the check makes first.
 #![tactic(auto)]
+
 mod judge;
 mod sets;
 mod well;

@@ -26,7 +26,7 @@ use Rattle.section.proofs.Facts.{check-parts}
 use Rattle.section.proofs.Held.{held-step}
 use Rattle.section.proofs.Passing.{passed_is}
 use Rattle.code.proofs.Ranges.{formed-range}
-use Rattle.log.specs.Log.{code_in}
+use Rattle.worklog.specs.Log.{code_in}
 use Rattle.owed.specs.Owed.{namedStep, namedOp, heldNext, owed_of, owed, entryOk, covers}
 use Rattle.soundness.specs.Sound.{sectionOk, pcOk, sound, unsound}
 use Rattle.soundness.specs.Inner.Reading.{Legible, Restorable}
@@ -90,7 +90,8 @@ module _ (n : ℕ) (rd : Memory) (d : ℕ) where
     abbrev stepAt : ℕ
     stepAt = pc % 9223372036854775808 - 1
 
-    pub owed-begun : (w next : ℕ) (x : Op) → w ≡ code_in n rd d stepAt → x ≡ op_of w → next ≡ heldNext n rd d → owed n rd d ≡ owed_of x next (rd (field Owned d))
+    pub owed-begun : (w next : ℕ) (x : Op)
+        → w ≡ code_in n rd d stepAt → x ≡ op_of w → next ≡ heldNext n rd d → owed n rd d ≡ owed_of x next (rd (field Owned d))
     unfolding owed namedOp namedStep
     owed-begun w next x word op held =
         rw (held, op, word, e, ne_eqb (rd (field Pc d)) 0 (λ z. h (e ∙ z)))

@@ -12,7 +12,7 @@ use Rattle.image.specs.Place.{field, Memory}
 use Rattle.code.specs.declared.Op.{Op}
 use Rattle.code.specs.declared.Op.TheVariants.{Acquire, Release, Assign, Jump, Finish, Unknown}
 use Rattle.section.proofs.Held.{held_small}
-use Rattle.log.specs.Log.{code_in}
+use Rattle.worklog.specs.Log.{code_in}
 use Rattle.owed.specs.Owed.{namedStep, namedOp, heldHere, heldNext, owed_of, owed, entryOk}
 use Rattle.soundness.specs.Sound.{sectionOk, pcOk}
 use Rattle.soundness.proofs.Legible.{legible}

@@ -3,7 +3,7 @@ use Rattle.std.specs.Prelude.{ℕ, suc, zero, ◌+◌, ◌%◌, ◌^◌, List, [
 use Rattle.image.specs.declared.Field.TheVariants.{Count, Pc, Intent, Owned, Number, Finished}
 use Rattle.image.specs.Place.{lock, field, Memory}
 use Rattle.section.specs.Check.{check, passes}
-use Rattle.log.specs.Log.{code_in}
+use Rattle.worklog.specs.Log.{code_in}
 use Rattle.owed.specs.Owed.{covers, claimants, namedStep, namedOp, heldHere, heldNext, owed, entryOk, ownerOk}
 
 -- what f gives for the numbers 0 to 7

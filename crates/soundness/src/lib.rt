@@ -1,6 +1,7 @@
 // Which images a recovery accepts: every worker's record is sound (cause 12), and every lock is right (cause 13). The tests only read; where
 // they pass, they have found the set of locks that each worker is owed.
 #![tactic(auto)]
+
 pub mod codes;
 pub mod locks;
 pub mod records;

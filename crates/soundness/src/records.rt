@@ -4,7 +4,7 @@ ghost use Rattle.image.specs.Place.{field};
 ghost use Rattle.image.specs.Image.{at, workers, length_of};
 ghost use Rattle.image.specs.Inner.Inside.{Inside};
 ghost use Rattle.section.specs.Check.{check, passes};
-ghost use Rattle.log.specs.Log.{code_in};
+ghost use Rattle.worklog.specs.Log.{code_in};
 ghost use Rattle.owed.specs.Owed.{covers, owed};
 ghost use Rattle.soundness.specs.Sound.{sectionOk, pcOk, sound, unsound};
 ghost use Rattle.soundness.specs.Inner.Reading.{Helds, loaded, owed_by};

@@ -17,7 +17,7 @@ use Rattle.working.specs.Cursor.{on, step_no, turn_no, set_at, holding}
 use Rattle.working.specs.World.{World, world}
 use Rattle.working.proofs.Placed.{on-is, open_turn}
 use Rattle.plan.specs.Turn.{Outcome, stored, passed, waiting, resting, refused, ready, turnAt}
-use Rattle.log.specs.declared.Plan.TheVariants.{Take, Free}
+use Rattle.worklog.specs.declared.Plan.TheVariants.{Take, Free}
 use Rattle.plan.specs.Inner.Plan.{store_plan, plan_of}
 use Rattle.plan.proofs.Planned.{ready-says}
 use Rattle.turn.specs.declared.Answer.{Answer}

@@ -21,8 +21,8 @@ use Rattle.code.specs.Op.{eval}
 use Rattle.tally.specs.declared.Tally.{Tally}
 use Rattle.tally.specs.Tally.{with_jump, with_already_free, with_others}
 use Rattle.working.specs.Cursor.{on, step_no, turn_no}
-use Rattle.log.specs.declared.Passing.TheVariants.{AlreadyFree as PassedFree, Others as PassedOthers}
-use Rattle.log.specs.Log.{operand, word_in, spareAddr}
+use Rattle.worklog.specs.declared.Passing.TheVariants.{AlreadyFree as PassedFree, Others as PassedOthers}
+use Rattle.worklog.specs.Log.{operand, word_in, spareAddr}
 use Rattle.plan.specs.declared.Report.TheVariants.{Freed, AlreadyFree, Others}
 use Rattle.plan.specs.Report.{report_of}
 use Rattle.plan.specs.Turn.{stored, passed}

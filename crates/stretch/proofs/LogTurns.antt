@@ -18,8 +18,8 @@ use Rattle.code.specs.declared.Op.{Op}
 use Rattle.code.proofs.Ranges.{op_turns}
 use Rattle.tally.specs.declared.Tally.{Tally}
 use Rattle.working.specs.Cursor.{Cursor, on, step_no, turn_no}
-use Rattle.log.specs.Log.{second, spareAddr, spareVal, activeVal, switched}
-use Rattle.log.proofs.Switching.{switched-val}
+use Rattle.worklog.specs.Log.{second, spareAddr, spareVal, activeVal, switched}
+use Rattle.worklog.proofs.Switching.{switched-val}
 use Rattle.plan.specs.Turn.{logged, opTurn}
 use Rattle.plan.proofs.Quiet.{Spares, quiet-field, other-field, at_other}
 use Rattle.turn.specs.Call.{held_by}

@@ -18,7 +18,7 @@ use Rattle.code.specs.Inner.Fits.{fits}
 use Rattle.code.proofs.Ranges.{op_turns, turns-op}
 use Rattle.tally.specs.declared.Tally.{Tally}
 use Rattle.working.specs.Cursor.{on}
-use Rattle.log.specs.Log.{code_in}
+use Rattle.worklog.specs.Log.{code_in}
 use Rattle.plan.specs.Turn.{Outcome, opTurn, ready, turnAt}
 use Rattle.plan.proofs.Planned.{ready-says, ready-turn}
 use Rattle.plan.proofs.Quiet.{Spares, at_other, quiet-ready}

@@ -5,13 +5,13 @@ ghost use Rattle.image.specs.Inner.Inside.{Inside};
 ghost use Rattle.code.specs.Op.{of_two, eval};
 ghost use Rattle.code.specs.Inner.Fits.{ranged};
 ghost use Rattle.code.specs.Inner.Rows.{in_row, expr_row};
-ghost use Rattle.log.specs.Log.{word_in};
+ghost use Rattle.worklog.specs.Log.{word_in};
 ghost use Rattle.tally.specs.Inner.Passes.{passed};
 ghost use Rattle.stretch.specs.Inner.Whole.{Here, Made};
 
 use crate::{Walk, logged, none};
 use code::{Expr, Op};
-use log::words;
+use worklog::words;
 use tally::Passes;
 
 // What an expression gives, where the fields of its word are in their ranges.

@@ -1,5 +1,6 @@
 // Turns of one worker back to back, in a run in which no other is open: an instruction's turns at once, or one turn as it is.
 #![tactic(auto)]
+
 mod assigning;
 mod locks;
 mod logged;

@@ -12,9 +12,9 @@ pub fn stores(image: &mut [u64], d: usize, s: u8, own: usize, target: usize, v: 
     ensures image { image.new ≡ withTarget own d s target v image.old left.old }
     ensures left { left.new ≡ left.old - 1 - 1 - 1 - 1 }
 {
-    let address = image::field_index(log::spare_addr(image, d, own), d, own);
+    let address = image::field_index(worklog::spare_addr(image, d, own), d, own);
     let value = image::value_index(address);
-    let pc = log::switched(image, d, own, s);
+    let pc = worklog::switched(image, d, own, s);
     let mut rest = *left;
     image::store_inside(image, address, target as u64, &mut rest);
     image::store_inside(image, value, v, &mut rest);

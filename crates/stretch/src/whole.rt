@@ -9,7 +9,7 @@ ghost use Rattle.stretch.specs.Inner.Whole.{closed_image, Counted, Here, Made};
 use crate::{Walk, assigning, locks, none};
 use code::Op;
 use image::Field;
-use log::words;
+use worklog::words;
 use tally::Passes;
 
 // An acquire's six turns, where its first is ready; its first alone, where its lock is not free.

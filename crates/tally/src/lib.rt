@@ -2,6 +2,7 @@
 // tally record. The record is lent by &mut to one thin counting function for each answer of a turn, over a core that counts by
 // value. Several turns of a kind are counted at once by value alone.
 #![tactic(auto)]
+
 ghost use Rattle.std.specs.Prelude.{◌≡◌, ◌<◌, ◌≤◌};
 ghost use Rattle.tally.specs.Tally.{none, with_stored, with_jump, with_already_free, with_others, with_waiting, Room};
 ghost use Rattle.tally.specs.Tally.{with_waits, RoomFor};

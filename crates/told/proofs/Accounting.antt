@@ -20,7 +20,7 @@ use Rattle.code.specs.declared.Op.{Op}
 use Rattle.code.specs.declared.Op.TheVariants.{Acquire, Release, Assign, Jump, Finish, Unknown}
 use Rattle.code.specs.Op.{op_of}
 use Rattle.intake.specs.declared.Submitted.TheVariants.{Taken}
-use Rattle.log.specs.Log.{code_in}
+use Rattle.worklog.specs.Log.{code_in}
 use Rattle.working.specs.Cursor.{Cursor, idle, on, step_no, turn_no, cursor_at}
 use Rattle.plan.specs.Turn.{Outcome, stored, passed, waiting, resting, refused, turnAt}
 use Rattle.owed.specs.Owed.{namedStep, namedOp}

@@ -16,7 +16,7 @@ use Rattle.code.specs.declared.Op.TheVariants.{Acquire, Release, Assign, Jump, F
 use Rattle.rules.specs.Rules.{covered}
 use Rattle.section.specs.Valid.{Valid}
 use Rattle.working.specs.Cursor.{Cursor, on}
-use Rattle.log.specs.Log.{operand, code_in, word_in}
+use Rattle.worklog.specs.Log.{operand, code_in, word_in}
 use Rattle.plan.specs.Turn.{Outcome, stored, passed, waiting, resting, refused, opTurn, turnAt, logged}
 use Rattle.claims.specs.Reference.{Given}
 use Rattle.claims.proofs.Invariant.{opAt, held_at, Nearing, Jumps, stay, leap}

@@ -10,7 +10,7 @@ use Rattle.image.specs.Place.{field, Memory}
 use Rattle.image.specs.Image.{at, workers, cells_of}
 use Rattle.code.specs.declared.Op.TheVariants.{Finish}
 use Rattle.working.specs.Cursor.{Cursor, idle, on, step_no, cursor_at}
-use Rattle.log.specs.Log.{code_in}
+use Rattle.worklog.specs.Log.{code_in}
 use Rattle.plan.specs.Turn.{stored, turnAt}
 use Rattle.claims.specs.Reference.{Given}
 use Rattle.claims.specs.Calls.{Traced, from}

@@ -17,7 +17,7 @@ use Rattle.section.specs.Check.{Code, code_of}
 use Rattle.section.specs.Valid.{Valid}
 use Rattle.section.proofs.Facts.{passed-valid}
 use Rattle.section.proofs.Passing.{passed_is}
-use Rattle.log.specs.Log.{code_in}
+use Rattle.worklog.specs.Log.{code_in}
 use Rattle.owed.specs.Owed.{namedOp}
 use Rattle.soundness.specs.Sound.{sectionOk}
 use Rattle.needs.specs.declared.Left.TheVariants.{Turns}

@@ -16,7 +16,7 @@ use Rattle.image.proofs.Lists.{header-all, workers-all}
 use Rattle.code.specs.declared.Op.{Op}
 use Rattle.code.specs.declared.Op.TheVariants.{Acquire, Release, Assign, Jump, Finish, Unknown}
 use Rattle.code.proofs.Ranges.{op_turns}
-use Rattle.log.specs.Log.{activeAddr, activeVal}
+use Rattle.worklog.specs.Log.{activeAddr, activeVal}
 use Rattle.working.specs.declared.Cursors.{Cursors}
 use Rattle.working.specs.Cursor.{Cursor}
 use Rattle.plan.specs.Turn.{stored, turnAt, opTurn}

@@ -13,7 +13,7 @@ use Rattle.image.specs.Place.{Place, field, Memory}
 use Rattle.image.specs.Image.{at}
 use Rattle.section.specs.Check.{Code}
 use Rattle.working.specs.Cursor.{Cursor, step_no, cursor_at}
-use Rattle.log.specs.Log.{code_in}
+use Rattle.worklog.specs.Log.{code_in}
 use Rattle.plan.specs.Turn.{stored}
 use Rattle.claims.specs.Reference.{Given, initial}
 use Rattle.claims.specs.Events.{moved, recorded, ended, but}

@@ -18,7 +18,7 @@ use Rattle.image.specs.Image.{Image, at, workers, cells_of}
 use Rattle.code.specs.declared.Op.{Op}
 use Rattle.code.specs.declared.Op.TheVariants.{Acquire, Release, Assign, Jump, Finish, Unknown}
 use Rattle.code.specs.Op.{op_of, is_finish}
-use Rattle.log.specs.Log.{code_in}
+use Rattle.worklog.specs.Log.{code_in}
 use Rattle.owed.specs.Owed.{namedStep, entryOk}
 use Rattle.soundness.specs.Sound.{sectionOk, pcOk}
 use Rattle.asking.specs.declared.Standing.TheVariants.{NotBegun, Begun, Finished}

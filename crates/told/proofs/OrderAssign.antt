@@ -22,8 +22,8 @@ use Rattle.code.specs.Op.{op_of, eval}
 use Rattle.section.proofs.Held.{after-assign}
 use Rattle.code.proofs.Ranges.{assign-range, expr-range}
 use Rattle.working.specs.Cursor.{Cursor, on, cursor_at}
-use Rattle.log.specs.Log.{operand, code_in, word_in, spareAddr}
-use Rattle.log.proofs.Operands.{operand-valid}
+use Rattle.worklog.specs.Log.{operand, code_in, word_in, spareAddr}
+use Rattle.worklog.proofs.Operands.{operand-valid}
 use Rattle.claims.specs.Reference.{job, State, state, Given, start, read_in, onto, assigned}
 use Rattle.claims.specs.Calls.{Traced, play}
 use Rattle.claims.proofs.Invariant.{held_at}

@@ -23,9 +23,9 @@ use Rattle.code.specs.Op.{op_of}
 use Rattle.section.proofs.Held.{after-jump}
 use Rattle.code.proofs.Ranges.{jump-range}
 use Rattle.working.specs.Cursor.{Cursor, idle, on, cursor_at}
-use Rattle.log.specs.Log.{operand, code_in, word_in}
+use Rattle.worklog.specs.Log.{operand, code_in, word_in}
 use Rattle.plan.specs.Turn.{passed}
-use Rattle.log.specs.declared.Passing.TheVariants.{Jump as PassedJump}
+use Rattle.worklog.specs.declared.Passing.TheVariants.{Jump as PassedJump}
 use Rattle.claims.specs.Reference.{job, State, state, Given, start, read_in, onto}
 use Rattle.claims.specs.Events.{but}
 use Rattle.claims.specs.Calls.{Traced, Move, play, machine}

@@ -19,7 +19,7 @@ use Rattle.image.specs.Image.{at, workers, header_ok}
 use Rattle.section.specs.Valid.{Valid}
 use Rattle.section.proofs.Held.{held-cong}
 use Rattle.working.specs.Cursor.{Cursor, idle, on, cursor_at}
-use Rattle.log.specs.Log.{code_in}
+use Rattle.worklog.specs.Log.{code_in}
 use Rattle.working.proofs.Placed.{Full}
 use Rattle.claims.specs.Reference.{Job, job, State, state, Given, start}
 use Rattle.claims.specs.Events.{but}

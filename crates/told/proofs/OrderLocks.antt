@@ -23,7 +23,7 @@ use Rattle.code.specs.Op.{op_of}
 use Rattle.section.proofs.Held.{after-acquire, after-release}
 use Rattle.code.proofs.Ranges.{acquire-range, release-range}
 use Rattle.working.specs.Cursor.{Cursor, on, cursor_at}
-use Rattle.log.specs.Log.{code_in}
+use Rattle.worklog.specs.Log.{code_in}
 use Rattle.plan.specs.Turn.{turnAt, stored, waiting, unlockBy}
 use Rattle.plan.specs.declared.Report.{Report}
 use Rattle.plan.proofs.Outcomes.{named-freed}

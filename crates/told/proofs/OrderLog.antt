@@ -20,7 +20,7 @@ use Rattle.section.specs.Check.{Code}
 use Rattle.section.specs.Valid.{Valid}
 use Rattle.code.proofs.Ranges.{op_turns}
 use Rattle.working.specs.Cursor.{Cursor, on}
-use Rattle.log.specs.Log.{code_in, spareAddr, spareVal, activeVal, switched}
+use Rattle.worklog.specs.Log.{code_in, spareAddr, spareVal, activeVal, switched}
 use Rattle.plan.specs.Turn.{logged, opTurn, stored}
 use Rattle.working.proofs.Placed.{sayable}
 use Rattle.claims.specs.Reference.{Given}

@@ -20,7 +20,7 @@ use Rattle.section.proofs.Held.{held-zero}
 use Rattle.section.proofs.Facts.{passed-valid, check-cong, check-parts}
 use Rattle.intake.specs.declared.Submitted.TheVariants.{Taken}
 use Rattle.working.specs.Cursor.{Cursor, idle, on, cursor_at}
-use Rattle.log.specs.Log.{code_in}
+use Rattle.worklog.specs.Log.{code_in}
 use Rattle.intake.specs.Submit.{submission, free, submit_answer}
 use Rattle.working.proofs.Placed.{placed_same, placed-other}
 use Rattle.intake.proofs.Submission.{submission-length, submission-valid}

@@ -17,7 +17,7 @@ use Rattle.image.proofs.Header.{Sized, header-sized, header-workers}
 use Rattle.image.proofs.Stores.{header-store, workers-store}
 use Rattle.working.specs.Cursor.{Cursor, cursor_at, placed}
 use Rattle.plan.specs.Turn.{Outcome, stored, passed, turnAt}
-use Rattle.log.specs.declared.Passing.TheVariants.{Jump}
+use Rattle.worklog.specs.declared.Passing.TheVariants.{Jump}
 use Rattle.turn.specs.Call.{outcome_at, outcome}
 use Rattle.working.proofs.Placed.{Full, sayable, placed_same, held-cursor, placed-other}
 use Rattle.claims.specs.Reference.{Given}

@@ -10,7 +10,7 @@ use Rattle.image.specs.Place.{field}
 use Rattle.image.specs.Image.{at}
 use Rattle.section.specs.Check.{Code}
 use Rattle.working.specs.Cursor.{Cursor, idle, cursor_at}
-use Rattle.log.specs.Log.{code_in}
+use Rattle.worklog.specs.Log.{code_in}
 use Rattle.plan.specs.Turn.{Outcome, stored, passed, waiting, resting, refused}
 use Rattle.claims.specs.Reference.{Given}
 use Rattle.claims.specs.Events.{Event, taken, moved, waited, recorded, ended, lost}

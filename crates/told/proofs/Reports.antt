@@ -13,8 +13,8 @@ use Rattle.image.specs.declared.Field.TheVariants.{Pc}
 use Rattle.image.specs.Place.{lock, field, Memory}
 use Rattle.image.specs.Image.{at, workers, cells_of}
 use Rattle.code.specs.declared.Op.TheVariants.{Release}
-use Rattle.log.specs.declared.Passing.{Passing}
-use Rattle.log.specs.declared.Passing.TheVariants.{Jump, AlreadyFree, Others}
+use Rattle.worklog.specs.declared.Passing.{Passing}
+use Rattle.worklog.specs.declared.Passing.TheVariants.{Jump, AlreadyFree, Others}
 use Rattle.working.specs.Cursor.{Cursor, idle, on, step_no, cursor_at}
 use Rattle.plan.specs.Turn.{stored, passed, unlockBy, turnAt}
 use Rattle.plan.proofs.Outcomes.{named-freed}

@@ -19,8 +19,8 @@ use Rattle.code.specs.Op.{op_of}
 use Rattle.code.proofs.Ranges.{release-range}
 use Rattle.section.proofs.Held.{held-zero}
 use Rattle.working.specs.Cursor.{Cursor, idle, on, step_no, turn_no}
-use Rattle.log.specs.declared.Passing.TheVariants.{Jump as PassedJump}
-use Rattle.log.specs.Log.{code_in, word_in}
+use Rattle.worklog.specs.declared.Passing.TheVariants.{Jump as PassedJump}
+use Rattle.worklog.specs.Log.{code_in, word_in}
 use Rattle.plan.specs.declared.Report.{Report}
 use Rattle.plan.specs.declared.Report.TheVariants.{Freed, AlreadyFree, Others}
 use Rattle.plan.specs.Report.{report_of}

@@ -19,7 +19,7 @@ use Rattle.code.specs.Op.{op_of}
 use Rattle.code.proofs.Ranges.{turns-op}
 use Rattle.intake.specs.declared.Submitted.TheVariants.{Taken}
 use Rattle.working.specs.Cursor.{Cursor, idle, on, cursor_at}
-use Rattle.log.specs.Log.{code_in}
+use Rattle.worklog.specs.Log.{code_in}
 use Rattle.plan.specs.Turn.{Outcome, stored, passed, waiting, resting, refused}
 use Rattle.owed.specs.Owed.{namedStep, namedOp}
 use Rattle.resuming.specs.Resumed.{target_turn, resumed}

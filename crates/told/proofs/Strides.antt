@@ -16,8 +16,8 @@ use Rattle.code.specs.Op.{eval}
 use Rattle.code.proofs.Ranges.{turns-op}
 use Rattle.section.specs.Valid.{Valid}
 use Rattle.working.specs.Cursor.{Cursor, idle, on}
-use Rattle.log.specs.declared.Passing.TheVariants.{Jump as PassedJump, AlreadyFree as PassedFree, Others as PassedOthers}
-use Rattle.log.specs.Log.{operand, code_in, word_in, second, spareAddr, spareVal, activeVal, switched}
+use Rattle.worklog.specs.declared.Passing.TheVariants.{Jump as PassedJump, AlreadyFree as PassedFree, Others as PassedOthers}
+use Rattle.worklog.specs.Log.{operand, code_in, word_in, second, spareAddr, spareVal, activeVal, switched}
 use Rattle.plan.specs.declared.Report.{Report}
 use Rattle.plan.specs.declared.Report.TheVariants.{Freed, AlreadyFree, Others}
 use Rattle.plan.specs.Report.{report_of}

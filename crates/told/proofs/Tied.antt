@@ -14,7 +14,7 @@ use Rattle.code.specs.declared.Op.{Op}
 use Rattle.code.specs.declared.Op.TheVariants.{Acquire, Finish}
 use Rattle.section.specs.Check.{Code}
 use Rattle.working.specs.Cursor.{Cursor, on, cursor_at}
-use Rattle.log.specs.Log.{code_in}
+use Rattle.worklog.specs.Log.{code_in}
 use Rattle.owed.specs.Owed.{namedStep}
 use Rattle.plan.specs.Turn.{stored, waiting, opTurn, turnAt, lockTurn}
 use Rattle.claims.specs.Reference.{Given}

@@ -15,7 +15,7 @@ use Rattle.image.specs.Inner.Same.{same_field}
 use Rattle.image.specs.Image.{at, workers, cells_of}
 use Rattle.intake.specs.declared.Submitted.TheVariants.{Taken}
 use Rattle.working.specs.Cursor.{Cursor, on, cursor_at}
-use Rattle.log.specs.Log.{code_in}
+use Rattle.worklog.specs.Log.{code_in}
 use Rattle.plan.specs.Turn.{Outcome, stored, passed, waiting, resting, refused}
 use Rattle.owed.specs.Owed.{namedOp}
 use Rattle.resuming.specs.Resumed.{target_turn, resumed}

@@ -20,9 +20,9 @@ use Rattle.code.specs.declared.Op.{Op}
 use Rattle.code.specs.declared.Op.TheVariants.{Acquire, Release, Assign, Jump, Finish, Unknown}
 use Rattle.section.specs.Check.{Code}
 use Rattle.working.specs.Cursor.{Cursor, idle, on, step_no, cursor_at}
-use Rattle.log.specs.Log.{code_in, switched}
-use Rattle.log.specs.declared.Passing.{Passing}
-use Rattle.log.specs.declared.Passing.TheVariants.{Jump as PassedJump, AlreadyFree as PassedFree, Others as PassedOthers}
+use Rattle.worklog.specs.Log.{code_in, switched}
+use Rattle.worklog.specs.declared.Passing.{Passing}
+use Rattle.worklog.specs.declared.Passing.TheVariants.{Jump as PassedJump, AlreadyFree as PassedFree, Others as PassedOthers}
 use Rattle.plan.specs.Turn.{Outcome, stored, passed, waiting, resting, refused}
 use Rattle.claims.specs.Reference.{Given, follow, enqueue, initial}
 use Rattle.claims.specs.Events.{Event, moved, recorded, ended}

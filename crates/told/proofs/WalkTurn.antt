@@ -21,7 +21,7 @@ use Rattle.rules.specs.Rules.{covered}
 use Rattle.section.specs.Check.{Code}
 use Rattle.section.specs.Valid.{Valid}
 use Rattle.working.specs.Cursor.{Cursor}
-use Rattle.log.specs.Log.{code_in, word_in}
+use Rattle.worklog.specs.Log.{code_in, word_in}
 use Rattle.needs.specs.Path.{turns_along}
 use Rattle.claims.specs.Reference.{Given, Job, job, State, state, read_in, onto, advance, follow, start, enqueue}
 use Rattle.claims.proofs.Invariant.{opAt, held_at, Jumps, stay, leap, Live, JobOf, Mirrors}

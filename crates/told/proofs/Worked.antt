@@ -13,7 +13,7 @@ use Rattle.code.specs.Op.{op_of, eval}
 use Rattle.code.specs.Form.{in_range, well_formed, held_after}
 use Rattle.section.specs.Check.{held_before, first_of, form_of, use_of, check}
 use Rattle.working.specs.Cursor.{cursor_at, set_at, all_idle}
-use Rattle.log.specs.Log.{operand, second, spareAddr, spareVal, activeAddr, activeVal, switched}
+use Rattle.worklog.specs.Log.{operand, second, spareAddr, spareVal, activeAddr, activeVal, switched}
 use Rattle.plan.specs.Turn.{ready, turnAt}
 use Rattle.working.specs.World.{world}
 use Rattle.turn.specs.Call.{outcome_at, outcome}

@@ -14,9 +14,9 @@ use Rattle.code.specs.Op.{is_finish}
 use Rattle.code.specs.declared.Op.{Op}
 use Rattle.code.specs.declared.Op.TheVariants.{Acquire, Release, Assign, Jump, Finish, Unknown}
 use Rattle.working.specs.Cursor.{Cursor, on}
-use Rattle.log.specs.Log.{operand, code_in, second, spareAddr, spareVal}
+use Rattle.worklog.specs.Log.{operand, code_in, second, spareAddr, spareVal}
 use Rattle.plan.specs.Turn.{Outcome, stored, passed, waiting, resting as rests, refused}
-use Rattle.log.specs.Log.{switched}
+use Rattle.worklog.specs.Log.{switched}
 use Rattle.plan.specs.Turn.{logged, lockTurn, unlockTurn, opTurn, turnAt}
 use Rattle.plan.proofs.Outcomes.{unlock-either}
 use Rattle.owed.specs.Owed.{namedStep}

@@ -5,7 +5,7 @@ use Rattle.std.specs.Prelude.{ℕ, ◌<◌, ◌≤◌, ◌≡◌, ◌≢◌, tru
 use Rattle.image.specs.Place.{Place, field, Store}
 use Rattle.image.specs.Image.{Image, index_of, at, workers}
 use Rattle.formatting.specs.Format.{formatted}
-use Rattle.log.specs.Log.{activeAddr, activeVal}
+use Rattle.worklog.specs.Log.{activeAddr, activeVal}
 use Rattle.working.specs.declared.Cursors.{Cursors}
 use Rattle.working.specs.Cursor.{Cursor, all_idle}
 use Rattle.plan.specs.Turn.{stored}

@@ -7,9 +7,9 @@ use Rattle.image.specs.Place.{lock, field}
 use Rattle.image.specs.Image.{Image, at, workers}
 use Rattle.code.specs.declared.Op.TheVariants.{Release}
 use Rattle.code.specs.Op.{op_of}
-use Rattle.log.specs.declared.Passing.{Passing}
-use Rattle.log.specs.declared.Passing.TheVariants.{Jump}
-use Rattle.log.specs.Log.{code_in}
+use Rattle.worklog.specs.declared.Passing.{Passing}
+use Rattle.worklog.specs.declared.Passing.TheVariants.{Jump}
+use Rattle.worklog.specs.Log.{code_in}
 use Rattle.working.specs.Cursor.{Cursor, on, cursor_at}
 use Rattle.plan.specs.Turn.{stored, passed}
 use Rattle.turn.specs.Call.{outcome}

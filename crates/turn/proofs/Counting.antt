@@ -2,7 +2,7 @@
 use Prim.Native.Nat.{◌+◌, ◌≤◌}
 use native.Mathlib.Omega.{arith}
 use Rattle.tally.specs.declared.Tally.{Tally}
-use Rattle.log.specs.declared.Passing.TheVariants.{Jump, AlreadyFree, Others}
+use Rattle.worklog.specs.declared.Passing.TheVariants.{Jump, AlreadyFree, Others}
 use Rattle.turn.specs.declared.Answer.{Answer}
 use Rattle.turn.specs.declared.Answer.TheVariants.{Stored, Passed, Waiting, Idle, Refused}
 use Rattle.turn.specs.Counted.{counted}

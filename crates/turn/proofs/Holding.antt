@@ -14,9 +14,9 @@ use Rattle.code.specs.Op.{op_of}
 use Rattle.code.specs.Inner.Fits.{fits}
 use Rattle.working.specs.Cursor.{Cursor, idle, on, step_no, turn_no, set_at, holding}
 use Rattle.working.specs.World.{World, world}
-use Rattle.log.specs.Log.{operand, code_in}
+use Rattle.worklog.specs.Log.{operand, code_in}
 use Rattle.plan.specs.Turn.{Outcome, stored, passed, waiting, resting, refused, logged, acquireTurn, finishTurn, opTurn, ready, turnAt}
-use Rattle.log.specs.declared.Plan.TheVariants.{Take, Free}
+use Rattle.worklog.specs.declared.Plan.TheVariants.{Take, Free}
 use Rattle.plan.specs.Inner.Plan.{store_plan, plan_of}
 use Rattle.plan.proofs.Planned.{ready-says}
 use Rattle.plan.proofs.Outcomes.{either, unlock-either}

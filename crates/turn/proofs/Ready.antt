@@ -5,7 +5,7 @@ use mathlib.Core.Path.{◌≡◌, ap, ◌∙◌}
 use mathlib.Core.Bool.{true}
 use native.Mathlib.Omega.{arith}
 use Rattle.image.specs.Image.{Image, at}
-use Rattle.log.specs.declared.Plan.{Plan}
+use Rattle.worklog.specs.declared.Plan.{Plan}
 use Rattle.working.specs.declared.Cursors.{Cursors}
 use Rattle.working.specs.Inner.At.{At}
 use Rattle.working.specs.Cursor.{on, set_at, holding}

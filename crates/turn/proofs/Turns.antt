@@ -19,11 +19,11 @@ use Rattle.image.proofs.Header.{header-workers, header-inside}
 use Rattle.working.specs.declared.Refusal.{Refusal}
 use Rattle.working.specs.declared.Refusal.TheVariants.{Worker, Image as ImageRefused, Cursor as CursorRefused}
 use Rattle.working.specs.Cursor.{Cursor, on, is_idle, step_no, turn_no, cursor_at, placed}
-use Rattle.log.specs.Log.{code_in}
+use Rattle.worklog.specs.Log.{code_in}
 use Rattle.plan.specs.Turn.{Outcome, stored, passed, waiting, resting, refused, logged, acquireTurn, finishTurn, opTurn, ready, turnAt}
 use Rattle.working.specs.World.{World}
 use Rattle.turn.specs.Call.{answer_of, leaves, outcome_at, outcome, is_refused}
-use Rattle.log.specs.declared.Plan.TheVariants.{Take, Free}
+use Rattle.worklog.specs.declared.Plan.TheVariants.{Take, Free}
 use Rattle.plan.specs.Inner.Plan.{store_plan, plan_of}
 use Rattle.turn.specs.Inner.Acting.{plan_did, did_answer, tested, gate_of}
 use Rattle.turn.specs.declared.Answer.TheVariants.{Stored}

@@ -2,8 +2,8 @@
 -- number of ours, with the index of the store, why it passed, or the lock waited for. A value that is not named is 0.
 use Rattle.std.specs.Prelude.{ℕ}
 use Rattle.working.specs.Refusal.{cause_of, value_of}
-use Rattle.log.specs.declared.Passing.{Passing}
-use Rattle.log.specs.declared.Passing.TheVariants.{Jump, AlreadyFree, Others}
+use Rattle.worklog.specs.declared.Passing.{Passing}
+use Rattle.worklog.specs.declared.Passing.TheVariants.{Jump, AlreadyFree, Others}
 use Rattle.turn.specs.declared.Answer.{Answer}
 use Rattle.turn.specs.declared.Answer.TheVariants.{Stored, Passed, Waiting, Idle, Refused}
 

@@ -1,7 +1,7 @@
 -- What a turn adds to the tally of a run, by its answer.
 use Rattle.tally.specs.declared.Tally.{Tally}
 use Rattle.tally.specs.Tally.{with_stored, with_jump, with_already_free, with_others, with_waiting}
-use Rattle.log.specs.declared.Passing.TheVariants.{Jump, AlreadyFree, Others}
+use Rattle.worklog.specs.declared.Passing.TheVariants.{Jump, AlreadyFree, Others}
 use Rattle.turn.specs.declared.Answer.{Answer}
 use Rattle.turn.specs.declared.Answer.TheVariants.{Stored, Passed, Waiting, Idle, Refused}
 

@@ -3,7 +3,7 @@ ghost use Rattle.std.specs.Prelude.{◌≡◌};
 ghost use Rattle.turn.specs.Codes.{turn_code, passing_of, turn_detail};
 
 use crate::Answer;
-use log::Passing;
+use worklog::Passing;
 
 // Ours, from 32 up: the papers' causes are below.
 const STORED: u64 = 32;

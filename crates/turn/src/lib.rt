@@ -1,7 +1,8 @@
 // One turn of a worker: its tests, its plan, at most one store, and the record with the step and turn that the plan names.
 #![tactic(auto)]
+
 use code::Op;
-use log::{Passing, Plan};
+use worklog::{Passing, Plan};
 use plan::steps;
 use tally::Tally;
 use working::{Cursors, Refusal};

@@ -1,5 +1,6 @@
 // What the calls have in common: the working record, which says where the workers stand, and why a call is refused.
 #![tactic(auto)]
+
 ghost use Rattle.std.specs.Prelude.{◌≡◌, ℕ, set};
 ghost use Rattle.working.specs.Cursor.{is_idle, cursor_at, cursors, set_at, all_idle, locks_held};
 ghost use Rattle.working.specs.Refusal.{cause_of, value_of};

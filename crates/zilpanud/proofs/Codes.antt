@@ -18,8 +18,8 @@ use Rattle.section.specs.Check.{code_of, check, passes, cause_of as checkCause}
 use Rattle.tally.specs.Tally.{none}
 use Rattle.working.specs.declared.Refusal.TheVariants.{Image as ImageRefused}
 use Rattle.turn.specs.declared.Answer.{Answer}
-use Rattle.log.specs.declared.Passing.{Passing}
-use Rattle.log.specs.declared.Passing.TheVariants.{Jump as PassedJump, AlreadyFree, Others}
+use Rattle.worklog.specs.declared.Passing.{Passing}
+use Rattle.worklog.specs.declared.Passing.TheVariants.{Jump as PassedJump, AlreadyFree, Others}
 use Rattle.turn.specs.declared.Answer.TheVariants.{Stored, Passed, Waiting, Idle, Refused}
 use Rattle.formatting.specs.declared.Formatted.TheVariants.{Done, Refused as FormatRefused}
 use Rattle.intake.specs.declared.Submitted.{Submitted}
@@ -29,7 +29,7 @@ use Rattle.edition.specs.Edition.{mark, own_words}
 use Rattle.working.specs.Refusal.{cause_of}
 use Rattle.turn.specs.Call.{is_refused}
 use Rattle.working.specs.Cursor.{Cursor, idle, on, cursor_at}
-use Rattle.log.specs.Log.{code_in}
+use Rattle.worklog.specs.Log.{code_in}
 use Rattle.plan.specs.Turn.{Outcome, stored, passed, waiting, resting, refused, logged, opTurn, ready, turnAt}
 use Rattle.plan.proofs.Outcomes.{either, unlock-either}
 use Rattle.working.specs.World.{World}

@@ -1,5 +1,4 @@
 -- `asking::stands` meets its contract: the finished number, then the pc, then the section's number.
-use borrow.Author.Rules.{rules}
 use borrow.Author.Tests.{le-leb, lt-leb, eq-eqb, ne_eqb}
 use Rattle.asking.proofs.stands.Goals as goal
 
@@ -8,13 +7,10 @@ returns-then-number-read_field c = rw (← c.read_field.ensures, le-leb _ _ c.if
 
 pub returns-then-read_field-eq0 : goal.returns-then-read_field-eq0
 returns-then-read_field-eq0 c =
-    let c = c in
     rw (← c.read_field.ensures, lt-leb _ _ c.if-number-read_field.false, ← c.read_field-2.ensures, eq-eqb _ _ c.if-read_field-eq0.true)
 
 pub returns-then-read_field-number : goal.returns-then-read_field-number
 returns-then-read_field-number c =
-    let c = c in
-    let c = c in
     rw (
       ← c.read_field.ensures,
       lt-leb _ _ c.if-number-read_field.false,
@@ -26,8 +22,6 @@ returns-then-read_field-number c =
 
 pub returns : goal.returns
 returns c =
-    let c = c in
-    let c = c in
     rw (
       ← c.read_field.ensures,
       lt-leb _ _ c.if-number-read_field.false,

@@ -1,6 +1,5 @@
 -- `formatting::formattable` meets its contract: the three tests are the definition's, in the same order.
 use borrow.Author.Tests.{le-leb, lt-leb}
-use borrow.Author.Rules.{rules}
 use native.Mathlib.Omega.{arith}
 use Rattle.image.specs.Image.{length_of}
 use Rattle.formatting.specs.Format.{formattable}

@@ -1,5 +1,4 @@
 -- `formatting::image_words` meets its contract: its tests are the definition's, in the same order.
-use borrow.Author.Rules.{rules}
 use borrow.Author.Tests.{le-leb, lt-leb}
 use native.Mathlib.Omega.{arith}
 use Rattle.image.specs.Image.{length_of}

@@ -1,5 +1,4 @@
 -- `formatting::store_all` meets its contract: its stores are the definition's, one by one.
-use borrow.Author.Rules.{rules}
 use native.Mathlib.Omega.{arith}
 use Rattle.image.proofs.Apart.{length-ge}
 use Rattle.formatting.proofs.Formats.{formattable-true, format-stores}
@@ -7,30 +6,22 @@ use Rattle.formatting.proofs.store_all.Goals as goal
 
 pub overflow_sub-n : goal.overflow_sub-n
 overflow_sub-n c =
-    let c = c in
-    let c = c in
     let A = c.args in
     omega (arith, c.words-n.ensures, (formattable-true A.own A.image.now A.workers c.requires.1).2, length-ge A.own A.workers)
 
 pub clear-requires : goal.clear-requires
 clear-requires c =
-    let c = c in
-    let c = c in
-    let c = c in
     let A = c.args in
     let z = (formattable-true A.own A.image.now A.workers c.requires.1).2 in
     omega (arith, c.words-n.ensures, z, length-ge A.own A.workers, c.store-2.auto.image, c.store.auto.image)
 
 pub returns : goal.returns
 returns c =
-    let c = c in
-    let c = c in
-    let c = c in
-    let c = c in
-    let c = c in
     let A = c.args in
     let z = (formattable-true A.own A.image.now A.workers c.requires.1).2 in
-    let g = length-ge A.own A.workers in record { image = rw (
+    let g = length-ge A.own A.workers in
+    record {
+      image = rw (
         format-stores A.mark A.own A.left.now A.image.now A.workers,
         ← z,
         ← c.words-n.ensures,
@@ -41,4 +32,6 @@ returns c =
         ← c.clear.ensures.left,
         ← c.clear.ensures.image,
       )
-          c.store-3.ensures.image; left = omega (arith, c.words-n.ensures, c.store.ensures.left, c.store-2.ensures.left, c.clear.ensures.left, c.store-3.ensures.left) }
+          c.store-3.ensures.image;
+      left = omega (arith, c.words-n.ensures, c.store.ensures.left, c.store-2.ensures.left, c.clear.ensures.left, c.store-3.ensures.left);
+    }

@@ -15,6 +15,12 @@ returns-then-n-lt8 c =
     let A = c.args in
     sym (header-false A.mark A.own A.image.now (λ h. omega (arith, length-ge A.own (workers A.image.now))))
 
+pub returns-then-d-lt1 : goal.returns-then-d-lt1
+unfolding workers
+returns-then-d-lt1 c =
+    let A = c.args in
+    sym (header-false A.mark A.own A.image.now (λ h. ⊎_elim (λ e. omega arith) (λ e. omega arith) c.then-d-lt1.either))
+
 pub returns-then-n-record_at : goal.returns-then-n-record_at
 unfolding workers length_of
 returns-then-n-record_at c =

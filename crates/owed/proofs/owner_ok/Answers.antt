@@ -1,7 +1,6 @@
 -- `owed::owner_ok` meets its contract: 0, or the worker that the word names.
 use Prim.Native.Nat.{◌-◌}
 use borrow.Author.Tests.{lt-ltb, le-ltb}
-use borrow.Author.Rules.{rules}
 use native.Mathlib.Omega.{arith}
 use Rattle.image.specs.Image.{at, workers}
 use Rattle.image.proofs.Apart.{length-ge}

@@ -1,6 +1,5 @@
 -- `owed::set_logged` meets its contract: the two tests are the definition's.
 use borrow.Author.Tests.{eq-eqb, ne_eqb}
-use borrow.Author.Rules.{rules}
 use native.Mathlib.Omega.{arith}
 use Rattle.owed.proofs.set_logged.Goals as goal
 

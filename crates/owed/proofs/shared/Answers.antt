@@ -1,13 +1,9 @@
 -- `owed::shared` meets its contract. The loop's invariant: `once` has the locks that one of the first d sets has, and
 -- `twice` those that two of them have. The lowest of the latter is at its trailing zeros.
-use Prim.Native.Nat.{ℕ, ◌-◌, ◌≤◌}
-use borrow.Author.Rules.{rules}
 use borrow.Author.Tests.{ltb-true, ltb-false}
 use mathlib.Core.Path.{◌≡◌, sym, ◌∙◌}
 use native.Mathlib.Omega.{arith}
 use lib.Count.{trailing_le}
-use lib.Dec.{ltb}
-use Rattle.mask.specs.Mask.{has}
 use Rattle.owed.specs.Owed.{claimants}
 use Rattle.owed.specs.Inner.Shared.{sets_in}
 use Rattle.mask.proofs.Lowest.{low_below, low-has}

@@ -1,21 +1,16 @@
 -- `owed::shared` meets its contract. The loop's invariant: `once` has the locks that one of the first d sets has, and
 -- `twice` those that two of them have. The lowest of the latter is at its trailing zeros.
 use Prim.Native.Nat.{ℕ, ◌-◌, ◌≤◌}
-use borrow.Author.Rules.{rules}
-use borrow.Author.Tests.{ltb-true, ltb-false}
-use mathlib.Core.Path.{◌≡◌, sym, ◌∙◌}
-use native.Mathlib.Omega.{arith}
-use lib.Count.{trailing_le}
+use mathlib.Core.Path.{◌≡◌}
 use lib.Dec.{ltb}
 use Rattle.mask.specs.Mask.{has}
 use Rattle.owed.specs.Owed.{claimants}
 use Rattle.owed.specs.Inner.Shared.{sets_in}
-use Rattle.mask.proofs.Lowest.{low_below, low-has}
-use Rattle.owed.proofs.Sharing.{none_has, once-next, twice-next, shared-is}
 use Rattle.owed.proofs.shared.Given as goal
 
 abbrev pub invariant-loop-d : goal.invariant-loop-d
-invariant-loop-d l = (l.d ≤ l.n) × ((b : ℕ) → has l.once b ≡ ltb 0 (claimants (sets_in l.sets) b l.d)) × ((b : ℕ) → has l.twice b ≡ ltb 1 (claimants (sets_in l.sets) b l.d))
+invariant-loop-d l = (l.d ≤ l.n) × ((b : ℕ) → has l.once b ≡ ltb 0 (claimants (sets_in l.sets) b l.d))
+    × ((b : ℕ) → has l.twice b ≡ ltb 1 (claimants (sets_in l.sets) b l.d))
 
 abbrev pub decreases-loop-d : goal.decreases-loop-d
 decreases-loop-d l = l.n - l.d

@@ -1,10 +1,6 @@
 -- `owed::union` meets its contract. The loop's invariant: `all` is the union of the first d sets.
-use Prim.Native.Nat.{ℕ, ◌+◌, ◌-◌, ◌≤◌}
-use borrow.Author.Rules.{rules}
-use mathlib.Core.Path.{◌≡◌, refl}
-use native.Mathlib.Omega.{arith}
-use native.Mathlib.Numerals.{add-one}
-use lib.Bits.{bit_or}
+use Prim.Native.Nat.{◌-◌, ◌≤◌}
+use mathlib.Core.Path.{◌≡◌}
 use Rattle.mask.specs.Mask.{union}
 use Rattle.owed.specs.Inner.Shared.{sets_in}
 use Rattle.owed.proofs.union.Given as goal

@@ -1,5 +1,4 @@
 -- `plan::next` meets its contract: a cursor that is ready has the instruction's turn.
-use borrow.Author.Rules.{rules}
 use mathlib.Core.Path.{sym}
 use Rattle.plan.proofs.Planned.{ready-says, ready-fits, ready-op}
 use Rattle.plan.proofs.next.Goals as goal

@@ -1,7 +1,6 @@
 -- `plan::ready` meets its contract: the definition's tests in their order.
 use borrow.Author.Tests.{lt-leb, le-leb, le-ltb, lt-ltb}
-use borrow.Author.Rules.{rules}
-use Rattle.base.proofs.Bools.{denied, granted}
+use mathlib.Core.Path.{sym, ◌∙◌}
 use Rattle.plan.specs.Turn.{ready}
 use Rattle.plan.proofs.ready.Goals as goal
 
@@ -15,14 +14,7 @@ returns-then-k-gt64 c = simp (← c.read_field-k.ensures, le-leb _ _ c.if-k-lt3.
 
 pub returns-then-k-s : goal.returns-then-k-s
 unfolding ready
-returns-then-k-s c =
-    simp (
-      ← c.read_field-k.ensures,
-      le-leb _ _ c.if-k-lt3.false,
-      le-leb _ _ c.if-k-gt64.false,
-      le-ltb _ _
-          c.if-k-s.true,
-    )
+returns-then-k-s c = simp (← c.read_field-k.ensures, le-leb _ _ c.if-k-lt3.false, le-leb _ _ c.if-k-gt64.false, le-ltb _ _ c.if-k-s.true)
 
 pub returns-then-not-well_formed : goal.returns-then-not-well_formed
 unfolding ready
@@ -30,12 +22,10 @@ returns-then-not-well_formed c =
     simp (
       ← c.read_field-k.ensures,
       le-leb _ _ c.if-k-lt3.false,
-      le-leb _
-          _ c.if-k-gt64.false,
+      le-leb _ _ c.if-k-gt64.false,
       lt-ltb _ _ c.if-k-s.false,
       ← c.read_step-w.ensures,
-      denied
-          c.well_formed-2.ensures c.if-not-well_formed.true-raw,
+      sym c.well_formed-2.ensures ∙ c.if-not-well_formed.true,
     )
 
 pub returns : goal.returns
@@ -43,13 +33,10 @@ unfolding ready
 returns c =
     rw (
       ← c.read_field-k.ensures,
-      le-leb _ _
-          c.if-k-lt3.false,
+      le-leb _ _ c.if-k-lt3.false,
       le-leb _ _ c.if-k-gt64.false,
-      lt-ltb _ _
-          c.if-k-s.false,
+      lt-ltb _ _ c.if-k-s.false,
       ← c.read_step-w.ensures,
-      granted c.well_formed-2.ensures
-          c.if-not-well_formed.false-raw,
+      sym c.well_formed-2.ensures ∙ c.if-not-well_formed.false,
       ← c.turns.ensures,
     )

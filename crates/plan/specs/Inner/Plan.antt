@@ -4,8 +4,8 @@ use Rattle.std.specs.Prelude.{ℕ, cond, eqb}
 use Rattle.image.specs.Place.{Place, cell, lock, field, own, step}
 use Rattle.image.specs.Image.{index_of}
 use Rattle.working.specs.Cursor.{step_no, turn_no}
-use Rattle.log.specs.declared.Plan.{Plan}
-use Rattle.log.specs.declared.Plan.TheVariants.{Store, Take, Free, Pass, Wait}
+use Rattle.worklog.specs.declared.Plan.{Plan}
+use Rattle.worklog.specs.declared.Plan.TheVariants.{Store, Take, Free, Pass, Wait}
 use Rattle.plan.specs.Turn.{Outcome, stored, passed, waiting, resting, refused}
 
 -- a store of v at a place, with the step and turn after it

@@ -1,5 +1,4 @@
 -- `recovery::header_ok` meets its contract: an image that is right has its records' start, whatever its workers.
-use borrow.Author.Rules.{rules}
 use native.Mathlib.Omega.{arith}
 use mathlib.Core.Path.{sym}
 use Rattle.image.specs.Image.{record_at, length_of}

@@ -1,11 +1,10 @@
 -- `resuming::resumed_all` meets its contract. The loop's invariant: the first d elements of both arrays are the
 -- definition's. The locks held are the union of the sets given.
-use borrow.Author.Rules.{rules}
-use Prim.Native.Nat.{ℕ, ◌-◌, ◌≤◌, ◌<◌}
+use Prim.Native.Nat.{ℕ, ◌<◌}
 use mathlib.Core.Path.{◌≡◌, refl, ap, ap₂, ◌∙◌}
 use mathlib.Core.List.{List}
 use native.Mathlib.Omega.{arith}
-use lib.ListN.{length, get_or, length-set}
+use lib.ListN.{length, length-set}
 use Rattle.base.proofs.Filling.{filled_next}
 use Rattle.mask.specs.Mask.{union}
 use Rattle.image.specs.Image.{at, workers}

@@ -1,6 +1,5 @@
 -- `resuming::resumed_step` meets its contract: step 0 where the pc is 0, else the step that it names.
 use borrow.Author.Tests.{eq-eqb, ne_eqb}
-use borrow.Author.Rules.{rules}
 use native.Mathlib.Omega.{arith}
 use Rattle.image.specs.Image.{at}
 use Rattle.owed.specs.Owed.{namedStep}

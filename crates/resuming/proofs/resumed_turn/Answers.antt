@@ -1,7 +1,6 @@
 -- `resuming::resumed_turn` meets its contract: idle where the pc is 0, else the turn of the named instruction's
 -- target store.
 use borrow.Author.Tests.{eq-eqb, ne_eqb}
-use borrow.Author.Rules.{rules}
 use native.Mathlib.Omega.{arith}
 use Rattle.image.specs.Image.{at}
 use Rattle.owed.specs.Owed.{namedStep, namedOp}

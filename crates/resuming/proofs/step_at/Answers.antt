@@ -1,6 +1,5 @@
 -- `resuming::step_at` meets its contract, by whether the image has the worker.
 use borrow.Author.Tests.{lt-ltb, le-ltb}
-use borrow.Author.Rules.{rules}
 use Rattle.soundness.proofs.Legible.{inside}
 use Rattle.resuming.proofs.step_at.Goals as goal
 

@@ -1,11 +1,9 @@
 -- `rules::both_covered` meets its contract.
 use mathlib.Core.Path.{sym, ◌∙◌}
-use borrow.Author.Tests.{not-true, not-false}
-use borrow.Author.Rules.{rules}
 use Rattle.rules.proofs.both_covered.Goals as goal
 
 pub returns-then-not-covered : goal.returns-then-not-covered
-returns-then-not-covered c = simp (sym c.covered.ensures ∙ not-true c.covered.result c.if-not-covered.true-raw)
+returns-then-not-covered c = simp (sym c.covered.ensures ∙ c.if-not-covered.true)
 
 pub returns : goal.returns
-returns c = simp (sym c.covered.ensures ∙ not-false c.covered.result c.if-not-covered.false-raw) c.covered-2.ensures
+returns c = simp (sym c.covered.ensures ∙ c.if-not-covered.false) c.covered-2.ensures

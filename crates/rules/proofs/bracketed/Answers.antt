@@ -1,6 +1,5 @@
 -- `rules::bracketed` meets its contract.
 use borrow.Author.Tests.{eq-eqb, ne_eqb}
-use borrow.Author.Rules.{rules}
 use Rattle.rules.proofs.bracketed.Goals as goal
 
 pub returns-then-i-eq0 : goal.returns-then-i-eq0

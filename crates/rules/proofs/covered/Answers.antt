@@ -1,6 +1,5 @@
 -- `rules::covered` meets its contract: for a cell the shift is its lock's number.
 use borrow.Author.Tests.{leb-false}
-use borrow.Author.Rules.{rules}
 use Prim.Native.Nat.{ℕ, ◌/◌, ◌%◌, ◌<◌}
 use mathlib.Core.Path.{◌≡◌, refl, ap, ◌∙◌, sym}
 use mathlib.Core.Bool.{Bool, true, false, ◌||◌}

@@ -1,6 +1,4 @@
 -- `rules::ordered` meets its contract: each arm is the definition's case.
-use borrow.Author.Tests.{ltb-true}
-use borrow.Author.Rules.{rules}
 use Rattle.rules.proofs.ordered.Goals as goal
 
 pub returns-in-Release : goal.returns-in-Release

@@ -1,6 +1,5 @@
 -- `run::open_below` meets its contract: below none there is none open.
 use Prim.Native.Nat.{◌-◌}
-use borrow.Author.Rules.{rules}
 use mathlib.Core.Path.{◌≡◌, sym}
 use native.Mathlib.Omega.{arith}
 use Rattle.run.proofs.Idling.{to-zero}

@@ -1,14 +1,9 @@
 -- `run::open_to` meets its contract. The loop's invariant: the workers from k on are idle, so that the last open
 -- one of all is the last open one below k.
-use Prim.Native.Nat.{◌+◌, ◌-◌, ◌<◌, ◌≤◌}
-use borrow.Author.Rules.{rules}
-use mathlib.Core.Path.{◌≡◌, refl, sym, ◌∙◌}
-use native.Mathlib.Omega.{arith}
-use lib.ListN.{length}
+use Prim.Native.Nat.{◌≤◌}
+use mathlib.Core.Path.{◌≡◌}
 use Rattle.working.specs.declared.Cursors.{Cursors}
 use Rattle.run.specs.Run.{open_to}
-use Rattle.working.proofs.Placed.{idle-turn, open_turn}
-use Rattle.run.proofs.Idling.{to-zero, to-here, to_below}
 use Rattle.run.proofs.open_to.Given as goal
 
 abbrev pub invariant-loop-k : goal.invariant-loop-k

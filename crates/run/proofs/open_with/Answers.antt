@@ -1,5 +1,4 @@
 -- `run::open_with` meets its contract: turn 255 is idle.
-use borrow.Author.Rules.{rules}
 use borrow.Author.Tests.{eq-eqb, ne_eqb}
 use Rattle.run.proofs.open_with.Goals as goal
 

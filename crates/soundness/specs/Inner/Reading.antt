@@ -5,7 +5,7 @@ use Rattle.image.specs.Place.{field, Memory}
 use Rattle.image.specs.Image.{Image, length_of, at, workers}
 use Rattle.code.specs.Form.{in_range}
 use Rattle.section.specs.Check.{Code, held_before}
-use Rattle.log.specs.Log.{code_in}
+use Rattle.worklog.specs.Log.{code_in}
 use Rattle.owed.specs.Owed.{namedStep}
 use Rattle.soundness.specs.Sound.{eight, owed_at}
 

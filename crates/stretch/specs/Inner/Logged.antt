@@ -3,7 +3,7 @@ use Rattle.std.specs.Prelude.{ℕ, ◌-◌}
 use Rattle.image.specs.declared.Field.TheVariants.{Pc}
 use Rattle.image.specs.Place.{field}
 use Rattle.image.specs.Image.{Image, index_of, at, put}
-use Rattle.log.specs.Log.{spareAddr, spareVal, switched}
+use Rattle.worklog.specs.Log.{spareAddr, spareVal, switched}
 
 -- the image after the stores of v at index i for worker d at step s, with so many stores left before them: address, value, pc, target. What they store is
 -- read before the first of them. n: own words in a record

@@ -6,7 +6,7 @@ use Rattle.image.specs.Image.{Image, index_of, at, put}
 use Rattle.image.specs.Inner.Inside.{Inside}
 use Rattle.code.specs.declared.Op.{Op}
 use Rattle.code.specs.Op.{op_of}
-use Rattle.log.specs.Log.{code_in}
+use Rattle.worklog.specs.Log.{code_in}
 use Rattle.tally.specs.declared.Tally.{Tally}
 use Rattle.tally.specs.declared.Passes.{Passes}
 use Rattle.tally.specs.Inner.Passes.{passed, with_turns}

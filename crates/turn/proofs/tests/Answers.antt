@@ -1,8 +1,6 @@
 -- `turn::tests` meets its contract: the header's test, then the worker's number, then the worker's own.
-use borrow.Author.Rules.{rules}
 use Prim.Native.Nat.{◌≤◌, ◌<◌}
 use mathlib.Core.Path.{sym, ap, ◌∙◌}
-use Rattle.base.proofs.Bools.{denied, granted}
 use Rattle.image.specs.Image.{workers}
 use Rattle.image.proofs.Header.{header-inside}
 use Rattle.working.specs.World.{world}
@@ -14,20 +12,20 @@ pub returns-then-not-header_ok : goal.returns-then-not-header_ok
 returns-then-not-header_ok c =
     λ k.
     let A = c.args in
-    rw (no_header A.mark A.own (world A.image.now A.c k) A.d (denied c.header_ok.ensures c.if-not-header_ok.true-raw))
+    rw (no_header A.mark A.own (world A.image.now A.c k) A.d (sym c.header_ok.ensures ∙ c.if-not-header_ok.true))
 
 pub returns-then-workers-d : goal.returns-then-workers-d
 returns-then-workers-d c =
     λ k.
     let A = c.args in
-    let h = granted c.header_ok.ensures c.if-not-header_ok.false-raw in
+    let h = sym c.header_ok.ensures ∙ c.if-not-header_ok.false in
     let b : workers A.image.now ≤ A.d = rw c.workers.ensures at c.if-workers-d.true in
     rw (no-worker A.mark A.own (world A.image.now A.c k) A.d h b)
 
 pub worker_tests-requires : goal.worker_tests-requires
 worker_tests-requires c =
     let A = c.args in
-    let h = granted c.header_ok.ensures c.if-not-header_ok.false-raw in
+    let h = sym c.header_ok.ensures ∙ c.if-not-header_ok.false in
     let b : A.d < workers A.image.now = rw c.workers.ensures at c.if-workers-d.false in
     header-inside A.mark A.own A.image.now A.d c.requires h b
 
@@ -35,6 +33,6 @@ pub returns : goal.returns
 returns c =
     λ k.
     let A = c.args in
-    let h = granted c.header_ok.ensures c.if-not-header_ok.false-raw in
+    let h = sym c.header_ok.ensures ∙ c.if-not-header_ok.false in
     let b : A.d < workers A.image.now = rw c.workers.ensures at c.if-workers-d.false in
     c.worker_tests.ensures k ∙ ap gate_of (sym (a_turn A.mark A.own (world A.image.now A.c k) A.d h b))

@@ -1,5 +1,4 @@
 -- `turn::told` meets its contract: the answer and the record are those of what was done.
-use borrow.Author.Rules.{rules}
 use Rattle.turn.proofs.told.Goals as goal
 
 pub returns : goal.returns

@@ -1,6 +1,5 @@
 -- `turn::turn_on` meets its contract: a worker that is ready is open, the plan is the outcome's, and what is done of
 -- it is what the outcome leaves.
-use borrow.Author.Rules.{rules}
 use Rattle.turn.proofs.Ready.{plan-lock, plan-acts}
 use Rattle.turn.proofs.turn_on.Goals as goal
 
@@ -10,4 +9,5 @@ done-requires c = plan-lock _ _ _ _ _ _ c.next-p.ensures
 pub returns : goal.returns
 returns c =
     let r = c.done.ensures in
-    record { lock = (plan-acts _ _ _ _ _ _ c.next-p.ensures _ _ _ _ c.requires.1 r.did r.after).0; acts = (plan-acts _ _ _ _ _ _ c.next-p.ensures _ _ _ _ c.requires.1 r.did r.after).1 }
+    let h = plan-acts _ _ _ _ _ _ c.next-p.ensures _ _ _ _ c.requires.1 r.did r.after in
+    record { lock = h.0; acts = h.1 }

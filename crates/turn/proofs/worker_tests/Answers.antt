@@ -4,7 +4,6 @@ use Prim.Native.Nat.{◌<◌}
 use mathlib.Core.Path.{◌≡◌, sym, ◌∙◌}
 use native.Mathlib.Omega.{arith}
 use lib.ListN.{length}
-use Rattle.base.proofs.Bools.{denied, granted}
 use Rattle.working.specs.World.{world}
 use Rattle.turn.specs.Call.{outcome_at}
 use Rattle.working.proofs.Placed.{Full, open-not}
@@ -26,7 +25,7 @@ returns-then-not-ready c =
     let f : Full A.c = record { steps = p; turns = q } in
     let l : A.d < 8 = omega (arith, c.requires.below, c.requires.most) in
     let o = open-not A.c A.d (rw q l) (sym c.idle.ensures ∙ c.if-idle.false) in
-    rw (refused-at A.own (world A.image.now A.c k) A.d f l o (denied c.ready.ensures c.if-not-ready.true-raw))
+    rw (refused-at A.own (world A.image.now A.c k) A.d f l o (sym c.ready.ensures ∙ c.if-not-ready.true))
 
 pub returns : goal.returns
 returns c =
@@ -36,5 +35,5 @@ returns c =
     let q : length A.c.turn ≡ 8 = search rules in
     let f : Full A.c = record { steps = p; turns = q } in
     let w = world A.image.now A.c k in
-    let made = made_at A.own w A.d f (omega (arith, c.requires.below, c.requires.most)) (granted c.ready.ensures c.if-not-ready.false-raw) in
+    let made = made_at A.own w A.d f (omega (arith, c.requires.below, c.requires.most)) (sym c.ready.ensures ∙ c.if-not-ready.false) in
     sym (made-gate A.own (outcome_at A.own w A.d) made)

@@ -6,8 +6,8 @@ use Rattle.image.specs.Image.{Image, index_of, at, put}
 use Rattle.working.specs.declared.Cursors.{Cursors}
 use Rattle.working.specs.Cursor.{set_at, holding}
 use Rattle.working.specs.World.{World, world}
-use Rattle.log.specs.declared.Plan.{Plan}
-use Rattle.log.specs.declared.Plan.TheVariants.{Store, Take, Free, Pass, Wait}
+use Rattle.worklog.specs.declared.Plan.{Plan}
+use Rattle.worklog.specs.declared.Plan.TheVariants.{Store, Take, Free, Pass, Wait}
 use Rattle.plan.specs.Turn.{Outcome, stored, passed, waiting, resting, refused, ready}
 use Rattle.plan.specs.Inner.Plan.{plan_of}
 use Rattle.turn.specs.declared.Gate.{Gate}

@@ -1,11 +1,6 @@
 -- `frames::digits::all_digits` meets its contract. The loop's invariant: the rest of the line decides.
-use borrow.Author.Rules.{rules}
 use native.Mathlib.Omega.{arith}
-use Prim.Native.Nat.{◌≤◌, ◌-◌}
-use mathlib.Core.Path.{◌≡◌, refl, sym, ◌∙◌}
-use lib.ListN.{length, drop}
-use Rattle.base.proofs.Bools.{denied, granted}
-use Rattle.frames.specs.Hex.{all_hex}
+use mathlib.Core.Path.{refl, sym, ◌∙◌}
 use Rattle.frames.proofs.Numbers.{all-step, all-fails, all_end}
 use Rattle.frames.proofs.digits.all_digits.Goals as goal
 
@@ -13,10 +8,10 @@ pub loop-i-init : goal.loop-i-init
 loop-i-init c = (omega arith, refl)
 
 pub returns-then-not-is_digit : goal.returns-then-not-is_digit
-returns-then-not-is_digit c = sym (sym c.loop-i.invariant.1 ∙ all-fails _ c.loop-i.i (omega arith) (denied c.is_digit.ensures c.if-not-is_digit.true-raw))
+returns-then-not-is_digit c = sym (sym c.loop-i.invariant.1 ∙ all-fails _ c.loop-i.i (omega arith) (sym c.is_digit.ensures ∙ c.if-not-is_digit.true))
 
 pub loop-i-preserved : goal.loop-i-preserved
-loop-i-preserved c = (omega arith, all-step _ c.loop-i.i (omega arith) (granted c.is_digit.ensures c.if-not-is_digit.false-raw) ∙ c.loop-i.invariant.1)
+loop-i-preserved c = (omega arith, all-step _ c.loop-i.i (omega arith) (sym c.is_digit.ensures ∙ c.if-not-is_digit.false) ∙ c.loop-i.invariant.1)
 
 pub returns : goal.returns
 returns c = sym (sym c.loop-i.invariant.1 ∙ all_end _ c.loop-i.i c.loop-i-test.false)

@@ -1,5 +1,4 @@
 -- `frames::digits::digit` meets its contract: its tests are the definition's, in the same order.
-use borrow.Author.Rules.{rules}
 use borrow.Author.Tests.{lt-ltb, le-ltb, le-leb, lt-leb}
 use native.Mathlib.Omega.{arith}
 use Rattle.frames.specs.Hex.{hex_of}
@@ -20,21 +19,27 @@ returns-then-b-lt97 c = record { value = simp (le-ltb _ _ c.if-b-lt48.false, lt-
 pub returns-then-b-le102 : goal.returns-then-b-le102
 unfolding hex_of
 returns-then-b-le102 c =
-    record { value = simp (
-    le-ltb _ _ c.if-b-lt48.false,
-    lt-leb _ _ c.if-b-le57.false,
-    le-ltb _ _ c.if-b-lt97.false,
-    le-leb _ _
-        c.if-b-le102.true,
-  ); bound = omega arith }
+    record {
+      value = simp (
+        le-ltb _ _ c.if-b-lt48.false,
+        lt-leb _ _ c.if-b-le57.false,
+        le-ltb _ _ c.if-b-lt97.false,
+        le-leb _ _
+            c.if-b-le102.true,
+      );
+      bound = omega arith;
+    }
 
 pub returns : goal.returns
 unfolding hex_of
 returns c =
-    record { value = simp (
-    le-ltb _ _ c.if-b-lt48.false,
-    lt-leb _ _ c.if-b-le57.false,
-    le-ltb _ _ c.if-b-lt97.false,
-    lt-leb _ _
-        c.if-b-le102.false,
-  ); bound = omega arith }
+    record {
+      value = simp (
+        le-ltb _ _ c.if-b-lt48.false,
+        lt-leb _ _ c.if-b-le57.false,
+        le-ltb _ _ c.if-b-lt97.false,
+        lt-leb _ _
+            c.if-b-le102.false,
+      );
+      bound = omega arith;
+    }

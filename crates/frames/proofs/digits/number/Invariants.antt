@@ -1,11 +1,8 @@
 -- `frames::digits::number` meets its contract. The loop's invariant: the number so far has as many digits as were read, and with
 -- the digits that are left it is the whole.
-use borrow.Author.Rules.{rules}
-use native.Mathlib.Omega.{arith}
 use Prim.Native.Nat.{◌≤◌, ◌<◌, ◌-◌, ◌+◌, ◌^◌}
 use mathlib.Core.Path.{◌≡◌}
 use Rattle.frames.specs.Hex.{hex_from, hex_at}
-use Rattle.frames.proofs.Numbers.{grows, room, from_step, from-none, from_all}
 use Rattle.frames.proofs.digits.number.Given as goal
 
 abbrev pub invariant-loop-i : goal.invariant-loop-i

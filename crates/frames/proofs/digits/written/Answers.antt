@@ -1,5 +1,4 @@
 -- `frames::digits::written` meets its contract.
-use borrow.Author.Rules.{rules}
 use borrow.Author.Tests.{lt-ltb, le-ltb}
 use Rattle.frames.specs.Hex.{digit_of}
 use Rattle.frames.proofs.digits.written.Goals as goal

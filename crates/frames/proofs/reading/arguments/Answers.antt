@@ -1,5 +1,4 @@
 -- `frames::reading::arguments` meets its contract.
-use borrow.Author.Rules.{rules}
 use Rattle.frames.proofs.reading.arguments.Goals as goal
 
 pub returns : goal.returns

@@ -1,7 +1,6 @@
 -- `frames::reading::first` meets its contract: its tests are the definition's, in the same order.
-use borrow.Author.Rules.{rules}
+use mathlib.Core.Path.{sym, ◌∙◌}
 use borrow.Author.Tests.{eq-eqb, ne_eqb}
-use Rattle.base.proofs.Bools.{denied, granted}
 use Rattle.frames.specs.Line.{first_of}
 use Rattle.frames.proofs.reading.first.Goals as goal
 
@@ -11,8 +10,8 @@ returns-then-line-ne2 c = rw (ne_eqb _ 2 c.if-line-ne2.true)
 
 pub returns-then-not-all_digits : goal.returns-then-not-all_digits
 unfolding first_of
-returns-then-not-all_digits c = rw (eq-eqb _ 2 c.if-line-ne2.false, denied c.all_digits.ensures c.if-not-all_digits.true-raw)
+returns-then-not-all_digits c = rw (eq-eqb _ 2 c.if-line-ne2.false, sym c.all_digits.ensures ∙ c.if-not-all_digits.true)
 
 pub returns : goal.returns
 unfolding first_of
-returns c = rw (eq-eqb _ 2 c.if-line-ne2.false, granted c.all_digits.ensures c.if-not-all_digits.false-raw, ← c.number.ensures)
+returns c = rw (eq-eqb _ 2 c.if-line-ne2.false, sym c.all_digits.ensures ∙ c.if-not-all_digits.false, ← c.number.ensures)

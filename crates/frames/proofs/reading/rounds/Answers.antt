@@ -1,5 +1,4 @@
 -- `frames::reading::rounds` meets its contract.
-use borrow.Author.Rules.{rules}
 use borrow.Author.Tests.{eq-eqb, ne_eqb}
 use Rattle.frames.specs.Line.{rounds_frame}
 use Rattle.frames.proofs.reading.rounds.Goals as goal

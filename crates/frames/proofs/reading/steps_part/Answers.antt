@@ -1,5 +1,4 @@
 -- `frames::reading::steps_part` meets its contract: of a line that is shorter nothing is left after 148 digits.
-use borrow.Author.Rules.{rules}
 use native.Mathlib.Omega.{arith}
 use mathlib.Core.Path.{sym}
 use Prim.Native.Nat.{◌-◌}

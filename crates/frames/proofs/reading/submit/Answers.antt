@@ -1,5 +1,4 @@
 -- `frames::reading::submit` meets its contract: its tests are the definition's, in the same order.
-use borrow.Author.Rules.{rules}
 use borrow.Author.Tests.{eq-eqb, ne_eqb, lt-ltb, le-ltb}
 use Rattle.frames.specs.Line.{submit_frame}
 use Rattle.frames.proofs.reading.submit.Goals as goal

@@ -1,5 +1,4 @@
 -- `frames::reading::turns` meets its contract.
-use borrow.Author.Rules.{rules}
 use borrow.Author.Tests.{eq-eqb, ne_eqb}
 use Rattle.frames.specs.Line.{turns_frame}
 use Rattle.frames.proofs.reading.turns.Goals as goal

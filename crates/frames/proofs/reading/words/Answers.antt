@@ -1,13 +1,11 @@
 -- `frames::reading::words` meets its contract. The loop's invariant: the words put so far, and those that are left, are the whole, and what is
 -- behind them is as it was.
-use borrow.Author.Rules.{rules}
 use native.Mathlib.Omega.{arith}
-use Prim.Native.Nat.{◌≤◌, ◌<◌, ◌-◌, ◌/◌}
+use Prim.Native.Nat.{◌<◌, ◌/◌}
 use mathlib.Core.Path.{◌≡◌, refl, sym, ◌∙◌}
-use mathlib.Core.List.{◌++◌}
-use lib.ListN.{length, take, drop, length-set, take-append-drop}
+use lib.ListN.{length, take, length-set, take-append-drop}
 use lib.Seq.{drop-set-lt}
-use Rattle.frames.specs.Line.{words_from, words_of}
+use Rattle.frames.specs.Line.{words_of}
 use Rattle.frames.proofs.Numbers.{words_step, words-end, words-all}
 use Rattle.frames.proofs.reading.words.Goals as goal
 
@@ -36,4 +34,5 @@ returns c =
     let p = c.args.part.now in
     let n = length p / 16 in
     let e : L.i ≡ n = omega arith in
-    let w : take n L.out ≡ words_of p = rw e at (sym (words-end p n L.out L.i c.loop-i-test.false) ∙ L.invariant.2) in record { count = refl; words = rw (← w, ← L.invariant.3) (sym (take-append-drop n L.out)) }
+    let w : take n L.out ≡ words_of p = rw e at (sym (words-end p n L.out L.i c.loop-i-test.false) ∙ L.invariant.2) in
+    record { count = refl; words = rw (← w, ← L.invariant.3) (sym (take-append-drop n L.out)) }

@@ -1,14 +1,10 @@
 -- `frames::reading::words` meets its contract. The loop's invariant: the words put so far, and those that are left, are the whole, and what is
 -- behind them is as it was.
-use borrow.Author.Rules.{rules}
-use native.Mathlib.Omega.{arith}
-use Prim.Native.Nat.{◌≤◌, ◌<◌, ◌-◌, ◌/◌}
-use mathlib.Core.Path.{◌≡◌, refl, sym, ◌∙◌}
+use Prim.Native.Nat.{◌≤◌, ◌-◌, ◌/◌}
+use mathlib.Core.Path.{◌≡◌}
 use mathlib.Core.List.{◌++◌}
-use lib.ListN.{length, take, drop, length-set, take-append-drop}
-use lib.Seq.{drop-set-lt}
+use lib.ListN.{length, take, drop}
 use Rattle.frames.specs.Line.{words_from, words_of}
-use Rattle.frames.proofs.Numbers.{words_step, words-end, words-all}
 use Rattle.frames.proofs.reading.words.Given as goal
 
 abbrev pub invariant-loop-i : goal.invariant-loop-i

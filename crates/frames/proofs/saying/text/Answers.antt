@@ -1,5 +1,4 @@
 -- `frames::saying::text` meets its contract, digit by digit.
-use borrow.Author.Rules.{rules}
 use Rattle.frames.proofs.saying.text.Goals as goal
 
 pub returns : goal.returns

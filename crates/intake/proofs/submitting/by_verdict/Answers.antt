@@ -1,5 +1,4 @@
 -- `intake::submitting::by_verdict` meets its contract, by the variants of the verdict.
-use borrow.Author.Rules.{rules}
 use mathlib.Core.Bool.{false, true≢false}
 use mathlib.Core.Path.{◌≡◌, refl, sym, ◌∙◌}
 use Rattle.section.specs.declared.Verdict.{Verdict}

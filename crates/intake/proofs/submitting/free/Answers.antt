@@ -1,27 +1,26 @@
 -- `intake::submitting::free` meets its contract: the three tests are the definition's, in the same order.
+use mathlib.Core.Path.{sym, ◌∙◌}
 use borrow.Author.Tests.{eq-eqb, ne_eqb}
-use borrow.Author.Rules.{rules}
 use native.Mathlib.Omega.{arith}
-use Rattle.base.proofs.Bools.{denied, granted}
 use Rattle.intake.specs.Submit.{free}
 use Rattle.intake.proofs.submitting.free.Goals as goal
 
 pub returns-then-not-idle : goal.returns-then-not-idle
 unfolding free
-returns-then-not-idle c = λ k. rw (denied c.idle.ensures c.if-not-idle.true-raw)
+returns-then-not-idle c = λ k. rw (sym c.idle.ensures ∙ c.if-not-idle.true)
 
 pub returns-then-read_field-ne0 : goal.returns-then-read_field-ne0
 unfolding free
 returns-then-read_field-ne0 c =
     λ k.
-    rw (granted c.idle.ensures c.if-not-idle.false-raw, ← c.read_field.ensures, ne_eqb c.read_field.result 0 (λ e. omega arith))
+    rw (sym c.idle.ensures ∙ c.if-not-idle.false, ← c.read_field.ensures, ne_eqb c.read_field.result 0 (λ e. omega arith))
 
 pub returns : goal.returns
 unfolding free
 returns c =
     λ k.
     rw (
-      granted c.idle.ensures c.if-not-idle.false-raw,
+      sym c.idle.ensures ∙ c.if-not-idle.false,
       ← c.read_field.ensures,
       ← c.read_field-2.ensures,
       eq-eqb c.read_field.result 0 (omega arith),

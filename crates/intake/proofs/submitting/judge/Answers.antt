@@ -1,8 +1,6 @@
 -- `intake::submitting::judge` meets its contract: a submit's answer is divided in the tests before the check and the check.
-use borrow.Author.Rules.{rules}
-use mathlib.Core.Path.{◌≡◌}
+use mathlib.Core.Path.{◌≡◌, sym, ◌∙◌}
 use mathlib.Core.Bool.{true, false}
-use Rattle.base.proofs.Bools.{denied, granted}
 use Rattle.working.specs.World.{world}
 use Rattle.intake.specs.Submit.{is_taken}
 use Rattle.intake.specs.Split.{before_check}
@@ -15,7 +13,7 @@ returns-then-not-taken c =
     let A = c.args in
     let w = world A.image.now A.c k in
     let e = c.before_check-a.ensures k in
-    let r : is_taken (before_check A.mark A.own w A.d A.number) ≡ false = rw (← e) (denied c.taken.ensures c.if-not-taken.true-raw) in
+    let r : is_taken (before_check A.mark A.own w A.d A.number) ≡ false = rw (← e) (sym c.taken.ensures ∙ c.if-not-taken.true) in
     rw (answers-before A.mark A.own w A.d A.number A.words.now r) e
 
 pub returns : goal.returns
@@ -24,5 +22,5 @@ returns c =
     let A = c.args in
     let w = world A.image.now A.c k in
     let b = c.before_check-a.ensures k in
-    let r : is_taken (before_check A.mark A.own w A.d A.number) ≡ true = rw (← b) (granted c.taken.ensures c.if-not-taken.false-raw) in
+    let r : is_taken (before_check A.mark A.own w A.d A.number) ≡ true = rw (← b) (sym c.taken.ensures ∙ c.if-not-taken.false) in
     rw (answers-behind A.mark A.own w A.d A.number A.words.now r, ← c.check.ensures) c.by_verdict.ensures

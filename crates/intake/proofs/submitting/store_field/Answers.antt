@@ -1,5 +1,4 @@
 -- `intake::submitting::store_field` meets its contract: a store at the field's index.
-use borrow.Author.Rules.{rules}
 use Rattle.intake.proofs.submitting.store_field.Goals as goal
 
 pub returns : goal.returns

@@ -1,14 +1,10 @@
 -- `ahead::span_from` meets its contract. The loop's invariant: from step i on both arrays have what the steps need, and behind the last step 0. The
 -- steps that one leads to stand behind it (`reached`), and no step needs more than six turns for each that is left, so the sums fit.
-use Prim.Native.Nat.{ℕ, suc, ◌+◌, ◌-◌, ◌<◌, ◌≤◌}
-use borrow.Author.Rules.{rules}
-use mathlib.Core.Path.{◌≡◌, refl, sym, ◌∙◌}
-use native.Mathlib.Omega.{arith}
-use lib.ListN.{length, get_or, length-set}
+use Prim.Native.Nat.{ℕ, ◌≤◌}
+use mathlib.Core.Path.{◌≡◌}
+use lib.ListN.{length, get_or}
 use Rattle.section.specs.Check.{code_of}
 use Rattle.needs.specs.From.{lesser, larger, needs_by}
-use Rattle.needs.proofs.Unrolled.{needs-end, fewest-most, most-most}
-use Rattle.needs.proofs.Pass.{Reached, reached-other, summed, lesser-same, larger-same, same_at, filled-back}
 use Rattle.needs.proofs.ahead.span_from.Given as goal
 
 abbrev pub invariant-loop-i : goal.invariant-loop-i

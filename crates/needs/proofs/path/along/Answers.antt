@@ -1,15 +1,11 @@
 -- `path::along` meets its contract. The loop's invariant: with the turns so far, the steps of the path from k on give the whole path's answer. A
 -- step has at most six turns, so the sum fits.
-use Prim.Native.Nat.{◌*◌, ◌-◌, ◌≤◌}
-use borrow.Author.Rules.{rules}
-use mathlib.Core.Path.{◌≡◌, sym, ◌∙◌}
+use mathlib.Core.Path.{sym, ◌∙◌}
 use native.Mathlib.Omega.{arith}
-use lib.ListN.{length, drop, get_or}
-use Rattle.base.proofs.Bools.{denied, granted}
+use lib.ListN.{length, get_or}
 use Rattle.code.proofs.Ranges.{turns-most}
 use Rattle.section.specs.Check.{code_of}
-use Rattle.needs.specs.Path.{along_of}
-use Rattle.needs.proofs.Steps.{alongFrom, along-all, along-stops, along-goes, along-ends, step-inside}
+use Rattle.needs.proofs.Steps.{along-all, along-stops, along-goes, along-ends, step-inside}
 use Rattle.needs.proofs.path.along.Goals as goal
 
 pub loop-k-init : goal.loop-k-init
@@ -23,7 +19,7 @@ returns-then-not-step_ok c =
     let L = c.loop-k in
     let A = c.args in
     let w = A.words.now in
-    let no = denied c.step_ok.ensures c.if-not-step_ok.true-raw in
+    let no = sym c.step_ok.ensures ∙ c.if-not-step_ok.true in
     sym (along-stops A.own (length w) (code_of w) A.path.now L.turns L.k c.loop-k-test.true no) ∙ L.invariant.2
 
 pub offset_bounds-words-i : goal.offset_bounds-words-i
@@ -31,7 +27,7 @@ offset_bounds-words-i c =
     let L = c.loop-k in
     let A = c.args in
     let w = A.words.now in
-    let l = step-inside A.own (length w) (code_of w) (get_or A.path.now L.k 0) (granted c.step_ok.ensures c.if-not-step_ok.false-raw) in
+    let l = step-inside A.own (length w) (code_of w) (get_or A.path.now L.k 0) (sym c.step_ok.ensures ∙ c.if-not-step_ok.false) in
     omega (arith, l)
 
 pub bounds-words-i : goal.bounds-words-i
@@ -39,7 +35,7 @@ bounds-words-i c =
     let L = c.loop-k in
     let A = c.args in
     let w = A.words.now in
-    step-inside A.own (length w) (code_of w) (get_or A.path.now L.k 0) (granted c.step_ok.ensures c.if-not-step_ok.false-raw)
+    step-inside A.own (length w) (code_of w) (get_or A.path.now L.k 0) (sym c.step_ok.ensures ∙ c.if-not-step_ok.false)
 
 pub overflow_add-turns : goal.overflow_add-turns
 overflow_add-turns c =
@@ -54,7 +50,7 @@ loop-k-preserved c =
     let w = A.words.now in
     let i = get_or A.path.now L.k 0 in
     let few = turns-most (get_or w i 0) in
-    let yes = granted c.step_ok.ensures c.if-not-step_ok.false-raw in
+    let yes = sym c.step_ok.ensures ∙ c.if-not-step_ok.false in
     let on = along-goes A.own (length w) (code_of w) A.path.now L.turns L.k c.turns-turns.result c.loop-k-test.true yes c.turns-turns.ensures in
     (omega arith, omega (arith, c.turns-turns.ensures, few), sym on ∙ L.invariant.2)
 

@@ -1,15 +1,11 @@
 -- `path::along` meets its contract. The loop's invariant: with the turns so far, the steps of the path from k on give the whole path's answer. A
 -- step has at most six turns, so the sum fits.
 use Prim.Native.Nat.{◌*◌, ◌-◌, ◌≤◌}
-use borrow.Author.Rules.{rules}
-use mathlib.Core.Path.{◌≡◌, sym, ◌∙◌}
-use native.Mathlib.Omega.{arith}
-use lib.ListN.{length, drop, get_or}
-use Rattle.base.proofs.Bools.{denied, granted}
-use Rattle.code.proofs.Ranges.{turns-most}
+use mathlib.Core.Path.{◌≡◌}
+use lib.ListN.{length, drop}
 use Rattle.section.specs.Check.{code_of}
 use Rattle.needs.specs.Path.{along_of}
-use Rattle.needs.proofs.Steps.{alongFrom, along-all, along-stops, along-goes, along-ends, step-inside}
+use Rattle.needs.proofs.Steps.{alongFrom}
 use Rattle.needs.proofs.path.along.Given as goal
 
 abbrev pub invariant-loop-k : goal.invariant-loop-k

@@ -1,5 +1,4 @@
 -- `path::step_ok` meets its contract: first whether there is such a step, then cause 5.
-use borrow.Author.Rules.{rules}
 use lib.ListN.{length}
 use Rattle.section.specs.Check.{code_of}
 use Rattle.needs.proofs.Steps.{step_past, step-formed}

@@ -1,6 +1,5 @@
 -- `record::span_in` meets its contract: the words loaded need what the record's do.
 use Prim.Native.Nat.{◌≤◌}
-use borrow.Author.Rules.{rules}
 use mathlib.Core.Path.{sym, ◌∙◌}
 use native.Mathlib.Omega.{arith}
 use Rattle.soundness.proofs.Loaded.{first-fit, first-length}
@@ -23,4 +22,8 @@ pub returns : goal.returns
 returns c =
     let A = c.args in
     let e = c.load_steps.ensures in
-    let h : A.k ≤ 64 = omega arith in record { fewest = c.span_from.ensures.fewest ∙ first-needs _ _ A.k _ e h lesser A.from; most = c.span_from.ensures.most ∙ first-needs _ _ A.k _ e h larger A.from }
+    let h : A.k ≤ 64 = omega arith in
+    record {
+      fewest = c.span_from.ensures.fewest ∙ first-needs _ _ A.k _ e h lesser A.from;
+      most = c.span_from.ensures.most ∙ first-needs _ _ A.k _ e h larger A.from;
+    }

@@ -1,5 +1,4 @@
 -- `plan::steps::acquire_turn` meets its contract: turn 0, turn 1, and from turn 2 on a logged store.
-use borrow.Author.Rules.{rules}
 use Rattle.plan.proofs.Planned.{acquire-plan}
 use Rattle.plan.proofs.steps.acquire_turn.Goals as goal
 

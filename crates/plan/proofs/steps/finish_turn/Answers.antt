@@ -1,5 +1,4 @@
 -- `plan::steps::finish_turn` meets its contract: number, pc, and the count last.
-use borrow.Author.Rules.{rules}
 use Rattle.image.specs.Image.{at}
 use Rattle.plan.proofs.Planned.{finish-last}
 use Rattle.plan.proofs.steps.finish_turn.Goals as goal

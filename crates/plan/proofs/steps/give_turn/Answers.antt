@@ -1,6 +1,5 @@
 -- `plan::steps::give_turn` meets its contract: from turn 4 on a release is the lock, then the intent.
 use borrow.Author.Tests.{le-ltb, eq-eqb, ne_eqb}
-use borrow.Author.Rules.{rules}
 use Rattle.plan.proofs.steps.give_turn.Goals as goal
 
 pub returns-then-t-eq4 : goal.returns-then-t-eq4

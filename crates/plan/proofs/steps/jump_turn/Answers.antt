@@ -1,6 +1,5 @@
 -- `plan::steps::jump_turn` meets its contract, at every turn.
 use borrow.Author.Tests.{eq-eqb, ne_eqb}
-use borrow.Author.Rules.{rules}
 use Rattle.plan.proofs.steps.jump_turn.Goals as goal
 
 pub returns-then-word-eq0 : goal.returns-then-word-eq0

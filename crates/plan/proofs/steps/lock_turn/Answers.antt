@@ -1,7 +1,6 @@
 -- `plan::steps::lock_turn` meets its contract: the lock is free, or it is waited for.
 use native.Mathlib.Omega.{arith}
 use borrow.Author.Tests.{eq-eqb, ne_eqb}
-use borrow.Author.Rules.{rules}
 use Prim.Native.Nat.{◌+◌}
 use Rattle.image.proofs.Stores.{inside-front}
 use Rattle.plan.proofs.steps.lock_turn.Goals as goal

@@ -1,7 +1,5 @@
 -- `plan::steps::unlock_turn` meets its contract: an arm a report.
-use borrow.Author.Rules.{rules}
 use Rattle.image.proofs.Stores.{inside-front}
-use mathlib.Core.Path.{◌∙◌, sym}
 use Rattle.plan.proofs.steps.unlock_turn.Goals as goal
 
 pub read_lock-requires : goal.read_lock-requires

@@ -1,6 +1,4 @@
 -- `repair::stock::freed` meets its contract. The loop's invariant: the set is the union of the first d intents.
-use Prim.Native.Nat.{◌-◌, ◌≤◌}
-use borrow.Author.Rules.{rules}
 use mathlib.Core.Path.{◌≡◌, refl}
 use native.Mathlib.Omega.{arith}
 use Rattle.image.specs.Image.{at, workers}

@@ -1,12 +1,8 @@
 -- `repair::stock::freed` meets its contract. The loop's invariant: the set is the union of the first d intents.
 use Prim.Native.Nat.{◌-◌, ◌≤◌}
-use borrow.Author.Rules.{rules}
-use mathlib.Core.Path.{◌≡◌, refl}
-use native.Mathlib.Omega.{arith}
-use Rattle.image.specs.Image.{at, workers}
+use mathlib.Core.Path.{◌≡◌}
+use Rattle.image.specs.Image.{at}
 use Rattle.repair.specs.Repair.{freed_by}
-use Rattle.repair.proofs.Sets.{freed-next}
-use Rattle.soundness.proofs.Legible.{inside}
 use Rattle.repair.proofs.stock.freed.Given as goal
 
 abbrev pub invariant-loop-d : goal.invariant-loop-d

@@ -1,5 +1,4 @@
 -- `repair::stock::repair` meets its contract, part by part.
-use borrow.Author.Rules.{rules}
 use Rattle.repair.specs.Repair.{repair_of}
 use Rattle.repair.proofs.stock.repair.Goals as goal
 

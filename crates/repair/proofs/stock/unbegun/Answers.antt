@@ -1,6 +1,5 @@
 -- `repair::stock::unbegun` meets its contract: the two tests are the definition's.
 use borrow.Author.Tests.{eq-eqb, ne_eqb}
-use borrow.Author.Rules.{rules}
 use native.Mathlib.Omega.{arith}
 use Rattle.repair.proofs.stock.unbegun.Goals as goal
 

@@ -1,7 +1,5 @@
 -- `repair::stock::withdrawn` meets its contract. The loop's invariant: the set is that of the withdrawn among the
 -- first d workers.
-use Prim.Native.Nat.{◌-◌, ◌≤◌}
-use borrow.Author.Rules.{rules}
 use mathlib.Core.Path.{◌≡◌, refl}
 use native.Mathlib.Omega.{arith}
 use Rattle.image.specs.Image.{at, workers}

@@ -1,13 +1,9 @@
 -- `repair::stock::withdrawn` meets its contract. The loop's invariant: the set is that of the withdrawn among the
 -- first d workers.
 use Prim.Native.Nat.{◌-◌, ◌≤◌}
-use borrow.Author.Rules.{rules}
-use mathlib.Core.Path.{◌≡◌, refl}
-use native.Mathlib.Omega.{arith}
-use Rattle.image.specs.Image.{at, workers}
+use mathlib.Core.Path.{◌≡◌}
+use Rattle.image.specs.Image.{at}
 use Rattle.repair.specs.Repair.{withdrawn_by}
-use Rattle.repair.proofs.Sets.{withdrawn-next}
-use Rattle.soundness.proofs.Legible.{inside}
 use Rattle.repair.proofs.stock.withdrawn.Given as goal
 
 abbrev pub invariant-loop-d : goal.invariant-loop-d

@@ -1,6 +1,5 @@
 -- `repair::storing::intent_slot` meets its contract, by whether the repair has the worker.
 use borrow.Author.Tests.{lt-ltb, le-ltb}
-use borrow.Author.Rules.{rules}
 use Rattle.repair.proofs.storing.intent_slot.Goals as goal
 
 pub returns-then-r-d : goal.returns-then-r-d

@@ -1,6 +1,5 @@
 -- `repair::storing::slot_at` meets its contract: the definition's ranges in their order.
 use borrow.Author.Tests.{lt-ltb, le-ltb}
-use borrow.Author.Rules.{rules}
 use Rattle.repair.specs.Repair.{slot_at}
 use Rattle.repair.proofs.storing.slot_at.Goals as goal
 

@@ -1,13 +1,7 @@
 -- `repair::storing::store_locks` meets its contract. The loop's invariant: what the locks that are left leave of the image
 -- and the stores left, as they are now, is what all of the set leave of the first ones.
-use Prim.Native.Nat.{ℕ, ◌-◌, ◌<◌, ◌^◌}
-use borrow.Author.Rules.{rules}
-use mathlib.Core.Path.{◌≡◌, refl, sym, ◌∙◌}
+use mathlib.Core.Path.{refl, sym, ◌∙◌}
 use native.Mathlib.Omega.{arith}
-use lib.ListN.{length}
-use Rattle.image.specs.Image.{put_all}
-use Rattle.repair.specs.Plan.{rows}
-use Rattle.repair.specs.Repair.{lock_slot}
 use Rattle.mask.proofs.Lowest.{low-some}
 use Rattle.repair.proofs.Lowest.{less-without, image-none, left-none, image-lock, left-lock}
 use Rattle.repair.proofs.storing.store_locks.Goals as goal
@@ -54,4 +48,8 @@ pub returns : goal.returns
 returns c =
     let L = c.loop-rest in
     let A = c.args in
-    let z = c.loop-rest-test.false in record { image = λ n. sym (image-none L.rest A.value z n L.k L.image) ∙ L.invariant.2 n; left = sym (left-none L.rest A.value z L.k) ∙ L.invariant.3 }
+    let z = c.loop-rest-test.false in
+    record {
+      image = λ n. sym (image-none L.rest A.value z n L.k L.image) ∙ L.invariant.2 n;
+      left = sym (left-none L.rest A.value z L.k) ∙ L.invariant.3;
+    }

@@ -1,15 +1,11 @@
 -- `repair::storing::store_locks` meets its contract. The loop's invariant: what the locks that are left leave of the image
 -- and the stores left, as they are now, is what all of the set leave of the first ones.
 use Prim.Native.Nat.{ℕ, ◌-◌, ◌<◌, ◌^◌}
-use borrow.Author.Rules.{rules}
-use mathlib.Core.Path.{◌≡◌, refl, sym, ◌∙◌}
-use native.Mathlib.Omega.{arith}
+use mathlib.Core.Path.{◌≡◌}
 use lib.ListN.{length}
 use Rattle.image.specs.Image.{put_all}
 use Rattle.repair.specs.Plan.{rows}
 use Rattle.repair.specs.Repair.{lock_slot}
-use Rattle.mask.proofs.Lowest.{low-some}
-use Rattle.repair.proofs.Lowest.{less-without, image-none, left-none, image-lock, left-lock}
 use Rattle.repair.proofs.storing.store_locks.Given as goal
 
 abbrev pub invariant-loop-rest : goal.invariant-loop-rest

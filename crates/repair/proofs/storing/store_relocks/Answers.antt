@@ -1,14 +1,9 @@
 -- `repair::storing::store_relocks` meets its contract. The loop's invariant: what the locks of the workers from d on leave of
 -- the image and the stores left, as they are now, is what those of all workers leave of the first ones.
-use Prim.Native.Nat.{ℕ, ◌+◌, ◌-◌, ◌*◌, ◌≤◌}
-use borrow.Author.Rules.{rules}
+use Prim.Native.Nat.{◌-◌}
 use mathlib.Core.Path.{◌≡◌, refl, sym, ◌∙◌}
 use native.Mathlib.Omega.{arith}
-use lib.ListN.{length}
 use Rattle.image.proofs.Lists.{put_all-nil}
-use Rattle.image.specs.Image.{put_all}
-use Rattle.repair.specs.Plan.{rows}
-use Rattle.repair.specs.Repair.{slot_at}
 use Rattle.repair.proofs.Slots.{relocks-end, image-relock, left-relock}
 use Rattle.repair.proofs.storing.store_relocks.Goals as goal
 
@@ -35,4 +30,8 @@ returns c =
     let L = c.loop-d in
     let r = c.args.r in
     let e = relocks-end r L.d c.loop-d-test.false in
-    let z : L.left - 0 ≡ L.left = omega arith in record { image = λ n. sym (put_all-nil n L.left L.image) ∙ rw e at (L.invariant.2 n); left = sym z ∙ rw e at L.invariant.3 }
+    let z : L.left - 0 ≡ L.left = omega arith in
+    record {
+      image = λ n. sym (put_all-nil n L.left L.image) ∙ rw e at (L.invariant.2 n);
+      left = sym z ∙ rw e at L.invariant.3;
+    }

@@ -1,14 +1,10 @@
 -- `repair::storing::store_withdrawals` meets its contract. The loop's invariant: what the withdrawals from worker d on leave of the
 -- image and the stores left, as they are now, is what all of them leave of the first ones.
-use Prim.Native.Nat.{◌+◌, ◌-◌, ◌≤◌}
-use borrow.Author.Rules.{rules}
+use Prim.Native.Nat.{◌+◌, ◌-◌}
 use mathlib.Core.Path.{◌≡◌, refl, sym, ap, ◌∙◌}
 use native.Mathlib.Omega.{arith}
-use lib.ListN.{length}
 use Rattle.image.proofs.Lists.{put_all-nil}
-use Rattle.image.specs.Image.{put_all}
-use Rattle.repair.specs.Plan.{rows}
-use Rattle.repair.specs.Repair.{slot_at, slot_of, slot_put, slot_left}
+use Rattle.repair.specs.Repair.{slot_of, slot_put, slot_left}
 use Rattle.repair.proofs.Slots.{slot-withdraw, slots_end, image-step, left-step-slot}
 use Rattle.repair.proofs.storing.store_withdrawals.Goals as goal
 
@@ -38,4 +34,8 @@ returns c =
     let L = c.loop-d in
     let A = c.args in
     let e = slots_end A.r 72 8 L.d c.loop-d-test.false in
-    let z : L.left - 0 ≡ L.left = omega arith in record { image = sym (put_all-nil A.own L.left L.image) ∙ rw e at L.invariant.2; left = sym z ∙ rw e at L.invariant.3 }
+    let z : L.left - 0 ≡ L.left = omega arith in
+    record {
+      image = sym (put_all-nil A.own L.left L.image) ∙ rw e at L.invariant.2;
+      left = sym z ∙ rw e at L.invariant.3;
+    }

@@ -1,5 +1,4 @@
 -- `run::alone::went` meets its contract: the tally by its callee.
-use borrow.Author.Rules.{rules}
 use mathlib.Core.Path.{refl}
 use Rattle.run.proofs.alone.went.Goals as goal
 

@@ -1,5 +1,4 @@
 -- `run::round::lap_in_place` meets its contract, as `turn` does: ready it is the worker's turn, and else nothing.
-use borrow.Author.Rules.{rules}
 use mathlib.Core.Path.{refl, sym, ◌∙◌}
 use Rattle.run.proofs.Lapped.{lapped-refused, lapped-made}
 use Rattle.run.proofs.round.lap_in_place.Goals as goal

@@ -1,13 +1,8 @@
 -- `run::round::next_open` meets its contract. The loop's invariant: the workers from d up to k are idle, so that the first open one from d on is the
 -- first from k on.
-use Prim.Native.Nat.{◌-◌, ◌<◌}
-use borrow.Author.Rules.{rules}
-use mathlib.Core.Path.{◌≡◌, refl, sym, ◌∙◌}
-use native.Mathlib.Omega.{arith}
-use lib.ListN.{length}
+use Prim.Native.Nat.{◌-◌}
+use mathlib.Core.Path.{◌≡◌}
 use Rattle.run.specs.Round.{next_open}
-use Rattle.working.proofs.Placed.{idle-turn, open_turn}
-use Rattle.run.proofs.Next.{next_here, next_past, next-end}
 use Rattle.run.proofs.round.next_open.Given as goal
 
 abbrev pub invariant-loop-k : goal.invariant-loop-k

@@ -1,5 +1,4 @@
 -- `run::round::ready_in` meets its contract: what is known needs no test.
-use borrow.Author.Rules.{rules}
 use mathlib.Core.Path.{sym}
 use Rattle.run.proofs.round.ready_in.Goals as goal
 

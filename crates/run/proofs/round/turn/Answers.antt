@@ -1,17 +1,15 @@
 -- `run::round::turn` meets its contract: ready it is the worker's turn, and else nothing.
-use borrow.Author.Rules.{rules}
-use mathlib.Core.Path.{refl}
-use Rattle.base.proofs.Bools.{denied, granted}
+use mathlib.Core.Path.{refl, sym, ◌∙◌}
 use Rattle.run.proofs.Lapped.{lapped-refused, lapped-made}
 use Rattle.run.proofs.round.turn.Goals as goal
 
 pub returns-then-not-ready_in : goal.returns-then-not-ready_in
-returns-then-not-ready_in c = rw c.refused.ensures (lapped-refused _ _ _ _ _ _ _ (denied c.ready_in.ensures c.if-not-ready_in.true-raw) refl tt)
+returns-then-not-ready_in c = rw c.refused.ensures (lapped-refused _ _ _ _ _ _ _ (sym c.ready_in.ensures ∙ c.if-not-ready_in.true) refl tt)
 
 pub turn_on-requires : goal.turn_on-requires
-turn_on-requires c = (c.requires.0, granted c.ready_in.ensures c.if-not-ready_in.false-raw)
+turn_on-requires c = (c.requires.0, sym c.ready_in.ensures ∙ c.if-not-ready_in.false)
 
 pub returns : goal.returns
 returns c =
     let t = c.turn_on.ensures in
-    lapped-made _ _ _ _ _ _ _ _ _ (granted c.ready_in.ensures c.if-not-ready_in.false-raw) t.lock t.acts
+    lapped-made _ _ _ _ _ _ _ _ _ (sym c.ready_in.ensures ∙ c.if-not-ready_in.false) t.lock t.acts

@@ -31,6 +31,34 @@ loop-i-init c =
 pub shape_of-held-then-not-well_formed : goal.shape_of-held-then-not-well_formed
 shape_of-held-then-not-well_formed c = c.loop-i.invariant.1
 
+pub returns-then-not-well_formed : goal.returns-then-not-well_formed
+returns-then-not-well_formed c =
+    let L = c.loop-i in
+    let w = c.args.words.now in
+    let t = c.loop-i-test.true in
+    let f = form-fails c.args.own (length w) (code_of w) L.i (denied c.well_formed-in-loop-i.ensures c.if-not-well_formed.true-raw) in
+    let e = first_stops (form_of c.args.own (length w) (code_of w)) (length w) L.i t (ap passes f) in
+    record { most = L.invariant.0; first = past-step _ _ t ∙ (sym f ∙ (sym e ∙ L.invariant.3)); sets = L.invariant.4 }
+
+pub held_past-h-requires : goal.held_past-h-requires
+held_past-h-requires c =
+    let L = c.loop-i in
+    formed-lock c.args.own _ L.i _ (granted c.well_formed-in-loop-i.ensures c.if-not-well_formed.false-raw)
+
+pub loop-i-preserved : goal.loop-i-preserved
+loop-i-preserved c =
+    let L = c.loop-i in
+    let w = c.args.words.now in
+    let t = c.loop-i-test.true in
+    let f = pass-form c.args.own (length w) (code_of w) L.i (granted c.well_formed-in-loop-i.ensures c.if-not-well_formed.false-raw) in
+    let b : L.i < length L.held = omega arith in (
+      omega arith,
+      length-set L.held L.i L.h ∙ L.invariant.1,
+      rw (held_next (code_of w) L.i, ← L.invariant.2) c.held_past-h.ensures,
+      sym (first_on (form_of c.args.own (length w) (code_of w)) (length w) L.i t f) ∙ L.invariant.3,
+      set_next (code_of w) (code_of c.args.held.now) L.held L.i L.h b L.invariant.2 L.invariant.4,
+    )
+
 pub shape_of-held : goal.shape_of-held
 shape_of-held c = c.loop-i.invariant.1
 

@@ -25,17 +25,22 @@ fair-requires c =
 
 pub held_after-h-requires : goal.held_after-h-requires
 held_after-h-requires c =
-    let c = c in
     let L = c.loop-i in
     let A = c.args in
     rw c.op_of-x.ensures (formed-lock A.own (length A.words.now) L.i _ (granted c.formed.ensures c.if-not-formed.false-raw))
 
 pub loop-i-preserved : goal.loop-i-preserved
 loop-i-preserved c =
-    let c = c in
-    let c = c in
-    let c = c in
     let A = c.args in
     fine-next A.own (length A.words.now) (code_of A.words.now) c.loop-i-test.true c.loop-i.invariant
     (granted c.formed.ensures c.if-not-formed.false-raw) c.op_of-x.ensures (granted c.fair.ensures c.if-not-fair.false-raw) c.held_after-h.ensures
     c.furthest-until.ensures
+
+pub returns : goal.returns
+returns c =
+    let L = c.loop-i in
+    let A = c.args in
+    let n = length A.words.now in
+    let all : L.i ≡ n = omega (arith, L.invariant.most) in
+    λ e. fine_end A.own n (code_of A.words.now) L.h L.until (granted c.length_ok.ensures c.if-not-length_ok.false-raw)
+    (subst (λ (j : ℕ). Fine A.own n (code_of A.words.now) L.h L.until j) all L.invariant)

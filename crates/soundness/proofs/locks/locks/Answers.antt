@@ -1,14 +1,11 @@
 -- `soundness::locks::locks` meets its contract. The loop's invariant: the lowest lock from b on that is wrong is the lowest of
 -- all. Below the first lock that two workers are owed only the owner words can be wrong.
-use Prim.Native.Nat.{◌-◌, ◌≤◌, ◌<◌}
-use borrow.Author.Rules.{rules}
+use Prim.Native.Nat.{◌≤◌, ◌<◌}
 use mathlib.Core.Path.{◌≡◌, refl, sym, ap, ◌∙◌}
 use native.Mathlib.Omega.{arith}
 use lib.ListN.{length}
-use Rattle.base.proofs.Bools.{denied, granted}
 use Rattle.image.specs.Image.{at, workers}
 use Rattle.soundness.specs.Inner.Tests.{by_lock}
-use Rattle.soundness.specs.Sound.{badLock}
 use Rattle.owed.proofs.Sharing.{shared-told}
 use Rattle.soundness.proofs.Sets.{lock-single, lock-shared, bad-on, bad-here, bad-none}
 use Rattle.soundness.proofs.locks.locks.Goals as goal
@@ -36,7 +33,7 @@ returns-then-not-owner_ok c =
     let k = rw (c.requires.2, c.workers.ensures) at (low.1 L.b (omega arith) c.loop-b-test.true)
     in
     let e = lock-single A.own rd D L.b c.requires.1 k in
-    sym (ap by_lock (bad-here A.own rd D L.b h (e ∙ denied c.owner_ok.ensures c.if-not-owner_ok.true-raw))) ∙ L.invariant.1
+    sym (ap by_lock (bad-here A.own rd D L.b h (e ∙ sym c.owner_ok.ensures ∙ c.if-not-owner_ok.true))) ∙ L.invariant.1
 
 pub loop-b-preserved : goal.loop-b-preserved
 loop-b-preserved c =
@@ -50,7 +47,7 @@ loop-b-preserved c =
     let k = rw (c.requires.2, c.workers.ensures) at (low.1 L.b (omega arith) c.loop-b-test.true)
     in
     let e = lock-single A.own rd D L.b c.requires.1 k in
-    (omega arith, sym (ap by_lock (bad-on A.own rd D L.b h (e ∙ granted c.owner_ok.ensures c.if-not-owner_ok.false-raw))) ∙ L.invariant.1)
+    (omega arith, sym (ap by_lock (bad-on A.own rd D L.b h (e ∙ sym c.owner_ok.ensures ∙ c.if-not-owner_ok.false))) ∙ L.invariant.1)
 
 pub returns-then-end-lt64 : goal.returns-then-end-lt64
 returns-then-end-lt64 c =

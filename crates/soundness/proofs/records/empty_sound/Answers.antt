@@ -1,5 +1,4 @@
 -- `soundness::records::empty_sound` meets its contract: a record with no section is sound where nothing is named and nothing owned.
-use borrow.Author.Rules.{rules}
 use mathlib.Core.Path.{sym, ap, ◌∙◌}
 use lib.Dec.{eqb}
 use Prim.Native.Nat.{ℕ}

@@ -1,13 +1,11 @@
 -- `soundness::records::judged` meets its contract. The loop's invariant: the first worker from d on whose record is not sound
 -- is the first of all that are asked, and where these begin with worker 0 the array has the owed sets of the first d workers.
-use Prim.Native.Nat.{◌-◌, ◌≤◌, ◌<◌}
+use Prim.Native.Nat.{◌<◌}
 use borrow.Author.Tests.{not-true, not-false}
 use mathlib.Core.Path.{◌≡◌, refl, sym, ap, ◌∙◌}
 use native.Mathlib.Omega.{arith}
-use lib.ListN.{length}
-use Rattle.image.specs.Image.{at, workers}
+use Rattle.image.specs.Image.{at}
 use Rattle.soundness.specs.Inner.Tests.{by_record}
-use Rattle.soundness.specs.Sound.{eight, unsound, owed_at}
 use Rattle.soundness.specs.Inner.Reading.{owed_by}
 use Rattle.soundness.proofs.Legible.{unsound-on, unsound-here, unsound-none}
 use Rattle.soundness.proofs.Sets.{owed-next}
@@ -22,7 +20,12 @@ slice_bounds-sound-end c = sym c.loop-d.invariant.3
 pub sound-f-requires : goal.sound-f-requires
 sound-f-requires c =
     let L = c.loop-d in (
-      record { few = c.requires.0; below = omega (arith, c.requires.4, c.loop-d-test.true); most = c.requires.1; whole = c.requires.2 },
+      record {
+        few = c.requires.0;
+        below = omega (arith, c.requires.4, c.loop-d-test.true);
+        most = c.requires.1;
+        whole = c.requires.2;
+      },
       omega (arith, L.invariant.3),
     )
 
@@ -34,7 +37,8 @@ returns-then-not-f c =
     let s = c.sound-f in
     let no = not-true s.result.ok c.if-not-f.true in
     let h = c.loop-d-test.true in
-    let u = sym (unsound-here A.own rd A.end L.d h (sym s.ensures.ok ∙ no)) ∙ L.invariant.1 in record { answer = ap by_record u; owed = λ z. ap (owed_by A.own rd A.end) u }
+    let u = sym (unsound-here A.own rd A.end L.d h (sym s.ensures.ok ∙ no)) ∙ L.invariant.1 in
+    record { answer = ap by_record u; owed = λ z. ap (owed_by A.own rd A.end) u }
 
 pub offset_bounds-sets-d : goal.offset_bounds-sets-d
 offset_bounds-sets-d c = omega (arith, c.requires.1, c.requires.4, c.loop-d-test.true)
@@ -63,4 +67,8 @@ returns c =
     let L = c.loop-d in
     let rd = at A.own A.image.now in
     let e : L.d ≡ A.end = omega (arith, L.invariant.0, c.loop-d-test.false) in
-    let u = sym (unsound-none A.own rd A.end L.d (omega (arith, e))) ∙ L.invariant.1 in record { answer = ap by_record u; owed = λ z. (rw e at (L.invariant.2 z)) ∙ ap (owed_by A.own rd A.end) u }
+    let u = sym (unsound-none A.own rd A.end L.d (omega (arith, e))) ∙ L.invariant.1 in
+    record {
+      answer = ap by_record u;
+      owed = λ z. (rw e at (L.invariant.2 z)) ∙ ap (owed_by A.own rd A.end) u;
+    }

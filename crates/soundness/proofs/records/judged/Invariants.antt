@@ -1,16 +1,10 @@
 -- `soundness::records::judged` meets its contract. The loop's invariant: the first worker from d on whose record is not sound
 -- is the first of all that are asked, and where these begin with worker 0 the array has the owed sets of the first d workers.
-use Prim.Native.Nat.{◌-◌, ◌≤◌, ◌<◌}
-use borrow.Author.Tests.{not-true, not-false}
-use mathlib.Core.Path.{◌≡◌, refl, sym, ap, ◌∙◌}
-use native.Mathlib.Omega.{arith}
+use Prim.Native.Nat.{◌-◌, ◌≤◌}
+use mathlib.Core.Path.{◌≡◌}
 use lib.ListN.{length}
-use Rattle.image.specs.Image.{at, workers}
-use Rattle.soundness.specs.Inner.Tests.{by_record}
+use Rattle.image.specs.Image.{at}
 use Rattle.soundness.specs.Sound.{eight, unsound, owed_at}
-use Rattle.soundness.specs.Inner.Reading.{owed_by}
-use Rattle.soundness.proofs.Legible.{unsound-on, unsound-here, unsound-none}
-use Rattle.soundness.proofs.Sets.{owed-next}
 use Rattle.soundness.proofs.records.judged.Given as goal
 
 abbrev pub invariant-loop-d : goal.invariant-loop-d

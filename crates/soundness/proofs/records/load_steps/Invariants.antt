@@ -1,10 +1,8 @@
 -- `soundness::records::load_steps` meets its contract. The loop's invariant: the first i words are loaded.
-use Prim.Native.Nat.{suc, ◌+◌, ◌-◌, ◌≤◌}
-use borrow.Author.Rules.{rules}
-use mathlib.Core.Path.{◌≡◌, refl, ap, ◌∙◌}
-use native.Mathlib.Omega.{arith}
+use Prim.Native.Nat.{◌-◌, ◌≤◌}
+use mathlib.Core.Path.{◌≡◌}
 use Rattle.image.specs.Image.{at}
-use Rattle.log.specs.Log.{code_in}
+use Rattle.worklog.specs.Log.{code_in}
 use Rattle.soundness.specs.Inner.Reading.{loaded}
 use Rattle.soundness.proofs.records.load_steps.Given as goal
 

@@ -1,5 +1,4 @@
 -- `soundness::records::record_sound` meets its contract: with no section by itself, else as the only one that is asked.
-use borrow.Author.Rules.{rules}
 use mathlib.Core.Path.{ap, ◌∙◌}
 use Rattle.image.specs.Image.{at}
 use Rattle.soundness.specs.Inner.Tests.{is_done}

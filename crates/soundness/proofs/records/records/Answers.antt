@@ -1,5 +1,4 @@
 -- `soundness::records::records` meets its contract: all records are those from worker 0 to the last.
-use borrow.Author.Rules.{rules}
 use mathlib.Core.Path.{refl}
 use native.Mathlib.Omega.{arith}
 use Rattle.base.proofs.Counting.{left-all}
@@ -13,4 +12,5 @@ pub returns : goal.returns
 returns c =
     let D = workers c.args.image.now in
     let w = c.workers.ensures in
-    let j = c.judged.ensures in record { answer = (rw (w, left-all D) at j.answer); owed = rw (w, left-all D) at (j.owed refl) }
+    let j = c.judged.ensures in
+    record { answer = (rw (w, left-all D) at j.answer); owed = rw (w, left-all D) at (j.owed refl) }

@@ -1,6 +1,5 @@
 -- `soundness::records::section_passes` meets its contract: the words loaded pass the check as the record's do, and have their held sets.
 use Prim.Native.Nat.{◌≤◌}
-use borrow.Author.Rules.{rules}
 use mathlib.Core.Path.{ap, ◌∙◌, sym}
 use native.Mathlib.Omega.{arith}
 use Rattle.section.specs.Check.{passes}
@@ -19,5 +18,9 @@ returns c =
     let A = c.args in
     let e = c.load_steps.ensures in
     let k = c.check_held in
-    let h : A.k ≤ 64 = omega arith in record { passes = c.passes.ensures ∙ ap passes (k.ensures.verdict ∙ first-checks _ _ A.k _ e h A.own); sets = λ t. first-helds _ _ A.k _ e h k.new.held
-          (λ j l. k.ensures.sets j ∙ left_passed _ _ _ _ j (ap passes (sym k.ensures.verdict) ∙ (sym c.passes.ensures ∙ t)) l) }
+    let h : A.k ≤ 64 = omega arith in
+    record {
+      passes = c.passes.ensures ∙ ap passes (k.ensures.verdict ∙ first-checks _ _ A.k _ e h A.own);
+      sets = λ t. first-helds _ _ A.k _ e h k.new.held
+          (λ j l. k.ensures.sets j ∙ left_passed _ _ _ _ j (ap passes (sym k.ensures.verdict) ∙ (sym c.passes.ensures ∙ t)) l);
+    }

@@ -1,5 +1,4 @@
 -- `stretch::assigning::of_two` meets its contract: both words by their callee, and what they give.
-use borrow.Author.Rules.{rules}
 use mathlib.Core.Path.{refl}
 use Rattle.stretch.proofs.assigning.of_two.Goals as goal
 

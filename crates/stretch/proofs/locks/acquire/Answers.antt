@@ -1,5 +1,4 @@
 -- `stretch::locks::acquire` meets its contract: its stores are those of `acquire-begins`, or of `acquire-turns`.
-use borrow.Author.Rules.{rules}
 use mathlib.Core.Path.{sym, ◌∙◌}
 use native.Mathlib.Omega.{arith}
 use Rattle.image.proofs.Stores.{inside-front}
@@ -16,21 +15,18 @@ store_inside-requires c = field_lt _ _ _ _ c.requires.inside c.field_index-inten
 
 pub read_lock-requires : goal.read_lock-requires
 read_lock-requires c =
-    let c = c in
     let f = c.requires in
     (fetched-fits _ _ _ _ _ f, rw (c.store_inside.ensures.image, c.field_index-intent.ensures) (inside-front _ _ _ (inside-store _ _ _ _ _ _ f.inside)))
 
-pub returns-then-read_lock-ne0 : goal.returns-then-read_lock-ne0
-returns-then-read_lock-ne0 c =
-    let c = c in
-    let c = c in
-    let c = c in
-    let e = c.store_inside.ensures in record { made = made-stores 1 (λ y. rw (e.image, e.left, c.with-wants.ensures, c.read_field.ensures, c.field_index-intent.ensures) (acquire-begins _ _ _ _ _ _ y _ c.requires))
-          (omega arith); next = omega arith }
+pub returns-then-read_lock-ne0-clause-made : goal.returns-then-read_lock-ne0-clause-made
+returns-then-read_lock-ne0-clause-made c =
+    let e = c.store_inside.ensures in
+    made-stores 1
+    (λ y. rw (e.image, e.left, c.with-wants.ensures, c.read_field.ensures, c.field_index-intent.ensures) (acquire-begins _ _ _ _ _ _ y _ c.requires))
+    (omega arith)
 
 pub take-requires : goal.take-requires
 take-requires c =
-    let c = c in
     let f = c.requires in
     (rw (c.store_inside.ensures.image, c.field_index-intent.ensures) (inside-store _ _ _ _ _ _ f.inside), fetched-fits _ _ _ _ _ f)
 
@@ -42,14 +38,11 @@ overflow_add-result c =
 pub with-requires : goal.with-requires
 with-requires c = fetched-fits _ _ _ _ _ c.requires
 
-pub returns : goal.returns
-returns c =
-    let c = c in
-    let c = c in
-    let c = c in
-    let c = c in
+pub returns-clause-made : goal.returns-clause-made
+returns-clause-made c =
     let e = c.store_inside.ensures in
     let first = rw (c.with-wants.ensures, c.read_field.ensures, c.field_index-intent.ensures) at e.image in
-    let c = c in
-    let free = sym (c.read_lock.ensures _) ∙ c.if-read_lock-ne0.false in record { made = made-stores 6 (λ y. rw (c.with.ensures, c.take.ensures.image, c.take.ensures.left, e.left) (acquire-turns _ _ _ _ _ _ y _ c.requires _ first free))
-          (omega arith); next = omega arith }
+    let free = sym (c.read_lock.ensures _) ∙ c.if-read_lock-ne0.false in
+    made-stores 6
+    (λ y. rw (c.with.ensures, c.take.ensures.image, c.take.ensures.left, e.left) (acquire-turns _ _ _ _ _ _ y _ c.requires _ first free))
+    (omega arith)

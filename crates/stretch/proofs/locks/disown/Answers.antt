@@ -1,6 +1,4 @@
 -- `stretch::locks::disown` meets its contract: the logged store by its callee.
-use borrow.Author.Rules.{rules}
-use mathlib.Core.Path.{refl}
 use Rattle.stretch.proofs.Running.{field_lt}
 use Rattle.stretch.proofs.locks.disown.Goals as goal
 

@@ -1,5 +1,4 @@
 -- `stretch::locks::found` meets its contract: by the owner word.
-use borrow.Author.Rules.{rules}
 use borrow.Author.Tests.{eq-eqb, ne_eqb}
 use Rattle.stretch.proofs.locks.found.Goals as goal
 

@@ -1,5 +1,4 @@
 -- `stretch::locks::release` meets its contract: its stores are those of `release-frees`, or of a release that passes.
-use borrow.Author.Rules.{rules}
 use mathlib.Core.Path.{sym, ◌∙◌}
 use native.Mathlib.Omega.{arith}
 use Rattle.image.proofs.Stores.{inside-front, lock-lt}
@@ -28,9 +27,6 @@ store_inside-requires c =
 
 pub unwant-requires : goal.unwant-requires
 unwant-requires c =
-    let c = c in
-    let c = c in
-    let c = c in
     let f = c.requires.0 in (
       rw (c.store_inside.ensures.image, c.lock_index.ensures c.args.own, c.disown.ensures.image)
           (inside-store _ _ _ _ _ _ (disowned-inside _ _ _ _ _ _ f.inside)),
@@ -39,35 +35,29 @@ unwant-requires c =
 
 pub overflow_add-result : goal.overflow_add-result
 overflow_add-result c =
-    let c = c in
     let z = fetched-step _ _ _ _ _ c.requires.0 in
     omega (arith, z)
 
 pub without-requires : goal.without-requires
 without-requires c =
-    let c = c in
     fetched-fits _ _ _ _ _ c.requires.0
 
-pub returns-then-word-d : goal.returns-then-word-d
-returns-then-word-d c =
-    let c = c in
-    let c = c in
-    let c = c in
-    let c = c in
-    let c = c in
+pub returns-then-word-d-clause-made : goal.returns-then-word-d-clause-made
+returns-then-word-d-clause-made c =
     let A = c.args in
-    let freed = report-own _ _ (sym (c.read_lock-word.ensures A.own) ∙ c.if-word-d.true) in record { made = made-stores 6
-          (λ y. rw (
-            c.without.ensures,
-            c.unwant.ensures.image,
-            c.unwant.ensures.left,
-            c.store_inside.ensures.image,
-            c.store_inside.ensures.left,
-            c.lock_index.ensures A.own,
-            c.disown.ensures.left,
-          )
-          (release-frees _ _ _ _ _ _ y _ c.requires.0 _ c.disown.ensures.image freed))
-          (omega arith); next = omega arith }
+    let freed = report-own _ _ (sym (c.read_lock-word.ensures A.own) ∙ c.if-word-d.true) in
+    made-stores 6
+    (λ y. rw (
+      c.without.ensures,
+      c.unwant.ensures.image,
+      c.unwant.ensures.left,
+      c.store_inside.ensures.image,
+      c.store_inside.ensures.left,
+      c.lock_index.ensures A.own,
+      c.disown.ensures.left,
+    )
+    (release-frees _ _ _ _ _ _ y _ c.requires.0 _ c.disown.ensures.image freed))
+    (omega arith)
 
 pub unwant-requires-2 : goal.unwant-requires-2
 unwant-requires-2 c =
@@ -81,3 +71,8 @@ overflow_add-result-2 c =
 
 pub found-requires : goal.found-requires
 found-requires c = c.requires.1
+
+pub returns-clause-made : goal.returns-clause-made
+returns-clause-made c =
+    rw (c.found.ensures, c.unwant-2.ensures.image, c.unwant-2.ensures.left, c.disown.ensures.left)
+    (release-passes _ _ _ _ _ _ _ _ c.requires.0 c.disown.ensures.image (c.read_lock-word.ensures c.args.own) c.if-word-d.false)

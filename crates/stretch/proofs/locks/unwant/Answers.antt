@@ -1,6 +1,4 @@
 -- `stretch::locks::unwant` meets its contract: the intent without the lock, stored by its callee.
-use borrow.Author.Rules.{rules}
-use mathlib.Core.Path.{refl}
 use Rattle.stretch.proofs.Running.{field_lt}
 use Rattle.stretch.proofs.locks.unwant.Goals as goal
 

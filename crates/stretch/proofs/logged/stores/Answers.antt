@@ -1,13 +1,12 @@
 -- `stretch::logged::stores` meets its contract: each store by its callee, of words read before the first.
-use borrow.Author.Rules.{rules}
-use mathlib.Core.Path.{◌≡◌, refl, sym, ◌∙◌}
+use mathlib.Core.Path.{◌≡◌, sym, ◌∙◌}
 use native.Mathlib.Omega.{arith}
 use borrow.Author.Tests.{lt-ltb}
 use Rattle.image.specs.Place.{field}
 use Rattle.image.specs.Image.{at, index_of}
 use Rattle.image.proofs.Apart.{index-small}
-use Rattle.log.specs.Log.{spareVal}
-use Rattle.log.proofs.Switching.{spare-behind}
+use Rattle.worklog.specs.Log.{spareVal}
+use Rattle.worklog.proofs.Switching.{spare-behind}
 use Rattle.stretch.proofs.Running.{field_lt}
 use Prim.Native.Nat.{◌<◌}
 use Rattle.stretch.proofs.logged.stores.Goals as goal
@@ -22,7 +21,6 @@ store_inside-requires c = field_lt _ _ _ _ c.requires.0 c.field_index-address.en
 
 pub store_inside-requires-2 : goal.store_inside-requires-2
 store_inside-requires-2 c =
-    let c = c in
     let A = c.args in
     let value : c.value_index-value.result ≡ index_of A.own (field (spareVal A.own (at A.own A.image.now) A.d) A.d) =
     c.value_index-value.ensures ∙ (rw (c.field_index-address.ensures, c.spare_addr.ensures) (sym (spare-behind _ _ _))) in
@@ -30,15 +28,26 @@ store_inside-requires-2 c =
 
 pub store_inside-requires-3 : goal.store_inside-requires-3
 store_inside-requires-3 c =
-    let c = c in
-    let c = c in
-    let c = c in
     rw (c.store_inside-2.auto.image, c.store_inside.auto.image) (field_lt _ _ _ _ c.requires.0 c.field_index.ensures)
 
 pub store_inside-requires-4 : goal.store_inside-requires-4
 store_inside-requires-4 c =
-    let c = c in
-    let c = c in
-    let c = c in
-    let c = c in
     rw (c.store_inside-3.auto.image, c.store_inside-2.auto.image, c.store_inside.auto.image) c.requires.1
+
+pub returns-clause-image : goal.returns-clause-image
+returns-clause-image c =
+    rw (
+      c.store_inside-4.ensures.image,
+      c.store_inside-3.ensures.image,
+      c.store_inside-3.ensures.left,
+      c.store_inside-2.ensures.image,
+      c.store_inside-2.ensures.left,
+      c.store_inside.ensures.image,
+      c.store_inside.ensures.left,
+      c.field_index.ensures,
+      c.switched-pc.ensures,
+      c.value_index-value.ensures,
+      c.field_index-address.ensures,
+      c.spare_addr.ensures,
+      ← spare-behind _ _ _,
+    )

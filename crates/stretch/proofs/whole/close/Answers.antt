@@ -1,6 +1,4 @@
 -- `stretch::whole::close` meets its contract: each store by its callee, of a number read before the first.
-use borrow.Author.Rules.{rules}
-use mathlib.Core.Path.{refl}
 use Rattle.stretch.proofs.Running.{field_lt}
 use Rattle.stretch.proofs.whole.close.Goals as goal
 
@@ -12,6 +10,4 @@ store_inside-requires-2 c = rw c.store_inside.auto.image (field_lt _ _ _ _ c.req
 
 pub store_inside-requires-3 : goal.store_inside-requires-3
 store_inside-requires-3 c =
-    let c = c in
-    let c = c in
     rw (c.store_inside-2.auto.image, c.store_inside.auto.image) (field_lt _ _ _ _ c.requires c.field_index-3.ensures)

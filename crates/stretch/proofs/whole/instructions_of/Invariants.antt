@@ -1,9 +1,5 @@
 -- `stretch::whole::instructions_of` meets its contract: its loop keeps `Walking`, and goes on by the next instruction.
-use borrow.Author.Rules.{rules}
-use mathlib.Core.Path.{sym, ◌∙◌}
-use mathlib.Core.Logic.{⊎_elim}
-use native.Mathlib.Omega.{arith}
-use Rattle.stretch.proofs.Walking.{Walking, made-still, walk-starts, walk-counted, walk-again}
+use Rattle.stretch.proofs.Walking.{Walking}
 use Rattle.stretch.proofs.whole.instructions_of.Given as goal
 
 abbrev pub invariant-loop-turn : goal.invariant-loop-turn

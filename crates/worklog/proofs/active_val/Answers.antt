@@ -1,0 +1,12 @@
+-- `worklog::active_val` meets its contract.
+use Rattle.std.proofs.Common.{sym, ◌∙◌, rules}
+use Rattle.worklog.specs.Log.{activeVal}
+use Rattle.worklog.proofs.active_val.Goals as goal
+
+pub returns-then-second : goal.returns-then-second
+unfolding activeVal
+returns-then-second c = simp (sym c.second.ensures ∙ c.if-second.true)
+
+pub returns : goal.returns
+unfolding activeVal
+returns c = simp (sym c.second.ensures ∙ c.if-second.false)

@@ -1,0 +1,192 @@
+// The worker's log: two entries of an address and a value, of which the pc's top bit names the active one; and the logged
+// store of four turns. The words that an instruction names stand in words.rt.
+#![tactic(auto)]
+
+pub mod words;
+
+ghost use Rattle.std.specs.Prelude.{◌≡◌, ℕ, ◌+◌, ◌<◌};
+ghost use Rattle.image.specs.Place.{field};
+ghost use Rattle.image.specs.Image.{at};
+ghost use Rattle.image.specs.Inner.Inside.{Inside};
+ghost use Rattle.worklog.specs.Log.{second, spareAddr, spareVal, activeAddr, activeVal, switched};
+ghost use Rattle.worklog.specs.Inner.Logged.{logged_plan};
+
+use image::Field;
+
+// Why a turn passes: it is a jump, or a release that finds its lock's owner word to be 0 or another's.
+#[derive(Clone, Copy)]
+pub enum Passing {
+    Jump,
+    AlreadyFree,
+    Others,
+}
+
+// What the turn of an open worker that is not refused is to do, worked out before anything is stored: a store, or none and why, with
+// the cursor after it; or to wait at a lock. The store of a lock's owner word says the lock: it is taken, or freed with 0.
+#[derive(Clone, Copy)]
+pub enum Plan {
+    Store {
+        at: usize,
+        value: u64,
+        step: u8,
+        turn: u8,
+    },
+    Take {
+        lock: u64,
+        value: u64,
+        step: u8,
+        turn: u8,
+    },
+    Free {
+        lock: u64,
+        step: u8,
+        turn: u8,
+    },
+    Pass {
+        why: Passing,
+        step: u8,
+        turn: u8,
+    },
+    Wait(u64),
+}
+
+// Whether log entry 1 is active.
+fn second(image: &[u64], d: usize, own: usize) -> bool
+    requires { Inside own image.now d }
+    ensures { result ≡ second own (at own image.now) d }
+{
+    image::read_field(image, Field::Pc, d, own) >> 63 != 0
+}
+
+// The address word of the entry that is not active.
+pub fn spare_addr(image: &[u64], d: usize, own: usize) -> Field
+    requires { Inside own image.now d }
+    ensures { result ≡ spareAddr own (at own image.now) d }
+{
+    if second(image, d, own) {
+        return Field::Addr0;
+    }
+    Field::Addr1
+}
+
+// Its value word.
+fn spare_val(image: &[u64], d: usize, own: usize) -> Field
+    requires { Inside own image.now d }
+    ensures { result ≡ spareVal own (at own image.now) d }
+{
+    if second(image, d, own) {
+        return Field::Val0;
+    }
+    Field::Val1
+}
+
+// The address word of the active entry.
+fn active_addr(image: &[u64], d: usize, own: usize) -> Field
+    requires { Inside own image.now d }
+    ensures { result ≡ activeAddr own (at own image.now) d }
+{
+    if second(image, d, own) {
+        return Field::Addr1;
+    }
+    Field::Addr0
+}
+
+// Its value word.
+fn active_val(image: &[u64], d: usize, own: usize) -> Field
+    requires { Inside own image.now d }
+    ensures { result ≡ activeVal own (at own image.now) d }
+{
+    if second(image, d, own) {
+        return Field::Val1;
+    }
+    Field::Val0
+}
+
+// The address that the active entry logs.
+pub fn logged_addr(image: &[u64], d: usize, own: usize) -> u64
+    requires { Inside own image.now d }
+    ensures { result ≡ at own image.now (field (activeAddr own (at own image.now) d) d) }
+{
+    image::read_field(image, active_addr(image, d, own), d, own)
+}
+
+// The value that it logs.
+pub fn logged_value(image: &[u64], d: usize, own: usize) -> u64
+    requires { Inside own image.now d }
+    ensures { result ≡ at own image.now (field (activeVal own (at own image.now) d) d) }
+{
+    image::read_field(image, active_val(image, d, own), d, own)
+}
+
+// The pc that names step s and the entry that is not active.
+pub fn switched(image: &[u64], d: usize, own: usize, s: u8) -> u64
+    requires { Inside own image.now d }
+    ensures { result ≡ switched own (at own image.now) d s }
+{
+    if second(image, d, own) {
+        return s as u64 + 1;
+    }
+    s as u64 + 1 + 9223372036854775808
+}
+
+// A word to store, and its index.
+#[derive(Clone, Copy)]
+struct Word {
+    at: usize,
+    value: u64,
+}
+
+// What turn j of a logged store of v at an index stores in the record, at step s: the address, the value, or the pc.
+fn record_word(image: &[u64], d: usize, own: usize, s: u8, target: usize, v: u64, j: u8) -> Word
+    requires { (Inside own image.now d) × (j < 3) }
+    ensures { (t ns nt : ℕ)
+        → Plan.Store result.at result.value s (t + 1) ≡ logged_plan own (at own image.now) d s t target v ns nt j }
+{
+    match j {
+        0 => Word {
+            at: image::field_index(spare_addr(image, d, own), d, own),
+            value: target as u64,
+        },
+        1 => Word {
+            at: image::field_index(spare_val(image, d, own), d, own),
+            value: v,
+        },
+        _ => Word {
+            at: image::field_index(Field::Pc, d, own),
+            value: switched(image, d, own, s),
+        },
+    }
+}
+
+// Turn j of a logged store of v at an index, at step s, turn t; the cursor after its last turn is step ns, turn nt.
+pub fn logged(
+    image: &[u64],
+    d: usize,
+    own: usize,
+    s: u8,
+    t: u8,
+    target: usize,
+    v: u64,
+    ns: u8,
+    nt: u8,
+    j: u8,
+) -> Plan
+    requires { (Inside own image.now d) × (t < 6) }
+    ensures { result ≡ logged_plan own (at own image.now) d s t target v ns nt j }
+{
+    if 2 < j {
+        return Plan::Store {
+            at: target,
+            value: logged_value(image, d, own),
+            step: ns,
+            turn: nt,
+        };
+    }
+    let w = record_word(image, d, own, s, target, v, j);
+    Plan::Store {
+        at: w.at,
+        value: w.value,
+        step: s,
+        turn: t + 1,
+    }
+}
