@@ -2,10 +2,10 @@
 #![tactic(auto)]
 
 use code::Op;
-use worklog::{Passing, Plan};
 use plan::steps;
 use tally::Tally;
 use working::{Cursors, Refusal};
+use worklog::{Passing, Plan};
 
 pub mod codes;
 
