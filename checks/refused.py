@@ -90,28 +90,27 @@ def function_at(text, line, column):
     return found[-1] if found else ""
 
 
-def first_told(said, program, folder):
-    """The proof and the fact that a line of rt must-fail names, or None."""
-    found = IN_PROOFS.match(said)
+def told(line, folder, texts):
+    """The proof and the fact that a line says not to hold, or None. What stands in the folder is changed to these texts."""
+    found = IN_PROOFS.match(line)
     if found:
         return None if FORM.search(found[3]) else (found[1], found[2])
-    found = IN_SOURCE.match(said)
+    found = IN_SOURCE.match(line)
     if not found:
         return None
-    text = program.edited(folder).get(f"src/{found[1]}.rt") or read(f"{folder}/src/{found[1]}.rt")
+    text = texts.get(f"src/{found[1]}.rt") or read(f"{folder}/src/{found[1]}.rt")
     module = "" if found[1] in ("lib", "main") else f"{found[1]}/"
     return module + function_at(text, int(found[2]), int(found[3])), found[4]
 
 
-def told(said):
+def told_in_all(said, folder, texts):
     """The proofs and facts of which a whole check says that they do not hold, or None where it cannot read the program."""
     found = set()
     for line in said.split("\n"):
         if UNREAD.match(line):
             return None
-        error, missing = IN_PROOFS.match(line), NO_PROOF.match(line)
-        if error and not FORM.search(error[3]):
-            found.add((error[1], error[2]))
+        found |= {told(line, folder, texts)} - {None}
+        missing = NO_PROOF.match(line)
         if missing:
             proof = missing[1].split("::", 1)[1].replace("::", "/")
             found |= {(proof, fact) for fact in re.findall(r"`([^`]+)`", missing[2])}
@@ -164,12 +163,13 @@ class Lanes:
         try:
             for path, text in texts.items():
                 write(f"{folder}/{path}", text)
-            found = told(called(folder, "check", "--jobs", "1", *only, seconds=1800))
+            said = called(folder, "check", "--jobs", "1", *only, seconds=1800)
         except subprocess.TimeoutExpired:
             return "its check had not ended after half an hour"
         finally:
             for path, text in were.items():
                 write(f"{folder}/{path}", text)
+        found = told_in_all(said, folder, texts)
         if found is None:
             return "what it writes cannot be read"
         if (program.proof, program.fact) in found:
@@ -206,8 +206,9 @@ def main(names):
             refused = re.match(r"refused, as it must be(?:: | \(only |$)(.*)", line or "")
             if not refused:
                 bad.append(f"{it}: {line or 'rt must-fail says nothing of it'}")
-            elif first_told(refused[1], it, f"{tree}/crates/{it.crate}") != (it.proof, it.fact):
-                unclear.append(it)
+            else:
+                folder = f"{tree}/crates/{it.crate}"
+                unclear += [it] if told(refused[1], folder, it.edited(folder)) != (it.proof, it.fact) else []
         if not lines:
             print(said[-2000:], file=sys.stderr)
         shutil.rmtree(tree)
