@@ -47,9 +47,12 @@ library young:
 else
 override LIB = target/staticlib
 library:
-	rt staticlib zilpanud
+	cd crates/zilpanud && rt lib
+	@$(INSTALL) -d $(LIB)
+	@$(INSTALL) -m 644 crates/zilpanud/out/libzilpanud.a $(LIB)
 RT = rt
 
+# What rt makes stands in the crate's out/, which `rt ci` empties: so it is copied to where it stays.
 # For those who build and do not check: rt, which writes the archive anew each time, is not asked where the archive is
 # younger than all that it is made of. That goes by times, as make does; `make library` asks in any case.
 MADE_OF = crates.txt $(wildcard crates/*/src crates/*/specs crates/*/proofs)
@@ -65,8 +68,11 @@ board:
 	@test -x '$(BOARD)' || { echo 'there is no program $(BOARD)' >&2; exit 1; }
 else
 override BOARD = target/bin/board
+# rt builds a program where it runs it: here on no lines, on which it prints none
 board:
-	rt check board
+	cd crates/board && rt run </dev/null
+	@$(INSTALL) -d target/bin
+	@$(INSTALL) -m 755 crates/board/out/board $(BOARD)
 endif
 
 ARCHIVE = $(LIB)/libzilpanud.a

@@ -7,11 +7,11 @@ makefile=$(realpath "$1") || exit 1
 room=$(mktemp -d) || exit 1
 trap 'rm -rf "$room"' EXIT
 trap 'exit 1' HUP INT TERM
-cd "$room" && mkdir -p bin other crates/one/src && cp "$makefile" Makefile || exit 1
+cd "$room" && mkdir -p bin other crates/one/src crates/zilpanud && cp "$makefile" Makefile || exit 1
 cat >bin/rt <<'END'
 #!/bin/sh
-echo "$*" >>asked
-mkdir -p target/staticlib && touch target/staticlib/libzilpanud.a
+echo "$(basename "$PWD") $*" >>../../asked
+mkdir -p out && touch out/libzilpanud.a
 END
 chmod +x bin/rt
 PATH=$room/bin:$PATH
@@ -25,7 +25,7 @@ asks() {
     when=$2
     shift 2
     make --silent CARGO=true "$@" >said 2>&1 || { cat said >&2; echo "builds: make $* failed, $when" >&2; exit 1; }
-    [ "$(grep -c '^staticlib zilpanud$' asked)" -eq "$times" ] ||
+    [ "$(grep -c '^zilpanud lib$' asked)" -eq "$times" ] ||
         { echo "builds: make $*, $when: rt was asked $(grep -c . asked) times, and not $times" >&2; exit 1; }
 }
 

@@ -49,9 +49,11 @@ while read -r line; do
     done
 done <"$room/listed"
 
-for name in $(grep -oE '\<by `[a-z]+(-[a-z]+)+`' "$room/page" | tr -d '`' | sed 's/by //' | sort -u); do
+for name in $(grep -oE '\<by `[a-z]+([-_][a-z]+)+`' "$room/page" | tr -d '`' | sed 's/by //' | sort -u); do
     looked=$((looked + 1))
-    grep -qE "^ *(pub )?$name( |$)" crates/*/proofs/*.antt || fail "\`$name\` is declared in no crate"
+    grep -qE "^ *(pub )?$name( |$)" crates/*/proofs/*.antt ||
+        grep -qE "^ *(pub(\(crate\))? )?(abbrev |fn )(pub )?$name[ (]" crates/*/specs/*.antt crates/*/src/*.rt ||
+        fail "\`$name\` is declared in no crate"
 done
 
 # ---- lines

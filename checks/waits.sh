@@ -57,9 +57,8 @@ desk  turns that waited  turns that did not
 { two_desks; echo 04ffff; } >"$room/day"
 counts 0 "$whole" ''
 { two_desks; echo 04ffff; echo 0g; echo 0200ffff; } >"$room/day"
-upto='the numbers are those up to there'
-counts 1 "$whole" \
-    "stow waits: line 5 has 'g' at column 2; digits are 0 to 9 and a to f, and nothing else (cause 14); $upto"
+behind='nothing behind it was read; the numbers are those up to there'
+counts 1 "$whole" "stow waits: line 5 is malformed (14), and $behind"
 
 # Desk 7 waits for bay 63, which desk 0 has, with all but its first turn of 65,535, and then with 65,535 more. Desk 3
 # takes bay 0 with six turns, and waits for bay 63 with its eighth.
@@ -88,9 +87,9 @@ nothing='no bay was waited for
 no desk made a turn'
 counts 0 "$nothing" ''
 : >"$room/day"
-counts 1 '' 'stow waits: there is no line in it'
+counts 0 "$nothing" ''
 echo 09 >"$room/day"
-counts 1 "$nothing" "stow waits: line 1: no board has 9 desks (cause 10): it has 1 to 8; $upto"
+counts 1 "$nothing" "stow waits: no board has as many desks as line 1 says (10), and $behind"
 
 day='two files'
 "$stow" waits "$room/day" "$room/day" >"$room/out" 2>"$room/error"

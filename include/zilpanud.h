@@ -1,7 +1,7 @@
 /*
  * Zilpanud: sections of instructions that survive a cut, over an image of 64-bit words that the caller lends.
  *
- * For C99, C++17 and later. Link libzilpanud.a (-lzilpanud), which `rt staticlib zilpanud` writes. It allocates
+ * For C99, C++17 and later. Link libzilpanud.a (-lzilpanud), which `make library` writes. It allocates
  * nothing and calls nothing but memcpy and memset. docs/MANUAL.md has the image, the kinds of instructions, the
  * causes and the frame lines of the program board; examples/board.c is a program to copy from.
  *

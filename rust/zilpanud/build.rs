@@ -40,6 +40,17 @@ fn is_source(path: &Path) -> bool {
     ["rt", "antt"].iter().any(|ending| path.extension() == Some(OsStr::new(ending)))
 }
 
+/// The folders of the crates' sources, without what rt makes beside them.
+fn sources(crates: &Path) -> io::Result<Vec<PathBuf>> {
+    let mut folders = Vec::new();
+    for entry in fs::read_dir(crates)? {
+        let entry = entry?.path();
+        let parts = ["src", "specs", "proofs"].iter().map(|part| entry.join(part));
+        folders.extend(parts.filter(|part| part.is_dir()));
+    }
+    Ok(folders)
+}
+
 /// A source under a folder that is younger than the archive.
 fn younger(folder: &Path, archive: SystemTime) -> io::Result<Option<PathBuf>> {
     for entry in fs::read_dir(folder)? {
@@ -59,16 +70,20 @@ fn younger(folder: &Path, archive: SystemTime) -> io::Result<Option<PathBuf>> {
 /// Says so if the archive is older than a source. Where the repository is not there, there is nothing to say.
 fn compare(archive: &Path, package: &Path) -> io::Result<()> {
     let repository = fs::canonicalize(package.join(REPOSITORY))?;
-    let (list, crates) = (repository.join("crates.txt"), repository.join("crates"));
+    let (list, folders) = (repository.join("crates.txt"), sources(&repository.join("crates"))?);
     let made = changed(archive)?;
-    let listed = changed(&list)? > made;
-    for watched in [&list, &crates] {
+    for watched in folders.iter().chain([&list]) {
         println!("cargo::rerun-if-changed={}", watched.display());
     }
-    let found = if listed { Some(list) } else { younger(&crates, made)? };
+    let mut found = if changed(&list)? > made { Some(list) } else { None };
+    for folder in &folders {
+        if found.is_none() {
+            found = younger(folder, made)?;
+        }
+    }
     if let Some(source) = found {
         let source = source.strip_prefix(&repository).unwrap_or(&source).display();
-        println!("cargo::warning={ARCHIVE} is older than {source}: run `rt staticlib zilpanud` again");
+        println!("cargo::warning={ARCHIVE} is older than {source}: run `make library` again");
     }
     Ok(())
 }
@@ -80,7 +95,7 @@ fn main() {
     let Some(folder) = folders.iter().find(|folder| folder.join(ARCHIVE).is_file()) else {
         let looked: Vec<String> = folders.iter().map(|folder| folder.display().to_string()).collect();
         let looked = looked.join(" or ");
-        println!("cargo::error=there is no {ARCHIVE} in {looked}: run `rt staticlib zilpanud` first");
+        println!("cargo::error=there is no {ARCHIVE} in {looked}: run `make library` first");
         println!("cargo::error=(or let ZILPANUD_LIB name the folder that has it)");
         return;
     };

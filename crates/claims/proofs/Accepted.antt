@@ -19,20 +19,20 @@ use Rattle.section.proofs.Facts.{passed-valid}
 use Rattle.section.proofs.Held.{after-assign}
 use Rattle.section.proofs.Passing.{passed_is}
 use Rattle.working.specs.Cursor.{idle, on}
-use Rattle.worklog.specs.Log.{code_in, activeAddr, activeVal}
-use Rattle.owed.specs.Owed.{target_of, owed_of, owed, namedStep, namedOp, entryOk}
-use Rattle.soundness.specs.Sound.{sectionOk, pcOk}
+use Rattle.worklog.specs.Log.{code_in, active_addr, active_val}
+use Rattle.owed.specs.Owed.{target_of, owed_of, owed, named_step, named_op, entry_ok}
+use Rattle.soundness.specs.Sound.{section_ok, pc_ok}
 use Rattle.resuming.specs.Resumed.{target_turn, resumed}
 use Rattle.claims.specs.Reference.{Given}
-use Rattle.claims.proofs.Invariant.{opAt, held_at, Sectioned, logsHeld, Named, Due, Phase, resting, due}
+use Rattle.claims.proofs.Invariant.{op_at, held_at, Sectioned, logs_held, Named, Due, Phase, resting, due}
 use Rattle.claims.proofs.LiveCrashed.{owed_none}
 
 module _ (n : ℕ) (rd : Memory) (d : ℕ) where
   -- ---- what the tests say
 
   -- a section, where the pc is not 0
-  pub ok-sectioned : sectionOk n rd d ≡ true → eqb (rd (field Pc d)) 0 ≡ false → Sectioned n rd d
-  unfolding sectionOk
+  pub ok-sectioned : section_ok n rd d ≡ true → eqb (rd (field Pc d)) 0 ≡ false → Sectioned n rd d
+  unfolding section_ok
   ok-sectioned h z = by (eqb (rd (field Count d)) 0) h
     where
       by : (t : Bool)
@@ -54,16 +54,16 @@ module _ (n : ℕ) (rd : Memory) (d : ℕ) where
           }
 
   -- nothing owned, where the pc is 0
-  pub ok-owned : pcOk n rd d ≡ true → rd (field Pc d) ≡ 0 → rd (field Owned d) ≡ 0
-  unfolding pcOk
+  pub ok-owned : pc_ok n rd d ≡ true → rd (field Pc d) ≡ 0 → rd (field Owned d) ≡ 0
+  unfolding pc_ok
   ok-owned h z = eqb-true _ _ (rw z at h)
 
   -- the four tests, where it is not
   pub record NamedOk : Type 0 where
     pub some : 1 ≤ rd (field Pc d) % 2 ^ 63
-    pub below : namedStep n rd d < rd (field Count d)
-    pub entry : entryOk n rd d (opAt n rd d (namedStep n rd d)) ≡ true
-    pub owned : (rd (field Owned d) ≡ held_at n rd d (namedStep n rd d)) ⊎ (rd (field Owned d) ≡ held_at n rd d (suc (namedStep n rd d)))
+    pub below : named_step n rd d < rd (field Count d)
+    pub entry : entry_ok n rd d (op_at n rd d (named_step n rd d)) ≡ true
+    pub owned : (rd (field Owned d) ≡ held_at n rd d (named_step n rd d)) ⊎ (rd (field Owned d) ≡ held_at n rd d (suc (named_step n rd d)))
 
   private-either : (o h g : ℕ) → (eqb o h ≡ true) ⊎ (eqb o g ≡ true) → (o ≡ h) ⊎ (o ≡ g)
   private-either o h g (inl e) = inl (eqb-true o h e)
@@ -75,12 +75,12 @@ module _ (n : ℕ) (rd : Memory) (d : ℕ) where
       let b = and_left (p && q) r a in
       (and_left p q b, and_right p q b, and_right (p && q) r a, and_right (p && q && r) s h)
 
-  pub ok_named : pcOk n rd d ≡ true → eqb (rd (field Pc d)) 0 ≡ false → NamedOk
-  unfolding pcOk namedOp
+  pub ok_named : pc_ok n rd d ≡ true → eqb (rd (field Pc d)) 0 ≡ false → NamedOk
+  unfolding pc_ok named_op
   ok_named h z =
-      let s = namedStep n rd d in
+      let s = named_step n rd d in
       let o = rd (field Owned d) in
-      let t = private-tests (leb 1 (rd (field Pc d) % 2 ^ 63)) (ltb s (rd (field Count d))) (entryOk n rd d (opAt n rd d s))
+      let t = private-tests (leb 1 (rd (field Pc d) % 2 ^ 63)) (ltb s (rd (field Count d))) (entry_ok n rd d (op_at n rd d s))
       (eqb o (held_at n rd d s) || eqb o (held_at n rd d (suc s))) (rw z at h) in
       record {
         some = leb-true _ _ t.0;
@@ -91,26 +91,26 @@ module _ (n : ℕ) (rd : Memory) (d : ℕ) where
 
   -- ---- a named step
 
-  private-step : 1 ≤ rd (field Pc d) % 2 ^ 63 → rd (field Pc d) % 2 ^ 63 ≡ suc (namedStep n rd d)
-  unfolding namedStep
+  private-step : 1 ≤ rd (field Pc d) % 2 ^ 63 → rd (field Pc d) % 2 ^ 63 ≡ suc (named_step n rd d)
+  unfolding named_step
   private-step h = omega arith
 
   private-both : (a b v w : ℕ) → (eqb a b && eqb v w) ≡ true → (a ≡ b) × (v ≡ w)
   private-both a b v w h = (eqb-true a b (and_left (eqb a b) (eqb v w) h), eqb-true v w (and_right (eqb a b) (eqb v w) h))
 
-  private-entry : (x : Op) → entryOk n rd d x ≡ true → (rd (field (activeAddr n rd d) d) ≡ index_of n (target_of d x)) × logsHeld n rd d (namedStep n rd d) x
+  private-entry : (x : Op) → entry_ok n rd d x ≡ true → (rd (field (active_addr n rd d) d) ≡ index_of n (target_of d x)) × logs_held n rd d (named_step n rd d) x
   private-entry (Acquire a) h =
-      private-both (rd (field (activeAddr n rd d) d)) (index_of n (field Owned d)) (rd (field (activeVal n rd d) d)) (held_at n rd d (suc (namedStep n rd d))) h
+      private-both (rd (field (active_addr n rd d) d)) (index_of n (field Owned d)) (rd (field (active_val n rd d) d)) (held_at n rd d (suc (named_step n rd d))) h
   private-entry (Release a) h =
-      private-both (rd (field (activeAddr n rd d) d)) (index_of n (field Owned d)) (rd (field (activeVal n rd d) d)) (held_at n rd d (suc (namedStep n rd d))) h
+      private-both (rd (field (active_addr n rd d) d)) (index_of n (field Owned d)) (rd (field (active_val n rd d) d)) (held_at n rd d (suc (named_step n rd d))) h
   private-entry (Assign a e) h = (eqb-true _ _ h, tt)
   private-entry (Jump a b) h = absurd (false≢true h)
   private-entry Finish h = absurd (false≢true h)
   private-entry Unknown h = absurd (false≢true h)
 
-  pub ok-entry : NamedOk → Named n rd d (namedStep n rd d)
+  pub ok-entry : NamedOk → Named n rd d (named_step n rd d)
   ok-entry k =
-      let e = private-entry (opAt n rd d (namedStep n rd d)) k.entry in
+      let e = private-entry (op_at n rd d (named_step n rd d)) k.entry in
       record { pc = private-step k.some; below = k.below; address = e.0; logs = e.1 }
 
   private-release : (o i s g : ℕ) → i ≡ o → (o ≡ s) ⊎ (o ≡ g) → ((o ≡ s) × (i ≡ s)) ⊎ ((o ≡ g) × (i ≡ g))
@@ -121,13 +121,13 @@ module _ (n : ℕ) (rd : Memory) (d : ℕ) where
   private-level o h g e (inl i) = i
   private-level o h g e (inr i) = i ∙ e
 
-  private-due : (x : Op) (locks : ℕ) → opAt n rd d (namedStep n rd d) ≡ x → entryOk n rd d x ≡ true
-      → (rd (field Owned d) ≡ held_at n rd d (namedStep n rd d)) ⊎ (rd (field Owned d) ≡ held_at n rd d (suc (namedStep n rd d)))
-      → rd (field Intent d) ≡ locks → locks ≡ owed_of x (held_at n rd d (suc (namedStep n rd d))) (rd (field Owned d)) → Due n rd d (namedStep n rd d) locks x
+  private-due : (x : Op) (locks : ℕ) → op_at n rd d (named_step n rd d) ≡ x → entry_ok n rd d x ≡ true
+      → (rd (field Owned d) ≡ held_at n rd d (named_step n rd d)) ⊎ (rd (field Owned d) ≡ held_at n rd d (suc (named_step n rd d)))
+      → rd (field Intent d) ≡ locks → locks ≡ owed_of x (held_at n rd d (suc (named_step n rd d))) (rd (field Owned d)) → Due n rd d (named_step n rd d) locks x
   private-due (Acquire a) locks x h o i l = (o, i ∙ l, l)
   private-due (Release a) locks x h o i l = (private-release _ _ _ _ (i ∙ l) o, sym i)
   private-due (Assign a e) locks x h o i l =
-      let s = namedStep n rd d in
+      let s = named_step n rd d in
       let w : rd (field Owned d) ≡ held_at n rd d s = private-level _ _ _ (after-assign (code_in n rd d) s a e x) o in
       (w, i ∙ (l ∙ w), l ∙ w)
   private-due (Jump a b) locks x h o i l = absurd (false≢true h)
@@ -140,16 +140,16 @@ module _ (n : ℕ) (rd : Memory) (d : ℕ) where
   unfolding resumed
   resumed-idle z = rw z
 
-  pub resumed-on : eqb (rd (field Pc d)) 0 ≡ false → resumed n rd d ≡ on (namedStep n rd d) (target_turn (opAt n rd d (namedStep n rd d)))
-  unfolding resumed namedOp
+  pub resumed-on : eqb (rd (field Pc d)) 0 ≡ false → resumed n rd d ≡ on (named_step n rd d) (target_turn (op_at n rd d (named_step n rd d)))
+  unfolding resumed named_op
   resumed-on z = rw z
 
   private-owed : eqb (rd (field Pc d)) 0 ≡ false
-      → owed n rd d ≡ owed_of (opAt n rd d (namedStep n rd d)) (held_at n rd d (suc (namedStep n rd d))) (rd (field Owned d))
-  unfolding owed namedOp
+      → owed n rd d ≡ owed_of (op_at n rd d (named_step n rd d)) (held_at n rd d (suc (named_step n rd d))) (rd (field Owned d))
+  unfolding owed named_op
   private-owed z = rw z
 
-  pub settled-phase : (g : Given) → sectionOk n rd d ≡ true → pcOk n rd d ≡ true → rd (field Intent d) ≡ owed n rd d
+  pub settled-phase : (g : Given) → section_ok n rd d ≡ true → pc_ok n rd d ≡ true → rd (field Intent d) ≡ owed n rd d
       → (rd (field Pc d) ≡ 0 → rd (field Count d) ≡ 0)
       → Phase n rd d g (resumed n rd d) (owed n rd d) 0
   settled-phase g s p i c = by (eqb (rd (field Pc d)) 0) refl
@@ -161,6 +161,6 @@ module _ (n : ℕ) (rd : Memory) (d : ℕ) where
           rw (resumed-idle z, o) (resting (c z) z (i ∙ o) (ok-owned p z))
       by false e =
           let k = ok_named p e in
-          let step = namedStep n rd d in
-          let r = private-due (opAt n rd d step) (owed n rd d) refl k.entry k.owned i (private-owed e) in
+          let step = named_step n rd d in
+          let r = private-due (op_at n rd d step) (owed n rd d) refl k.entry k.owned i (private-owed e) in
           rw (resumed-on e) (due step (owed n rd d) (ok-sectioned s e) (ok-entry k) r)

@@ -15,13 +15,13 @@ use Rattle.image.specs.Image.{at, workers, header_ok}
 use Rattle.turn.specs.declared.Answer.TheVariants.{Idle}
 use Rattle.run.specs.declared.End.TheVariants.{AllIdle, Spent}
 use Rattle.working.specs.Cursor.{idle, cursor_at}
-use Rattle.plan.specs.Turn.{Outcome, stored, passed, waiting, resting, refused, turnAt}
+use Rattle.plan.specs.Turn.{Outcome, stored, passed, waiting, resting, refused, turn_at}
 use Rattle.working.specs.World.{World}
 use Rattle.turn.specs.Call.{answer_of, outcome_at, outcome}
-use Rattle.run.specs.Run.{any_open, Counting, counting, Course, ran, Sweep, turned, swept, sweep, afterSweep, roundsOf, run_of}
+use Rattle.run.specs.Run.{any_open, Counting, counting, Course, ran, Sweep, turned, swept, sweep, after_sweep, rounds_of, run_of}
 use Rattle.working.proofs.Placed.{idle-is}
-use Rattle.claims.specs.Calls.{Traced, turnedAt, refuses, round, rounds, runs, whole, call, lent, move}
-use Rattle.claims.specs.Claims.{is_halted, runEnd}
+use Rattle.claims.specs.Calls.{Traced, turned_at, refuses, round, rounds, runs, whole, call, lent, move}
+use Rattle.claims.specs.Claims.{is_halted, run_end}
 use Rattle.claims.proofs.Progress.{is_resting, open-acts}
 use Rattle.claims.proofs.Worlds.{Running}
 use Rattle.claims.proofs.Settling.{Spare, spare-turn, never-refused}
@@ -36,8 +36,8 @@ rests-answer n (waiting b) e = cc
 rests-answer n resting e = refl
 rests-answer n (refused r) e = cc
 
-idle-rests : (n : ℕ) (rd : Memory) (d : ℕ) → turnAt n rd d idle ≡ resting
-unfolding turnAt
+idle-rests : (n : ℕ) (rd : Memory) (d : ℕ) → turn_at n rd d idle ≡ resting
+unfolding turn_at
 idle-rests n rd d = refl
 
 -- an idle worker is one whose turn answers idle
@@ -49,7 +49,7 @@ idle-answers mark n w d header l =
     let rd = at n w.image in
     let c = cursor_at w.cursors d in
     let below = lt-ltb d (workers w.image) l in
-    (λ e. rw (header, below, e, idle-rests n rd d), λ e. idle-is c (sym (open-acts n rd d c) ∙ rests-answer n (turnAt n rd d c) (rw (header, below) at e)))
+    (λ e. rw (header, below, e, idle-rests n rd d), λ e. idle-is c (sym (open-acts n rd d c) ∙ rests-answer n (turn_at n rd d c) (rw (header, below) at e)))
 
 -- ---- a run
 
@@ -73,46 +73,46 @@ module _ (mark n : ℕ) where
         (rest : Traced → Traced) (more : Counting → Course)
         → ((v : Traced) (t : Tally) → Spare mark n D cells v → (more (counting v.world t)).end ≡ cond (any_open D 0 (rest v).world.cursors) Spent AllIdle)
         → (k d : ℕ) (w : Traced) (t : Tally) → d + k ≤ D → Spare mark n D cells w
-        → (afterSweep n more (sweep n k d (counting w.world t))).end ≡ cond (any_open D 0 (round mark n rest w d k).world.cursors) Spent AllIdle
-    unfolding round sweep afterSweep turned turnedAt
+        → (after_sweep n more (sweep n k d (counting w.world t))).end ≡ cond (any_open D 0 (round mark n rest w d k).world.cursors) Spent AllIdle
+    unfolding round sweep after_sweep turned turned_at
     round-end rest more follows zero d w t l s = follows w t s
     round-end rest more follows (suc k) d w t l s =
         let goes = never-refused mark n D cells w d s.running (omega arith) in
         rw (goes, swept-on (outcome_at n w.world d) (counting w.world t) (sweep n k (d + 1) (turned n (counting w.world t) d)) goes)
-        (round-end rest more follows k (d + 1) (turnedAt mark n w d) (turned n (counting w.world t) d).tally (omega arith)
+        (round-end rest more follows k (d + 1) (turned_at mark n w d) (turned n (counting w.world t) d).tally (omega arith)
         (spare-turn mark n D cells w d s (omega arith)).spare)
 
     pub end-agrees :
         (r : ℕ) (w : Traced) (t : Tally) → Spare mark n D cells w
-        → (roundsOf n r D (counting w.world t)).end ≡ cond (any_open D 0 (rounds mark n r D w).world.cursors) Spent AllIdle
-    unfolding rounds roundsOf
+        → (rounds_of n r D (counting w.world t)).end ≡ cond (any_open D 0 (rounds mark n r D w).world.cursors) Spent AllIdle
+    unfolding rounds rounds_of
     end-agrees zero w t s = by (any_open D 0 w.world.cursors)
       where
         by : (b : Bool) → (cond b (ran Spent (counting w.world t)) (ran AllIdle (counting w.world t))).end ≡ cond b Spent AllIdle
         by true = refl
         by false = refl
     end-agrees (suc r) w t s =
-        by (any_open D 0 w.world.cursors) refl (round-end (rounds mark n r D) (roundsOf n r D) (λ v u x. end-agrees r v u x) D 0 w t (omega arith) s)
+        by (any_open D 0 w.world.cursors) refl (round-end (rounds mark n r D) (rounds_of n r D) (λ v u x. end-agrees r v u x) D 0 w t (omega arith) s)
       where
         by :
             (b : Bool) → any_open D 0 w.world.cursors ≡ b
-            → (afterSweep n (roundsOf n r D) (sweep n D 0 (counting w.world t))).end
+            → (after_sweep n (rounds_of n r D) (sweep n D 0 (counting w.world t))).end
             ≡ cond (any_open D 0 (round mark n (rounds mark n r D) w 0 D).world.cursors) Spent AllIdle
-            → (cond b (afterSweep n (roundsOf n r D) (sweep n D 0 (counting w.world t))) (ran AllIdle (counting w.world t))).end
+            → (cond b (after_sweep n (rounds_of n r D) (sweep n D 0 (counting w.world t))) (ran AllIdle (counting w.world t))).end
             ≡ cond (any_open D 0 (cond b (round mark n (rounds mark n r D) w 0 D) w).world.cursors) Spent AllIdle
         by true e h = h
         by false e h = rw e
 
-    run-rounds : (r : ℕ) (w : World) → header_ok mark n w.image ≡ true → workers w.image ≡ D → run_of mark n w r ≡ roundsOf n r D (counting w none)
+    run-rounds : (r : ℕ) (w : World) → header_ok mark n w.image ≡ true → workers w.image ≡ D → run_of mark n w r ≡ rounds_of n r D (counting w none)
     unfolding run_of
     run-rounds r w header many = rw (header, many)
 
     -- a run made now, and lent enough
-    pub run_end :
+    pub run_end_lem :
         (r : ℕ) (w : Traced) → Running mark n D cells w
-        → runEnd mark n w r ≡ cond (any_open D 0 (move mark n (whole (runs r)) w).world.cursors) Spent AllIdle
+        → run_end mark n w r ≡ cond (any_open D 0 (move mark n (whole (runs r)) w).world.cursors) Spent AllIdle
     unfolding move call
-    run_end r w h =
+    run_end_lem r w h =
         let v = lent mark n (plenty mark n D cells) w in
         ap (λ (x : Course). x.end) (run-rounds r v.world h.reached.header h.reached.many)
         ∙ rw (ran-is mark n D cells v r h.reached) (end-agrees r v none (spare-lent mark n D cells w (plenty mark n D cells) h (omega arith)))

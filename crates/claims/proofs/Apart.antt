@@ -24,11 +24,11 @@ use Rattle.code.specs.declared.Op.TheVariants.{Acquire, Release, Assign, Jump, F
 use Rattle.rules.specs.Rules.{covered}
 use Rattle.section.proofs.Held.{after-release, after-assign}
 use Rattle.working.specs.Cursor.{Cursor}
-use Rattle.worklog.specs.Log.{operand, code_in, word_in, activeVal}
-use Rattle.owed.specs.Owed.{target_of, namedOp}
+use Rattle.worklog.specs.Log.{operand, code_in, word_in, active_val}
+use Rattle.owed.specs.Owed.{target_of, named_op}
 use Rattle.claims.specs.Reference.{Given, Job, State, read_in}
 use Rattle.claims.proofs.Virtual.{misses, entry_of, virtual, virtual-none, virtual-due}
-use Rattle.claims.proofs.Invariant.{opAt, held_at, Sectioned, Named, Nearing, Due, Phase, resting, fresh, due, unlocking, unlocked, between, ended, Live}
+use Rattle.claims.proofs.Invariant.{op_at, held_at, Sectioned, Named, Nearing, Due, Phase, resting, fresh, due, unlocking, unlocked, between, ended, Live}
 use Rattle.claims.proofs.Invariant.{JobOf, Mirrors}
 use Rattle.claims.proofs.Entries.{apart_of, belongs, entry-none, entry-due, entry_named, named-logs}
 use Rattle.claims.proofs.Sets.{within-with, without-within}
@@ -39,15 +39,15 @@ use Rattle.claims.proofs.LiveTurn.{one-owner}
 pub record Busy (n : ℕ) (rd : Memory) (d locks s : ℕ) : Type 0 where
   pub sectioned : Sectioned n rd d
   pub named : Named n rd d s
-  pub owned : (a : ℕ) (e : Expr) → opAt n rd d s ≡ Assign a e → rd (field Owned d) ≡ held_at n rd d (suc s)
+  pub owned : (a : ℕ) (e : Expr) → op_at n rd d s ≡ Assign a e → rd (field Owned d) ≡ held_at n rd d (suc s)
   pub within : (b : ℕ) → has (held_at n rd d (suc s)) b ≡ true → has locks b ≡ true
 
 module _ (n : ℕ) (rd : Memory) (d : ℕ) where
-  release-within : (s a b : ℕ) → opAt n rd d s ≡ Release a → has (held_at n rd d (suc s)) b ≡ true → has (held_at n rd d s) b ≡ true
+  release-within : (s a b : ℕ) → op_at n rd d s ≡ Release a → has (held_at n rd d (suc s)) b ≡ true → has (held_at n rd d s) b ≡ true
   release-within s a b o h = without-within (held_at n rd d s) a b (rw (after-release (code_in n rd d) s a o) at h)
 
   -- one of the held sets before and after a release
-  either-within : (s a locks b : ℕ) → opAt n rd d s ≡ Release a → (locks ≡ held_at n rd d s) ⊎ (locks ≡ held_at n rd d (suc s))
+  either-within : (s a locks b : ℕ) → op_at n rd d s ≡ Release a → (locks ≡ held_at n rd d s) ⊎ (locks ≡ held_at n rd d (suc s))
       → has (held_at n rd d (suc s)) b ≡ true → has locks b ≡ true
   either-within s a locks b o (inl e) h = rw e (release-within s a b o h)
   either-within s a locks b o (inr e) h = rw e h
@@ -64,7 +64,7 @@ module _ (n : ℕ) (rd : Memory) (d : ℕ) where
   intends s locks (inl e) i = inl (i ∙ e)
   intends s locks (inr e) i = inr (i ∙ e)
 
-  due-within : (s locks : ℕ) (x : Op) → opAt n rd d s ≡ x → Due n rd d s locks x → (b : ℕ) → has (held_at n rd d (suc s)) b ≡ true → has locks b ≡ true
+  due-within : (s locks : ℕ) (x : Op) → op_at n rd d s ≡ x → Due n rd d s locks x → (b : ℕ) → has (held_at n rd d (suc s)) b ≡ true → has locks b ≡ true
   due-within s locks (Acquire a) o D b h = rw D.2 h
   due-within s locks (Release a) o D b h = either-within s a locks b o (released s locks D.0 D.1) h
   due-within s locks (Assign a e) o D b h = rw (D.2, ← after-assign (code_in n rd d) s a e o) h
@@ -72,7 +72,7 @@ module _ (n : ℕ) (rd : Memory) (d : ℕ) where
   due-within s locks Finish o D b h = absurd D
   due-within s locks Unknown o D b h = absurd D
 
-  due-owned : (s locks : ℕ) (x : Op) → opAt n rd d s ≡ x → Due n rd d s locks x → (a : ℕ) (e : Expr) → opAt n rd d s ≡ Assign a e
+  due-owned : (s locks : ℕ) (x : Op) → op_at n rd d s ≡ x → Due n rd d s locks x → (a : ℕ) (e : Expr) → op_at n rd d s ≡ Assign a e
       → rd (field Owned d) ≡ held_at n rd d (suc s)
   due-owned s locks (Acquire c) o D a e p = cc
   due-owned s locks (Release c) o D a e p = cc
@@ -94,15 +94,15 @@ module _ (n : ℕ) (rd : Memory) (d : ℕ) where
   near_within s t h locks Finish N b l = rw N.2 l
   near_within s t h locks Unknown N b l = absurd N
 
-  pub busy-due : (s locks : ℕ) → Sectioned n rd d → Named n rd d s → Due n rd d s locks (opAt n rd d s) → Busy n rd d locks s
+  pub busy-due : (s locks : ℕ) → Sectioned n rd d → Named n rd d s → Due n rd d s locks (op_at n rd d s) → Busy n rd d locks s
   busy-due s locks S N D =
-      record { sectioned = S; named = N; owned = due-owned s locks (opAt n rd d s) refl D; within = due-within s locks (opAt n rd d s) refl D }
+      record { sectioned = S; named = N; owned = due-owned s locks (op_at n rd d s) refl D; within = due-within s locks (op_at n rd d s) refl D }
 
   pub busy-between :
       (s k t locks : ℕ) → Sectioned n rd d → Named n rd d s → rd (field Owned d) ≡ held_at n rd d k → held_at n rd d k ≡ held_at n rd d (suc s)
-      → Nearing n rd d k t (held_at n rd d k) locks (opAt n rd d k) → Busy n rd d locks s
+      → Nearing n rd d k t (held_at n rd d k) locks (op_at n rd d k) → Busy n rd d locks s
   busy-between s k t locks S N o h K =
-      record { sectioned = S; named = N; owned = λ a e p. o ∙ h; within = λ b l. near_within k t (held_at n rd d k) locks (opAt n rd d k) K b (rw h l) }
+      record { sectioned = S; named = N; owned = λ a e p. o ∙ h; within = λ b l. near_within k t (held_at n rd d k) locks (op_at n rd d k) K b (rw h l) }
 
   pub busy-of : (g : Given) {c : Cursor} {locks j : ℕ} → Phase n rd d g c locks j → rd (field Pc d) ≢ 0 → (s : ℕ) × Busy n rd d locks s
   busy-of g (resting a b e f) z = absurd (z b)
@@ -136,10 +136,10 @@ covered-guarded d h locks x w c = by (ltb x 512) refl
     by false e = refl
 
 -- the target of the named step is guarded
-pub target-guarded : (n : ℕ) (rd : Memory) (d locks s : ℕ) → Busy n rd d locks s → Guarded d locks (target_of d (opAt n rd d s))
-target-guarded n rd d locks s B = by (opAt n rd d s) refl
+pub target-guarded : (n : ℕ) (rd : Memory) (d locks s : ℕ) → Busy n rd d locks s → Guarded d locks (target_of d (op_at n rd d s))
+target-guarded n rd d locks s B = by (op_at n rd d s) refl
   where
-    by : (x : Op) → opAt n rd d s ≡ x → Guarded d locks (target_of d x)
+    by : (x : Op) → op_at n rd d s ≡ x → Guarded d locks (target_of d x)
     by (Acquire a) o = refl
     by (Release a) o = refl
     by (Assign a e) o =
@@ -180,7 +180,7 @@ misses-record n rd d e q h b = by (ℕ_discrete (rd (field Pc e)) 0)
   where
     by : Dec (rd (field Pc e) ≡ 0) → misses (entry_of n rd e) q
     by (yes z) = misses-none n rd e q z
-    by (no z) = rw (entry-due n rd e z) (apart_of (belongs d) q (target_of e (namedOp n rd e)) b (target-elsewhere d e (namedOp n rd e) h))
+    by (no z) = rw (entry-due n rd e z) (apart_of (belongs d) q (target_of e (named_op n rd e)) b (target-elsewhere d e (named_op n rd e) h))
 
 -- ---- in a live memory
 
@@ -191,17 +191,17 @@ module _ (n D : ℕ) (rd : Memory) (cursor : ℕ → Cursor) (locks jumps : ℕ 
   misses-cell : (d e x : ℕ) → d < D → e < D → e ≢ d → x < 512 → has (locks d) (x / 8) ≡ true → misses (entry_of n rd e) (cell x)
   misses-cell d e x l m h lx p = by (ℕ_discrete (rd (field Pc e)) 0)
     where
-      apart : (s : ℕ) → Busy n rd e (locks e) s → (t : Bool) → same (cell x) (target_of e (opAt n rd e s)) ≡ t
-          → same (cell x) (target_of e (opAt n rd e s)) ≡ false
+      apart : (s : ℕ) → Busy n rd e (locks e) s → (t : Bool) → same (cell x) (target_of e (op_at n rd e s)) ≡ t
+          → same (cell x) (target_of e (op_at n rd e s)) ≡ false
       apart s B true i =
-          let k : Guarded e (locks e) (cell x) = subst (Guarded e (locks e)) (sym (same_place (cell x) (target_of e (opAt n rd e s)) i))
+          let k : Guarded e (locks e) (cell x) = subst (Guarded e (locks e)) (sym (same_place (cell x) (target_of e (op_at n rd e s)) i))
           (target-guarded n rd e (locks e) s B) in
           absurd (h (one-owner L (x / 8) e d (omega arith) m l k.1 p))
       apart s B false i = i
 
       by : Dec (rd (field Pc e) ≡ 0) → misses (entry_of n rd e) (cell x)
       by (yes z) = misses-none n rd e (cell x) z
-      by (no z) = let (s, B) = busy e m z in rw (entry_named n rd e s B.named.pc) (apart s B (same (cell x) (target_of e (opAt n rd e s))) refl)
+      by (no z) = let (s, B) = busy e m z in rw (entry_named n rd e s B.named.pc) (apart s B (same (cell x) (target_of e (op_at n rd e s))) refl)
 
   -- no other worker's entry is for a place that worker d guards
   pub misses-guarded : (d e : ℕ) → d < D → e < D → e ≢ d → (q : Place) → Guarded d (locks d) q → misses (entry_of n rd e) q
@@ -227,29 +227,29 @@ module _ (n D : ℕ) (rd : Memory) (cursor : ℕ → Cursor) (locks jumps : ℕ 
 
   module _ (d s : ℕ) (l : d < D) (B : Busy n rd d (locks d) s) where
     -- at the target stands the entry's value
-    pub virtual-target : virtual n rd D (target_of d (opAt n rd d s)) ≡ rd (field (activeVal n rd d) d)
+    pub virtual-target : virtual n rd D (target_of d (op_at n rd d s)) ≡ rd (field (active_val n rd d) d)
     virtual-target =
-        let p = target_of d (opAt n rd d s) in
-        virtual-due n rd D d p p (rd (field (activeVal n rd d) d)) l (entry_named n rd d s B.named.pc) (same_refl p)
+        let p = target_of d (op_at n rd d s) in
+        virtual-due n rd D d p p (rd (field (active_val n rd d) d)) l (entry_named n rd d s B.named.pc) (same_refl p)
         (λ e m h. misses-guarded d e l m h p (target-guarded n rd d (locks d) s B))
 
     -- and at another guarded place what stands there now
-    pub virtual-beside : (q : Place) → Guarded d (locks d) q → same q (target_of d (opAt n rd d s)) ≡ false → virtual n rd D q ≡ rd q
+    pub virtual-beside : (q : Place) → Guarded d (locks d) q → same q (target_of d (op_at n rd d s)) ≡ false → virtual n rd D q ≡ rd q
     virtual-beside q g e = virtual-missed d l q g (rw (entry_named n rd d s B.named.pc) e)
 
     -- once the target store is made, every guarded place is as it stands
-    pub virtual-settled : rd (target_of d (opAt n rd d s)) ≡ rd (field (activeVal n rd d) d) → (q : Place) → Guarded d (locks d) q → virtual n rd D q ≡ rd q
-    virtual-settled made q g = by (same q (target_of d (opAt n rd d s))) refl
+    pub virtual-settled : rd (target_of d (op_at n rd d s)) ≡ rd (field (active_val n rd d) d) → (q : Place) → Guarded d (locks d) q → virtual n rd D q ≡ rd q
+    virtual-settled made q g = by (same q (target_of d (op_at n rd d s))) refl
       where
-        by : (t : Bool) → same q (target_of d (opAt n rd d s)) ≡ t → virtual n rd D q ≡ rd q
-        by true e = rw (same_place q (target_of d (opAt n rd d s)) e) (virtual-target ∙ sym made)
+        by : (t : Bool) → same q (target_of d (op_at n rd d s)) ≡ t → virtual n rd D q ≡ rd q
+        by true e = rw (same_place q (target_of d (op_at n rd d s)) e) (virtual-target ∙ sym made)
         by false e = virtual-beside q g e
 
     -- the owned set is the held set after the named step
     pub virtual-owned : virtual n rd D (field Owned d) ≡ held_at n rd d (suc s)
-    virtual-owned = by (opAt n rd d s) refl
+    virtual-owned = by (op_at n rd d s) refl
       where
-        by : (x : Op) → opAt n rd d s ≡ x → virtual n rd D (field Owned d) ≡ held_at n rd d (suc s)
+        by : (x : Op) → op_at n rd d s ≡ x → virtual n rd D (field Owned d) ≡ held_at n rd d (suc s)
         by (Acquire a) o = (rw o at virtual-target) ∙ named-logs n rd d s B.named (Acquire a) o
         by (Release a) o = (rw o at virtual-target) ∙ named-logs n rd d s B.named (Release a) o
         by (Assign a e) o = virtual-beside (field Owned d) refl (rw o (field-operand Owned d d a)) ∙ B.owned a e o
@@ -259,7 +259,7 @@ module _ (n D : ℕ) (rd : Memory) (cursor : ℕ → Cursor) (locks jumps : ℕ 
 
     -- what the worker reads where its locks are held, the machine reads
     pub reads_same :
-        rd (target_of d (opAt n rd d s)) ≡ rd (field (activeVal n rd d) d) → (S : State) (j : Job) → Mirrors n D rd S → JobOf n D rd d j
+        rd (target_of d (op_at n rd d s)) ≡ rd (field (active_val n rd d) d) → (S : State) (j : Job) → Mirrors n D rd S → JobOf n D rd d j
         → (x : ℕ) → covered (held_at n rd d (suc s)) x ≡ true → x < 512 + n → read_in S.cells j.own x ≡ word_in n rd d x
     unfolding read_in operand
     reads_same made S j M J x c h = by (ltb x 512) refl

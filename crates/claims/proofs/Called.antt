@@ -24,7 +24,7 @@ use Rattle.working.specs.World.{World, world}
 use Rattle.intake.specs.Submit.{submission, free, submit_answer, is_taken}
 use Rattle.working.proofs.Placed.{idle-is}
 use Rattle.intake.proofs.Submission.{submission-length, accepted as met}
-use Rattle.resuming.specs.Resumed.{resumedAll}
+use Rattle.resuming.specs.Resumed.{resumed_all}
 use Rattle.repair.specs.Plan.{plan}
 use Rattle.recovery.specs.Recovery.{recovery, accepted}
 use Rattle.owed.specs.Owed.{owed}
@@ -62,7 +62,7 @@ module _ (mark n D : ℕ) (cells : List ℕ) (m : Image) (begun : List Given) (o
   pub crash : Crashed n (workers m) (at n m)
   crash = subst (λ (e : ℕ). Crashed n e (at n m)) (sym k.reached.many) k.crashed
 
-  pub accepts : recovery mark n m ≡ accepted (plan n (at n m) (workers m)) (resumedAll n (at n m) (workers m))
+  pub accepts : recovery mark n m ≡ accepted (plan n (at n m) (workers m)) (resumed_all n (at n m) (workers m))
   accepts = crashed-accepted mark n m k.reached.header crash
 
   recovered-reached : (left : ℕ) → Reached mark n D cells (put_all n left m (plan n (at n m) (workers m))) begun order
@@ -87,7 +87,7 @@ module _ (mark n D : ℕ) (cells : List ℕ) (m : Image) (begun : List Given) (o
   -- an uncut one leaves the world running
   pub recover-whole : (left : ℕ) → 592 ≤ left → (g : Trace) → g.begun ≡ begun → g.order ≡ order
       → Running mark n D cells (traced
-      (world (put_all n left m (plan n (at n m) (workers m))) (resumedAll n (at n m) (workers m)) (left - length (plan n (at n m) (workers m))))
+      (world (put_all n left m (plan n (at n m) (workers m))) (resumed_all n (at n m) (workers m)) (left - length (plan n (at n m) (workers m))))
       (forgetful g))
   recover-whole left l g b o =
       record {
@@ -95,7 +95,7 @@ module _ (mark n D : ℕ) (cells : List ℕ) (m : Image) (begun : List Given) (o
         full = resumed-full n (at n m) (workers m);
         locks = owed n (at n m);
         live =
-            subst (λ (e : ℕ). Live n e (at n (put_all n left m (plan n (at n m) (workers m)))) (cursor_at (resumedAll n (at n m) (workers m))) (owed n (at n m))
+            subst (λ (e : ℕ). Live n e (at n (put_all n left m (plan n (at n m) (workers m)))) (cursor_at (resumed_all n (at n m) (workers m))) (owed n (at n m))
             (λ d. 0) g.last) k.reached.many (recovery-whole mark n m k.reached.header crash left l g.last);
       }
 

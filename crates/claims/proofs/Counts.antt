@@ -23,11 +23,11 @@ use Rattle.code.specs.declared.Op.{Op}
 use Rattle.code.specs.declared.Op.TheVariants.{Acquire, Release, Assign, Finish}
 use Rattle.code.specs.Op.{op_of, eval}
 use Rattle.working.specs.Cursor.{Cursor}
-use Rattle.worklog.specs.Log.{operand, spareVal, switched}
+use Rattle.worklog.specs.Log.{operand, spare_val, switched}
 use Rattle.owed.specs.Owed.{target_of}
 use Rattle.claims.specs.Reference.{Given, Job, job, State, state, read_in, held_in, taken, onto, assigned, advance}
 use Rattle.claims.proofs.Virtual.{virtual}
-use Rattle.claims.proofs.Invariant.{opAt, Live, JobOf, Mirrors}
+use Rattle.claims.proofs.Invariant.{op_at, Live, JobOf, Mirrors}
 use Rattle.claims.proofs.Machine.{taken_false, advance-acquire, advance-release, advance-assign, advance-finish}
 use Rattle.claims.proofs.Apart.{Guarded, held-within}
 use Rattle.claims.proofs.Switching.{after, switched-some, switched-step, Freed, virtual-new, virtual-old, mirror-set}
@@ -41,7 +41,7 @@ pub record Poised (n D : ℕ) (rd : Memory) (d k : ℕ) (j : Job) : Type 0 where
   pub own : (i : ℕ) → i < n → get_or j.own i 0 ≡ virtual n rd D (own d i)
   pub code : (i : ℕ) → i < rd (field Count d) → get_or j.code i 0 ≡ rd (step d i)
 
-pub poised-op : (n D : ℕ) (rd : Memory) (d k : ℕ) (j : Job) → Poised n D rd d k j → k < rd (field Count d) → op_of (get_or j.code j.next 0) ≡ opAt n rd d k
+pub poised-op : (n D : ℕ) (rd : Memory) (d k : ℕ) (j : Job) → Poised n D rd d k j → k < rd (field Count d) → op_of (get_or j.code j.next 0) ≡ op_at n rd d k
 poised-op n D rd d k j P l = rw P.next (ap op_of (P.code k l))
 
 pub operand-cell : (d a : ℕ) → ltb a 512 ≡ true → operand d a ≡ cell a
@@ -65,19 +65,19 @@ module _ (n D : ℕ) (rd : Memory) (cursor : ℕ → Cursor) (locks jumps : ℕ 
   reset : (cs : List ℕ) (q : List Job) → ◌≡◌ {A = Option State} (some (state cs (set (onto S d j []).queues d q))) (some (state cs (set S.queues d q)))
   reset cs q = ap (λ (qs : List (List Job)). some (state cs qs)) (set-set S.queues d (j ∷ []) q)
 
-  old : (p q : Place) → target_of d (opAt n rd d k) ≡ p → same q (field Pc d) ≡ false → same q p ≡ false → virtual n (after n rd d k) D q ≡ virtual n rd D q
+  old : (p q : Place) → target_of d (op_at n rd d k) ≡ p → same q (field Pc d) ≡ false → same q p ≡ false → virtual n (after n rd d k) D q ≡ virtual n rd D q
   old p q t f h = virtual-old n D rd cursor locks jumps given L d l k short F q f (rw t h)
 
-  new : (p : Place) (v : ℕ) → target_of d (opAt n rd d k) ≡ p → Guarded d (locks d) p → rd (field (spareVal n rd d) d) ≡ v → virtual n (after n rd d k) D p ≡ v
+  new : (p : Place) (v : ℕ) → target_of d (op_at n rd d k) ≡ p → Guarded d (locks d) p → rd (field (spare_val n rd d) d) ≡ v → virtual n (after n rd d k) D p ≡ v
   new p v t g e =
-      subst (λ (r : Place). virtual n (after n rd d k) D r ≡ rd (field (spareVal n rd d) d)) t
+      subst (λ (r : Place). virtual n (after n rd d k) D r ≡ rd (field (spare_val n rd d) d)) t
       (virtual-new n D rd cursor locks jumps given L d l k short (subst (Guarded d (locks d)) (sym t) g))
       ∙ e
 
   -- ---- an acquire or a release: the owned set
 
   held-mirror :
-      (h : ℕ) → target_of d (opAt n rd d k) ≡ field Owned d → rd (field (spareVal n rd d) d) ≡ h
+      (h : ℕ) → target_of d (op_at n rd d k) ≡ field Owned d → rd (field (spare_val n rd d) d) ≡ h
       → Mirrors n D (after n rd d k) (state S.cells (set S.queues d (job j.code (suc j.next) j.own h ∷ [])))
   held-mirror h t e =
       let p = field Owned d in
@@ -101,7 +101,7 @@ module _ (n D : ℕ) (rd : Memory) (cursor : ℕ → Cursor) (locks jumps : ℕ 
   -- ---- an assignment: a cell or an own word
 
   assign-cell :
-      (a v : ℕ) → target_of d (opAt n rd d k) ≡ cell a → Guarded d (locks d) (cell a) → rd (field (spareVal n rd d) d) ≡ v
+      (a v : ℕ) → target_of d (op_at n rd d k) ≡ cell a → Guarded d (locks d) (cell a) → rd (field (spare_val n rd d) d) ≡ v
       → Mirrors n D (after n rd d k) (state (set S.cells a v) (set S.queues d (job j.code (suc j.next) j.own j.held ∷ [])))
   assign-cell a v t g e =
       let p = cell a in
@@ -128,7 +128,7 @@ module _ (n D : ℕ) (rd : Memory) (cursor : ℕ → Cursor) (locks jumps : ℕ 
       by x y (no i) = get_or-set_other S.cells a x v 0 i ∙ (M.cells x y ∙ sym (old (cell a) (cell x) t refl (ne_eqb x a i)))
 
   assign-own :
-      (a v : ℕ) → target_of d (opAt n rd d k) ≡ own d a → a < n → rd (field (spareVal n rd d) d) ≡ v
+      (a v : ℕ) → target_of d (op_at n rd d k) ≡ own d a → a < n → rd (field (spare_val n rd d) d) ≡ v
       → Mirrors n D (after n rd d k) (state S.cells (set S.queues d (job j.code (suc j.next) (set j.own a v) j.held ∷ [])))
   assign-own a v t g e =
       let p = own d a in
@@ -174,11 +174,11 @@ module _ (n D : ℕ) (rd : Memory) (cursor : ℕ → Cursor) (locks jumps : ℕ 
   -- ---- each instruction
 
   module _ (below : k < rd (field Count d)) where
-    code_at : (x : Op) → opAt n rd d k ≡ x → op_of (get_or j.code j.next 0) ≡ x
+    code_at : (x : Op) → op_at n rd d k ≡ x → op_of (get_or j.code j.next 0) ≡ x
     code_at x o = poised-op n D rd d k j P below ∙ o
 
     pub counts-acquire :
-        (a : ℕ) → opAt n rd d k ≡ Acquire a → a < 64 → has (locks d) a ≡ true → has j.held a ≡ false → rd (field (spareVal n rd d) d) ≡ with j.held a
+        (a : ℕ) → op_at n rd d k ≡ Acquire a → a < 64 → has (locks d) a ≡ true → has j.held a ≡ false → rd (field (spare_val n rd d) d) ≡ with j.held a
         → Counts n D (after n rd d k) (onto S d j []) d
     counts-acquire a o h p f e = (
       state S.cells (set S.queues d (job j.code (suc j.next) j.own (with j.held a) ∷ [])),
@@ -187,7 +187,7 @@ module _ (n D : ℕ) (rd : Memory) (cursor : ℕ → Cursor) (locks jumps : ℕ 
     )
 
     pub counts-release :
-        (a : ℕ) → opAt n rd d k ≡ Release a → rd (field (spareVal n rd d) d) ≡ without j.held a → Counts n D (after n rd d k) (onto S d j []) d
+        (a : ℕ) → op_at n rd d k ≡ Release a → rd (field (spare_val n rd d) d) ≡ without j.held a → Counts n D (after n rd d k) (onto S d j []) d
     counts-release a o e = (
       state S.cells (set S.queues d (job j.code (suc j.next) j.own (without j.held a) ∷ [])),
       advance-release (onto S d j []) d j [] queue a (code_at (Release a) o) ∙ reset S.cells _,
@@ -195,8 +195,8 @@ module _ (n D : ℕ) (rd : Memory) (cursor : ℕ → Cursor) (locks jumps : ℕ 
     )
 
     pub counts-assign :
-        (a : ℕ) (x : Expr) → opAt n rd d k ≡ Assign a x → a < 512 + n → Guarded d (locks d) (operand d a)
-        → rd (field (spareVal n rd d) d) ≡ eval (read_in S.cells j.own) x → Counts n D (after n rd d k) (onto S d j []) d
+        (a : ℕ) (x : Expr) → op_at n rd d k ≡ Assign a x → a < 512 + n → Guarded d (locks d) (operand d a)
+        → rd (field (spare_val n rd d) d) ≡ eval (read_in S.cells j.own) x → Counts n D (after n rd d k) (onto S d j []) d
     counts-assign a x o h g e = by (ltb a 512) refl
       where
         v : ℕ
@@ -220,7 +220,7 @@ module _ (n D : ℕ) (rd : Memory) (cursor : ℕ → Cursor) (locks jumps : ℕ 
               assign-own (a - 512) v (ap (target_of d) o ∙ t) (omega arith) e,
             )
 
-    pub counts-finish : opAt n rd d k ≡ Finish → Counts n D (upd rd (field Pc d) 0) (onto S d j []) d
+    pub counts-finish : op_at n rd d k ≡ Finish → Counts n D (upd rd (field Pc d) 0) (onto S d j []) d
     counts-finish o = (
       state S.cells (set S.queues d []),
       advance-finish (onto S d j []) d j [] queue (code_at Finish o) ∙ reset S.cells [],

@@ -16,12 +16,12 @@ use Rattle.mask.specs.Mask.{has}
 use Rattle.image.specs.declared.Field.TheVariants.{Intent}
 use Rattle.image.specs.Place.{lock, field, Memory, Store}
 use Rattle.image.specs.Image.{Image, at, workers, header_ok}
-use Rattle.owed.specs.Owed.{covers, owed, claimants, ownerOk}
-use Rattle.soundness.specs.Sound.{sectionOk, pcOk, sound, unsound, lock_ok, badLock}
+use Rattle.owed.specs.Owed.{covers, owed, claimants, owner_ok}
+use Rattle.soundness.specs.Sound.{section_ok, pc_ok, sound, unsound, lock_ok, bad_lock}
 use Rattle.soundness.specs.declared.Refusal.TheVariants.{Image as ImageRefused, Record, Lock}
 use Rattle.soundness.proofs.Legible.{each-passes, all_sound as each-sound}
 use Rattle.working.specs.declared.Cursors.{Cursors}
-use Rattle.resuming.specs.Resumed.{resumedAll}
+use Rattle.resuming.specs.Resumed.{resumed_all}
 use Rattle.repair.specs.Plan.{plan}
 use Rattle.recovery.specs.Recovery.{Recovered, accepted, rejected, by_first, recovery}
 use Rattle.claims.proofs.Invariant.{Crashed}
@@ -114,7 +114,7 @@ abbrev pub Names : ℕ → Memory → ℕ → Type 0
 Names D rd b = (d : ℕ) → rd (lock b) ≡ d + 1 → (d < D) × (has (rd (field Intent d)) b ≡ true)
 
 module _ (n : ℕ) (rd : Memory) (D b : ℕ) where
-  private-names : (w d : ℕ) → ownerOk n rd D b w ≡ true → w ≡ d + 1 → (d < D) × (has (rd (field Intent d)) b ≡ true)
+  private-names : (w d : ℕ) → owner_ok n rd D b w ≡ true → w ≡ d + 1 → (d < D) × (has (rd (field Intent d)) b ≡ true)
   private-names zero d h e = absurd (omega arith)
   private-names (suc w) d h e =
       let i : w ≡ d = omega arith in
@@ -123,21 +123,21 @@ module _ (n : ℕ) (rd : Memory) (D b : ℕ) where
       let g : has (rd (field Intent w)) b ≡ true = and_right (ltb w D) (has (rd (field Intent w)) b) h in
       let r : (w < D) × (has (rd (field Intent w)) b ≡ true) = (l, g) in r
 
-  private-named : (w : ℕ) → ((d : ℕ) → w ≡ d + 1 → (d < D) × (has (rd (field Intent d)) b ≡ true)) → ownerOk n rd D b w ≡ true
+  private-named : (w : ℕ) → ((d : ℕ) → w ≡ d + 1 → (d < D) × (has (rd (field Intent d)) b ≡ true)) → owner_ok n rd D b w ≡ true
   private-named zero h = refl
   private-named (suc w) h = let r = h w (omega arith) in and_both (ltb w D) (has (rd (field Intent w)) b) (lt-ltb w D r.0) r.1
 
   pub lock-parts : lock_ok n rd D b ≡ true → Alone n rd b D × Names D rd b
   unfolding lock_ok
   lock-parts h = (
-    claimants-one n rd b D (leb-true _ _ (and_left (leb (claimants (owed n rd) b D) 1) (ownerOk n rd D b (rd (lock b))) h)),
-    λ d e. private-names (rd (lock b)) d (and_right (leb (claimants (owed n rd) b D) 1) (ownerOk n rd D b (rd (lock b))) h) e,
+    claimants-one n rd b D (leb-true _ _ (and_left (leb (claimants (owed n rd) b D) 1) (owner_ok n rd D b (rd (lock b))) h)),
+    λ d e. private-names (rd (lock b)) d (and_right (leb (claimants (owed n rd) b D) 1) (owner_ok n rd D b (rd (lock b))) h) e,
   )
 
   pub parts-lock : Alone n rd b D → Names D rd b → lock_ok n rd D b ≡ true
   unfolding lock_ok
   parts-lock a h =
-      and_both (leb (claimants (owed n rd) b D) 1) (ownerOk n rd D b (rd (lock b))) (le-leb _ _ (one-claimants n rd b D a)) (private-named (rd (lock b)) h)
+      and_both (leb (claimants (owed n rd) b D) 1) (owner_ok n rd D b (rd (lock b))) (le-leb _ _ (one-claimants n rd b D a)) (private-named (rd (lock b)) h)
 
 -- ---- a record is sound
 
@@ -146,26 +146,26 @@ abbrev pub Covered : ℕ → ℕ → Type 0
 Covered small big = (b : ℕ) → b < 64 → has small b ≡ true → has big b ≡ true
 
 module _ (n : ℕ) (rd : Memory) (d : ℕ) where
-  pub sound-parts : sound n rd d ≡ true → (sectionOk n rd d ≡ true) × (pcOk n rd d ≡ true) × Covered (owed n rd d) (rd (field Intent d))
+  pub sound-parts : sound n rd d ≡ true → (section_ok n rd d ≡ true) × (pc_ok n rd d ≡ true) × Covered (owed n rd d) (rd (field Intent d))
   unfolding sound
   sound-parts h =
-      let p = and_left (sectionOk n rd d && pcOk n rd d) (covers (rd (field Intent d)) (owed n rd d) 64) h in (
-        and_left (sectionOk n rd d) (pcOk n rd d) p,
-        and_right (sectionOk n rd d) (pcOk n rd d) p,
-        covers-all _ _ 64 (and_right (sectionOk n rd d && pcOk n rd d) (covers (rd (field Intent d)) (owed n rd d) 64) h),
+      let p = and_left (section_ok n rd d && pc_ok n rd d) (covers (rd (field Intent d)) (owed n rd d) 64) h in (
+        and_left (section_ok n rd d) (pc_ok n rd d) p,
+        and_right (section_ok n rd d) (pc_ok n rd d) p,
+        covers-all _ _ 64 (and_right (section_ok n rd d && pc_ok n rd d) (covers (rd (field Intent d)) (owed n rd d) 64) h),
       )
 
-  pub parts-sound : sectionOk n rd d ≡ true → pcOk n rd d ≡ true → Covered (owed n rd d) (rd (field Intent d)) → sound n rd d ≡ true
+  pub parts-sound : section_ok n rd d ≡ true → pc_ok n rd d ≡ true → Covered (owed n rd d) (rd (field Intent d)) → sound n rd d ≡ true
   unfolding sound
   parts-sound s p w =
-      and_both (sectionOk n rd d && pcOk n rd d) (covers (rd (field Intent d)) (owed n rd d) 64) (and_both (sectionOk n rd d) (pcOk n rd d) s p)
+      and_both (section_ok n rd d && pc_ok n rd d) (covers (rd (field Intent d)) (owed n rd d) 64) (and_both (section_ok n rd d) (pc_ok n rd d) s p)
       (all-covers _ _ 64 w)
 
 -- ---- a memory that a recovery accepts, by its parts
 
 pub record Parts (n D : ℕ) (rd : Memory) : Type 0 where
-  pub section : (d : ℕ) → d < D → sectionOk n rd d ≡ true
-  pub pc : (d : ℕ) → d < D → pcOk n rd d ≡ true
+  pub section : (d : ℕ) → d < D → section_ok n rd d ≡ true
+  pub pc : (d : ℕ) → d < D → pc_ok n rd d ≡ true
   pub meant : (d : ℕ) → d < D → Covered (owed n rd d) (rd (field Intent d))
   pub alone : (b : ℕ) → b < 64 → Alone n rd b D
   pub names : (b : ℕ) → b < 64 → Names D rd b
@@ -195,8 +195,8 @@ module _ (n : ℕ) (rd : Memory) (D : ℕ) where
   all_sound d zero h = refl
   all_sound d (suc k) h = rw (h d (omega arith) (omega arith)) (all_sound (d + 1) k (λ e l m. h e (omega arith) (omega arith)))
 
-  pub all_right : (b k : ℕ) → ((c : ℕ) → b ≤ c → c < b + k → lock_ok n rd D c ≡ true) → badLock n rd D b k ≡ []
-  unfolding badLock
+  pub all_right : (b k : ℕ) → ((c : ℕ) → b ≤ c → c < b + k → lock_ok n rd D c ≡ true) → bad_lock n rd D b k ≡ []
+  unfolding bad_lock
   all_right b zero h = refl
   all_right b (suc k) h = rw (h b (omega arith) (omega arith)) (all_right (b + 1) k (λ e l m. h e (omega arith) (omega arith)))
 
@@ -204,7 +204,7 @@ module _ (n : ℕ) (rd : Memory) (D : ℕ) where
 
 module _ (mark n : ℕ) (m : Image) where
   pub crashed-accepted : header_ok mark n m ≡ true → Crashed n (workers m) (at n m)
-      → recovery mark n m ≡ accepted (plan n (at n m) (workers m)) (resumedAll n (at n m) (workers m))
+      → recovery mark n m ≡ accepted (plan n (at n m) (workers m)) (resumed_all n (at n m) (workers m))
   unfolding recovery
   crashed-accepted h c =
       rw (
@@ -220,9 +220,9 @@ abbrev is_accepted : Recovered → Bool
 is_accepted (accepted ss cs) = true
 is_accepted (rejected r) = false
 
-each_right : (n : ℕ) (rd : Memory) (D k b : ℕ) → badLock n rd D b k ≡ [] → (c : ℕ) → b ≤ c → c < b + k → lock_ok n rd D c ≡ true
-unfolding badLock
-each_right n rd D = each-passes (lock_ok n rd D) (badLock n rd D) (λ b k. refl)
+each_right : (n : ℕ) (rd : Memory) (D k b : ℕ) → bad_lock n rd D b k ≡ [] → (c : ℕ) → b ≤ c → c < b + k → lock_ok n rd D c ≡ true
+unfolding bad_lock
+each_right n rd D = each-passes (lock_ok n rd D) (bad_lock n rd D) (λ b k. refl)
 
 none_found :
     (b : Bool) (us ls : List ℕ) (good : Recovered)
@@ -239,7 +239,7 @@ module _ (mark n : ℕ) (m : Image) where
   accepted-crashed ss cs e =
       let rd = at n m in
       let D = workers m in
-      let f = none_found (header_ok mark n m) (unsound n rd D 0 D) (badLock n rd D 0 64) _ (ap is_accepted e) in (
+      let f = none_found (header_ok mark n m) (unsound n rd D 0 D) (bad_lock n rd D 0 64) _ (ap is_accepted e) in (
         f.0,
         record {
           sounds = λ d l. each-sound n rd D D 0 f.1 d (omega arith) (omega arith);

@@ -16,13 +16,13 @@ use Rattle.turn.specs.Call.{outcome_at, outcome}
 use Rattle.run.specs.Run.{any_open}
 use Rattle.formatting.proofs.Formats.{formatted-header, formatted-at}
 use Rattle.claims.specs.Calls.{Traced, refuses, runs, recovers, Move, whole, move, play, from, legal, ends_cut, machine}
-use Rattle.claims.specs.Claims.{working, is_halted, rounds_in, Rested, FormattedRests, Idle, admissible, Settled, DurableAlways, after, mended, runEnd}
+use Rattle.claims.specs.Claims.{working, is_halted, rounds_in, Rested, FormattedRests, Idle, admissible, Settled, DurableAlways, after, mended, run_end}
 use Rattle.claims.proofs.Worlds.{Running}
 use Rattle.claims.proofs.Settling.{never-refused}
 use Rattle.claims.proofs.Called.{accepts}
 use Rattle.claims.proofs.Played.{Worth, running-worth, outcome-below, Good, play-good}
 use Rattle.claims.proofs.Working.{nearer-both, nearer-idle, move-run, working-nearer, working-running, working-idle}
-use Rattle.claims.proofs.Answers.{end-made, run_end}
+use Rattle.claims.proofs.Answers.{end-made, run_end_lem}
 use Rattle.claims.proofs.Resting.{rested-running, idle-rested, idle-gives}
 use Rattle.claims.proofs.Cursors.{idle-all}
 use Rattle.claims.proofs.Moves.{play-append}
@@ -45,14 +45,14 @@ module _ (mark n : ℕ) (m : Image) where
   unfolding outcome_at
   turn-goes w d r l = rw (outcome-below mark n (workers m) (cells_of m) w d r.reached l) (never-refused mark n (workers m) (cells_of m) w d r l)
 
-  run-goes : (w : Traced) (r : ℕ) → Running mark n (workers m) (cells_of m) w → is_halted (runEnd mark n w r) ≡ false
+  run-goes : (w : Traced) (r : ℕ) → Running mark n (workers m) (cells_of m) w → is_halted (run_end mark n w r) ≡ false
   run-goes w r h =
-      rw (run_end mark n (workers m) (cells_of m) r w h) (end-made (any_open (workers m) 0 (move mark n (whole (runs r)) w).world.cursors))
+      rw (run_end_lem mark n (workers m) (cells_of m) r w h) (end-made (any_open (workers m) 0 (move mark n (whole (runs r)) w).world.cursors))
 
   -- the rounds of the last run count with those before it
   last_says :
       (ys : List Move) (r : ℕ) (w : Traced) → Running mark n (workers m) (cells_of m) w → working ys ≡ true → 384 * workers m ≤ rounds_in ys + r
-      → runEnd mark n (play mark n ys w) r ≡ AllIdle
+      → run_end mark n (play mark n ys w) r ≡ AllIdle
   last_says ys r w h y l =
       let D = workers m in
       let v = play mark n ys w in
@@ -61,7 +61,7 @@ module _ (mark n : ℕ) (m : Image) where
       let none =
       nearer-idle mark n D (cells_of m) (rounds_in ys + r) w _ h (nearer-both mark n D (cells_of m) (rounds_in ys) r (rounds_in ys + r) w v _ refl a b) l
       in
-      rw (run_end mark n D (cells_of m) r v a.running, none)
+      rw (run_end_lem mark n D (cells_of m) r v a.running, none)
 
   good-worth : (b : Bool) (w : Traced) → Good mark n (workers m) (cells_of m) b w → Worth mark n (workers m) (cells_of m) w
   good-worth false w g = running-worth mark n (workers m) (cells_of m) w g

@@ -15,11 +15,11 @@ use Rattle.image.specs.Place.{Place, cell, lock, field, own, step, Memory}
 use Rattle.image.proofs.Places.{same_place}
 use Rattle.code.specs.declared.Op.{Op}
 use Rattle.code.specs.declared.Op.TheVariants.{Acquire, Release, Assign, Jump, Finish, Unknown}
-use Rattle.worklog.specs.Log.{operand, second, spareAddr, spareVal, activeVal}
-use Rattle.owed.specs.Owed.{target_of, namedStep, namedOp}
+use Rattle.worklog.specs.Log.{operand, second, spare_addr, spare_val, active_val}
+use Rattle.owed.specs.Owed.{target_of, named_step, named_op}
 use Rattle.claims.specs.Calls.{is_pc}
 use Rattle.claims.proofs.Virtual.{none, due, entry_of}
-use Rattle.claims.proofs.Invariant.{opAt, Named, logsHeld}
+use Rattle.claims.proofs.Invariant.{op_at, Named, logs_held}
 use Rattle.claims.proofs.Fields.{active-val-kept}
 
 -- ---- places told apart
@@ -74,24 +74,24 @@ belongs d (step e i) = eqb e d
 -- ---- active and spare entries
 
 -- both values' fields are other than f
-pub active-apart : (n : ℕ) (rd : Memory) (d : ℕ) (f : Field) → same_field Val0 f ≡ false → same_field Val1 f ≡ false → same_field (activeVal n rd d) f ≡ false
-unfolding activeVal
+pub active-apart : (n : ℕ) (rd : Memory) (d : ℕ) (f : Field) → same_field Val0 f ≡ false → same_field Val1 f ≡ false → same_field (active_val n rd d) f ≡ false
+unfolding active_val
 active-apart n rd d f a b = by (second n rd d)
   where
     by : (t : Bool) → same_field (cond t Val1 Val0) f ≡ false
     by true = b
     by false = a
 
-pub active-spare-val : (n : ℕ) (rd : Memory) (d : ℕ) → same_field (activeVal n rd d) (spareVal n rd d) ≡ false
-unfolding activeVal spareVal
+pub active-spare-val : (n : ℕ) (rd : Memory) (d : ℕ) → same_field (active_val n rd d) (spare_val n rd d) ≡ false
+unfolding active_val spare_val
 active-spare-val n rd d = by (second n rd d)
   where
     by : (t : Bool) → same_field (cond t Val1 Val0) (cond t Val0 Val1) ≡ false
     by true = refl
     by false = refl
 
-pub spare-val-apart : (n : ℕ) (rd : Memory) (d : ℕ) (f : Field) → same_field f Val0 ≡ false → same_field f Val1 ≡ false → same_field f (spareVal n rd d) ≡ false
-unfolding spareVal
+pub spare-val-apart : (n : ℕ) (rd : Memory) (d : ℕ) (f : Field) → same_field f Val0 ≡ false → same_field f Val1 ≡ false → same_field f (spare_val n rd d) ≡ false
+unfolding spare_val
 spare-val-apart n rd d f a b = by (second n rd d)
   where
     by : (t : Bool) → same_field f (cond t Val0 Val1) ≡ false
@@ -99,16 +99,16 @@ spare-val-apart n rd d f a b = by (second n rd d)
     by false = b
 
 pub spare-addr-apart : (n : ℕ) (rd : Memory) (d : ℕ) (f : Field) → same_field f Addr0 ≡ false → same_field f Addr1 ≡ false
-    → same_field f (spareAddr n rd d) ≡ false
-unfolding spareAddr
+    → same_field f (spare_addr n rd d) ≡ false
+unfolding spare_addr
 spare-addr-apart n rd d f a b = by (second n rd d)
   where
     by : (t : Bool) → same_field f (cond t Addr0 Addr1) ≡ false
     by true = a
     by false = b
 
-pub active-not-addr : (n : ℕ) (rd : Memory) (d e : ℕ) → same_field (activeVal n rd d) (spareAddr n rd e) ≡ false
-active-not-addr n rd d e = active-apart n rd d (spareAddr n rd e) (spare-addr-apart n rd e Val0 refl refl) (spare-addr-apart n rd e Val1 refl refl)
+pub active-not-addr : (n : ℕ) (rd : Memory) (d e : ℕ) → same_field (active_val n rd d) (spare_addr n rd e) ≡ false
+active-not-addr n rd d e = active-apart n rd d (spare_addr n rd e) (spare-addr-apart n rd e Val0 refl refl) (spare-addr-apart n rd e Val1 refl refl)
 
 -- ---- no pc
 
@@ -120,16 +120,16 @@ operand-no-pc d a = by (ltb a 512)
     by true = refl
     by false = refl
 
-pub addr-no-pc : (n : ℕ) (rd : Memory) (d : ℕ) → is_pc (field (spareAddr n rd d) d) ≡ false
-unfolding spareAddr
+pub addr-no-pc : (n : ℕ) (rd : Memory) (d : ℕ) → is_pc (field (spare_addr n rd d) d) ≡ false
+unfolding spare_addr
 addr-no-pc n rd d = by (second n rd d)
   where
     by : (b : Bool) → is_pc (field (cond b Addr0 Addr1) d) ≡ false
     by true = refl
     by false = refl
 
-pub val-no-pc : (n : ℕ) (rd : Memory) (d : ℕ) → is_pc (field (spareVal n rd d) d) ≡ false
-unfolding spareVal
+pub val-no-pc : (n : ℕ) (rd : Memory) (d : ℕ) → is_pc (field (spare_val n rd d) d) ≡ false
+unfolding spare_val
 val-no-pc n rd d = by (second n rd d)
   where
     by : (b : Bool) → is_pc (field (cond b Val0 Val1) d) ≡ false
@@ -138,44 +138,44 @@ val-no-pc n rd d = by (second n rd d)
 
 -- ---- what a pc names
 
-pub named-cong : (n : ℕ) (rd rd' : Memory) (d : ℕ) → rd' (field Pc d) ≡ rd (field Pc d) → namedStep n rd' d ≡ namedStep n rd d
-unfolding namedStep
+pub named-cong : (n : ℕ) (rd rd' : Memory) (d : ℕ) → rd' (field Pc d) ≡ rd (field Pc d) → named_step n rd' d ≡ named_step n rd d
+unfolding named_step
 named-cong n rd rd' d e = rw e
 
 pub entry-none : (n : ℕ) (rd : Memory) (d : ℕ) → rd (field Pc d) ≡ 0 → entry_of n rd d ≡ none
 unfolding entry_of
 entry-none n rd d e = rw e
 
-pub entry-due : (n : ℕ) (rd : Memory) (d : ℕ) → rd (field Pc d) ≢ 0 → entry_of n rd d ≡ due (target_of d (namedOp n rd d)) (rd (field (activeVal n rd d) d))
+pub entry-due : (n : ℕ) (rd : Memory) (d : ℕ) → rd (field Pc d) ≢ 0 → entry_of n rd d ≡ due (target_of d (named_op n rd d)) (rd (field (active_val n rd d) d))
 unfolding entry_of
 entry-due n rd d e = rw (ne_eqb (rd (field Pc d)) 0 e)
 
-pub named_step : (n : ℕ) (rd : Memory) (d s : ℕ) → rd (field Pc d) % 2 ^ 63 ≡ suc s → namedStep n rd d ≡ s
-unfolding namedStep
-named_step n rd d s e = rw e (omega arith)
+pub named_step_lem : (n : ℕ) (rd : Memory) (d s : ℕ) → rd (field Pc d) % 2 ^ 63 ≡ suc s → named_step n rd d ≡ s
+unfolding named_step
+named_step_lem n rd d s e = rw e (omega arith)
 
 pub named-pc : (n : ℕ) (rd : Memory) (d s : ℕ) → rd (field Pc d) % 2 ^ 63 ≡ suc s → rd (field Pc d) ≢ 0
 named-pc n rd d s e z = let w : 0 % 2 ^ 63 ≡ suc s = rw z at e in omega arith
 
 -- the entry of a worker whose pc names step s
 pub entry_named : (n : ℕ) (rd : Memory) (d s : ℕ) → rd (field Pc d) % 2 ^ 63 ≡ suc s
-    → entry_of n rd d ≡ due (target_of d (opAt n rd d s)) (rd (field (activeVal n rd d) d))
-unfolding namedOp
-entry_named n rd d s e = entry-due n rd d (named-pc n rd d s e) ∙ rw (named_step n rd d s e)
+    → entry_of n rd d ≡ due (target_of d (op_at n rd d s)) (rd (field (active_val n rd d) d))
+unfolding named_op
+entry_named n rd d s e = entry-due n rd d (named-pc n rd d s e) ∙ rw (named_step_lem n rd d s e)
 
 -- what the step that is named has logged
-pub named-logs : (n : ℕ) (rd : Memory) (d s : ℕ) → Named n rd d s → (x : Op) → opAt n rd d s ≡ x → logsHeld n rd d s x
-named-logs n rd d s m x o = subst (logsHeld n rd d s) o m.logs
+pub named-logs : (n : ℕ) (rd : Memory) (d s : ℕ) → Named n rd d s → (x : Op) → op_at n rd d s ≡ x → logs_held n rd d s x
+named-logs n rd d s m x o = subst (logs_held n rd d s) o m.logs
 
 -- two memories with one entry
 pub entry-cong :
     (n : ℕ) (rd rd' : Memory) (d : ℕ) → rd' (field Pc d) ≡ rd (field Pc d) → (rd (field Pc d) ≢ 0 → (i : ℕ) → rd' (step d i) ≡ rd (step d i))
-    → (rd (field Pc d) ≢ 0 → rd' (field (activeVal n rd d) d) ≡ rd (field (activeVal n rd d) d)) → entry_of n rd' d ≡ entry_of n rd d
-unfolding namedOp
+    → (rd (field Pc d) ≢ 0 → rd' (field (active_val n rd d) d) ≡ rd (field (active_val n rd d) d)) → entry_of n rd' d ≡ entry_of n rd d
+unfolding named_op
 entry-cong n rd rd' d p c v = by (ℕ_discrete (rd (field Pc d)) 0)
   where
     by : Dec (rd (field Pc d) ≡ 0) → entry_of n rd' d ≡ entry_of n rd d
     by (yes e) = entry-none n rd' d (p ∙ e) ∙ sym (entry-none n rd d e)
     by (no e) =
         entry-due n rd' d (λ z. e (sym p ∙ z))
-        ∙ (rw (named-cong n rd rd' d p, active-val-kept n rd rd' d p, c e (namedStep n rd d), v e) (sym (entry-due n rd d e)))
+        ∙ (rw (named-cong n rd rd' d p, active-val-kept n rd rd' d p, c e (named_step n rd d), v e) (sym (entry-due n rd d e)))

@@ -12,7 +12,7 @@ use Rattle.image.specs.declared.Field.TheVariants.{Count, Pc, Addr0, Val0, Addr1
 use Rattle.image.specs.Place.{cell, lock, field, own, step, Memory}
 use Rattle.image.specs.Inner.Same.{same_field, upd}
 use Rattle.image.proofs.Places.{upd_same}
-use Rattle.worklog.specs.Log.{operand, second, spareAddr, spareVal, activeAddr, activeVal, switched}
+use Rattle.worklog.specs.Log.{operand, second, spare_addr, spare_val, active_addr, active_val, switched}
 use Rattle.worklog.proofs.Switching.{switched-addr, switched-val}
 
 -- what every store but those of the pc, the count and the active entry keeps
@@ -20,8 +20,8 @@ pub record KeepsNamed (n : ℕ) (rd rd' : Memory) (d : ℕ) : Type 0 where
   pub steps : (i : ℕ) → rd' (step d i) ≡ rd (step d i)
   pub count : rd' (field Count d) ≡ rd (field Count d)
   pub pc : rd' (field Pc d) ≡ rd (field Pc d)
-  pub address : rd' (field (activeAddr n rd d) d) ≡ rd (field (activeAddr n rd d) d)
-  pub value : rd' (field (activeVal n rd d) d) ≡ rd (field (activeVal n rd d) d)
+  pub address : rd' (field (active_addr n rd d) d) ≡ rd (field (active_addr n rd d) d)
+  pub value : rd' (field (active_val n rd d) d) ≡ rd (field (active_val n rd d) d)
 
 -- and the stores that are no target store
 pub record Quiet (n : ℕ) (rd rd' : Memory) (d : ℕ) : Type 0 where
@@ -59,20 +59,20 @@ module _ (n : ℕ) (rd rd' : Memory) (d : ℕ) where
   unfolding second
   second-kept e = rw e
 
-  pub active-addr-kept : rd' (field Pc d) ≡ rd (field Pc d) → activeAddr n rd' d ≡ activeAddr n rd d
-  unfolding activeAddr
+  pub active-addr-kept : rd' (field Pc d) ≡ rd (field Pc d) → active_addr n rd' d ≡ active_addr n rd d
+  unfolding active_addr
   active-addr-kept e = rw (second-kept e)
 
-  pub active-val-kept : rd' (field Pc d) ≡ rd (field Pc d) → activeVal n rd' d ≡ activeVal n rd d
-  unfolding activeVal
+  pub active-val-kept : rd' (field Pc d) ≡ rd (field Pc d) → active_val n rd' d ≡ active_val n rd d
+  unfolding active_val
   active-val-kept e = rw (second-kept e)
 
-  pub spare-addr-kept : rd' (field Pc d) ≡ rd (field Pc d) → spareAddr n rd' d ≡ spareAddr n rd d
-  unfolding spareAddr
+  pub spare-addr-kept : rd' (field Pc d) ≡ rd (field Pc d) → spare_addr n rd' d ≡ spare_addr n rd d
+  unfolding spare_addr
   spare-addr-kept e = rw (second-kept e)
 
-  pub spare-val-kept : rd' (field Pc d) ≡ rd (field Pc d) → spareVal n rd' d ≡ spareVal n rd d
-  unfolding spareVal
+  pub spare-val-kept : rd' (field Pc d) ≡ rd (field Pc d) → spare_val n rd' d ≡ spare_val n rd d
+  unfolding spare_val
   spare-val-kept e = rw (second-kept e)
 
   -- what a word number says is kept with the cells and the own words
@@ -92,7 +92,7 @@ module _ (n : ℕ) (rd : Memory) (d v : ℕ) where
       (f : Field) → same_field Count f ≡ false → same_field Pc f ≡ false → same_field Addr0 f ≡ false → same_field Val0 f ≡ false → same_field Addr1 f ≡ false
       → same_field Val1 f ≡ false
       → KeepsNamed n rd (upd rd (field f d) v) d
-  unfolding activeAddr activeVal
+  unfolding active_addr active_val
   keeps-field f c p a0 v0 a1 v1 =
       record {
         steps = λ i. refl;
@@ -122,16 +122,16 @@ module _ (n : ℕ) (rd : Memory) (d v : ℕ) where
 
   -- the two words of the spare entry, and a single word that is not of the log
   pub spare-addr-other : (f : Field) → same_field f Addr0 ≡ false → same_field f Addr1 ≡ false
-      → upd rd (field (spareAddr n rd d) d) v (field f d) ≡ rd (field f d)
-  unfolding spareAddr
+      → upd rd (field (spare_addr n rd d) d) v (field f d) ≡ rd (field f d)
+  unfolding spare_addr
   spare-addr-other f p q = wrote rd d v f Addr0 Addr1 (second n rd d) p q
 
-  pub spare-val-other : (f : Field) → same_field f Val0 ≡ false → same_field f Val1 ≡ false → upd rd (field (spareVal n rd d) d) v (field f d) ≡ rd (field f d)
-  unfolding spareVal
+  pub spare-val-other : (f : Field) → same_field f Val0 ≡ false → same_field f Val1 ≡ false → upd rd (field (spare_val n rd d) d) v (field f d) ≡ rd (field f d)
+  unfolding spare_val
   spare-val-other f p q = wrote rd d v f Val0 Val1 (second n rd d) p q
 
-  pub quiet-spare-addr : Quiet n rd (upd rd (field (spareAddr n rd d) d) v) d
-  unfolding spareAddr activeAddr activeVal
+  pub quiet-spare-addr : Quiet n rd (upd rd (field (spare_addr n rd d) d) v) d
+  unfolding spare_addr active_addr active_val
   quiet-spare-addr =
       record {
         keeps = record {
@@ -147,8 +147,8 @@ module _ (n : ℕ) (rd : Memory) (d v : ℕ) where
         cells = λ x. refl;
       }
 
-  pub quiet-spare-val : Quiet n rd (upd rd (field (spareVal n rd d) d) v) d
-  unfolding spareVal activeAddr activeVal
+  pub quiet-spare-val : Quiet n rd (upd rd (field (spare_val n rd d) d) v) d
+  unfolding spare_val active_addr active_val
   quiet-spare-val =
       record {
         keeps = record {
@@ -165,23 +165,23 @@ module _ (n : ℕ) (rd : Memory) (d v : ℕ) where
       }
 
   -- the spare entry holds what was stored last, and its value's store leaves its address
-  pub spare-addr-now : upd rd (field (spareAddr n rd d) d) v (field (spareAddr n (upd rd (field (spareAddr n rd d) d) v) d) d) ≡ v
+  pub spare-addr-now : upd rd (field (spare_addr n rd d) d) v (field (spare_addr n (upd rd (field (spare_addr n rd d) d) v) d) d) ≡ v
   spare-addr-now =
-      let p = field (spareAddr n rd d) d in
+      let p = field (spare_addr n rd d) d in
       ap (λ (f : Field). upd rd p v (field f d)) (spare-addr-kept n rd (upd rd p v) d (spare-addr-other Pc refl refl)) ∙ upd_same rd p v
 
-  pub spare-val-now : upd rd (field (spareVal n rd d) d) v (field (spareVal n (upd rd (field (spareVal n rd d) d) v) d) d) ≡ v
+  pub spare-val-now : upd rd (field (spare_val n rd d) d) v (field (spare_val n (upd rd (field (spare_val n rd d) d) v) d) d) ≡ v
   spare-val-now =
-      let p = field (spareVal n rd d) d in
+      let p = field (spare_val n rd d) d in
       ap (λ (f : Field). upd rd p v (field f d)) (spare-val-kept n rd (upd rd p v) d (spare-val-other Pc refl refl)) ∙ upd_same rd p v
 
-  spare-val-beside : upd rd (field (spareVal n rd d) d) v (field (spareAddr n rd d) d) ≡ rd (field (spareAddr n rd d) d)
-  unfolding spareAddr spareVal
+  spare-val-beside : upd rd (field (spare_val n rd d) d) v (field (spare_addr n rd d) d) ≡ rd (field (spare_addr n rd d) d)
+  unfolding spare_addr spare_val
   spare-val-beside = beside rd d v Addr0 Addr1 Val0 Val1 (second n rd d) refl refl
 
-  pub spare-val-addr : upd rd (field (spareVal n rd d) d) v (field (spareAddr n (upd rd (field (spareVal n rd d) d) v) d) d) ≡ rd (field (spareAddr n rd d) d)
+  pub spare-val-addr : upd rd (field (spare_val n rd d) d) v (field (spare_addr n (upd rd (field (spare_val n rd d) d) v) d) d) ≡ rd (field (spare_addr n rd d) d)
   spare-val-addr =
-      let p = field (spareVal n rd d) d in
+      let p = field (spare_val n rd d) d in
       ap (λ (f : Field). upd rd p v (field f d)) (spare-addr-kept n rd (upd rd p v) d (spare-val-other Pc refl refl)) ∙ spare-val-beside
 
 -- ---- the next pc
@@ -195,25 +195,25 @@ module _ (n : ℕ) (rd : Memory) (d s : ℕ) (small : s < 64) where
   unfolding switched
   next-step = rw (upd_same rd (field Pc d) (switched n rd d s)) (private-step s (second n rd d) small)
 
-  next-active-addr : activeAddr n (upd rd (field Pc d) (switched n rd d s)) d ≡ spareAddr n rd d
+  next-active-addr : active_addr n (upd rd (field Pc d) (switched n rd d s)) d ≡ spare_addr n rd d
   next-active-addr = switched-addr n rd d s small _ (upd_same rd (field Pc d) (switched n rd d s))
 
-  next-active-val : activeVal n (upd rd (field Pc d) (switched n rd d s)) d ≡ spareVal n rd d
+  next-active-val : active_val n (upd rd (field Pc d) (switched n rd d s)) d ≡ spare_val n rd d
   next-active-val = switched-val n rd d s small _ (upd_same rd (field Pc d) (switched n rd d s))
 
-  next-addr-kept : upd rd (field Pc d) (switched n rd d s) (field (spareAddr n rd d) d) ≡ rd (field (spareAddr n rd d) d)
-  unfolding spareAddr
+  next-addr-kept : upd rd (field Pc d) (switched n rd d s) (field (spare_addr n rd d) d) ≡ rd (field (spare_addr n rd d) d)
+  unfolding spare_addr
   next-addr-kept = reads rd d (switched n rd d s) Pc Addr0 Addr1 (second n rd d) refl refl
 
-  next-val-kept : upd rd (field Pc d) (switched n rd d s) (field (spareVal n rd d) d) ≡ rd (field (spareVal n rd d) d)
-  unfolding spareVal
+  next-val-kept : upd rd (field Pc d) (switched n rd d s) (field (spare_val n rd d) d) ≡ rd (field (spare_val n rd d) d)
+  unfolding spare_val
   next-val-kept = reads rd d (switched n rd d s) Pc Val0 Val1 (second n rd d) refl refl
 
   -- the entry that was spare is the active one
   pub next_address :
-      upd rd (field Pc d) (switched n rd d s) (field (activeAddr n (upd rd (field Pc d) (switched n rd d s)) d) d) ≡ rd (field (spareAddr n rd d) d)
+      upd rd (field Pc d) (switched n rd d s) (field (active_addr n (upd rd (field Pc d) (switched n rd d s)) d) d) ≡ rd (field (spare_addr n rd d) d)
   next_address = ap (λ (f : Field). upd rd (field Pc d) (switched n rd d s) (field f d)) next-active-addr ∙ next-addr-kept
 
   pub next-value :
-      upd rd (field Pc d) (switched n rd d s) (field (activeVal n (upd rd (field Pc d) (switched n rd d s)) d) d) ≡ rd (field (spareVal n rd d) d)
+      upd rd (field Pc d) (switched n rd d s) (field (active_val n (upd rd (field Pc d) (switched n rd d s)) d) d) ≡ rd (field (spare_val n rd d) d)
   next-value = ap (λ (f : Field). upd rd (field Pc d) (switched n rd d s) (field f d)) next-active-val ∙ next-val-kept

@@ -25,11 +25,11 @@ use Rattle.code.specs.Inner.Fits.{ranged}
 use Rattle.section.proofs.Held.{held-zero, after-jump, after-assign}
 use Rattle.code.proofs.Ranges.{expr-range}
 use Rattle.working.specs.Cursor.{Cursor, on}
-use Rattle.worklog.specs.Log.{operand, code_in, word_in, spareAddr, spareVal, activeAddr, activeVal}
+use Rattle.worklog.specs.Log.{operand, code_in, word_in, spare_addr, spare_val, active_addr, active_val}
 use Rattle.owed.specs.Owed.{target_of}
 use Rattle.resuming.specs.Resumed.{target_turn}
 use Rattle.claims.specs.Reference.{Given}
-use Rattle.claims.proofs.Invariant.{opAt, held_at, Sectioned, Nearing, Due, Jumps, stay, leap, Phase, resting, fresh, due, unlocking, unlocked, between}
+use Rattle.claims.proofs.Invariant.{op_at, held_at, Sectioned, Nearing, Due, Jumps, stay, leap, Phase, resting, fresh, due, unlocking, unlocked, between}
 use Rattle.claims.proofs.Invariant.{ended}
 use Rattle.claims.proofs.Sets.{Subset, within-refl, within-with, within_none}
 use Rattle.claims.proofs.Fields.{KeepsNamed, spare-addr-kept, spare-val-kept}
@@ -89,14 +89,14 @@ jumps-held n rd e i j k v (leap jj kk a b js l o) =
 module _ (n : ℕ) (rd rd' : Memory) (e locks : ℕ) (A : Agree rd rd' e locks) where
   -- the pc, the section and the active entry are kept
   keeps : KeepsNamed n rd rd' e
-  keeps = record { steps = A.steps; count = A.fields Count; pc = A.fields Pc; address = A.fields (activeAddr n rd e); value = A.fields (activeVal n rd e) }
+  keeps = record { steps = A.steps; count = A.fields Count; pc = A.fields Pc; address = A.fields (active_addr n rd e); value = A.fields (active_val n rd e) }
 
   -- and so is the spare one
-  spare_addr-same : rd' (field (spareAddr n rd' e) e) ≡ rd (field (spareAddr n rd e) e)
-  spare_addr-same = rw (spare-addr-kept n rd rd' e (A.fields Pc)) (A.fields (spareAddr n rd e))
+  spare_addr-same : rd' (field (spare_addr n rd' e) e) ≡ rd (field (spare_addr n rd e) e)
+  spare_addr-same = rw (spare-addr-kept n rd rd' e (A.fields Pc)) (A.fields (spare_addr n rd e))
 
-  spare_val-same : rd' (field (spareVal n rd' e) e) ≡ rd (field (spareVal n rd e) e)
-  spare_val-same = rw (spare-val-kept n rd rd' e (A.fields Pc)) (A.fields (spareVal n rd e))
+  spare_val-same : rd' (field (spare_val n rd' e) e) ≡ rd (field (spare_val n rd e) e)
+  spare_val-same = rw (spare-val-kept n rd rd' e (A.fields Pc)) (A.fields (spare_val n rd e))
 
   sectioned-same : Sectioned n rd e → Sectioned n rd' e
   sectioned-same s = sectioned-kept n rd rd' e keeps (A.fields Number) (rw (A.fields Number, A.fields Finished) s.unfinished) s
@@ -172,11 +172,11 @@ module _ (n : ℕ) (rd rd' : Memory) (e locks : ℕ) (A : Agree rd rd' e locks) 
       (leap jj kk a b (jumps-same i jj kk v w js) (rw (A.fields Count) l) (op-kept n rd rd' e keeps kk ∙ o))
 
   -- a target that stands on a word covered by h
-  target-same : (h s : ℕ) → Subset h locks → ((a : ℕ) (z : Expr) → opAt n rd e s ≡ Assign a z → covered h a ≡ true)
-      → rd' (target_of e (opAt n rd e s)) ≡ rd (target_of e (opAt n rd e s))
-  target-same h s w c = by (opAt n rd e s) refl
+  target-same : (h s : ℕ) → Subset h locks → ((a : ℕ) (z : Expr) → op_at n rd e s ≡ Assign a z → covered h a ≡ true)
+      → rd' (target_of e (op_at n rd e s)) ≡ rd (target_of e (op_at n rd e s))
+  target-same h s w c = by (op_at n rd e s) refl
     where
-      by : (x : Op) → opAt n rd e s ≡ x → rd' (target_of e x) ≡ rd (target_of e x)
+      by : (x : Op) → op_at n rd e s ≡ x → rd' (target_of e x) ≡ rd (target_of e x)
       by (Acquire a) o = A.fields Owned
       by (Release a) o = A.fields Owned
       by (Assign a z) o = word_same h a w (c a z o)
@@ -190,7 +190,7 @@ pub phase-same : (n : ℕ) (rd rd' : Memory) (e : ℕ) (g : Given) (c : Cursor) 
 phase-same n rd rd' e g c locks j (resting k p i o) A = resting (A.fields Count ∙ k) (A.fields Pc ∙ p) (A.fields Intent ∙ i) (A.fields Owned ∙ o)
 phase-same n rd rd' e g c locks j (fresh t l s h p o m) A =
     let m' =
-    nearing-same n rd rd' e l A 0 t 0 (opAt n rd e 0) (within_none l)
+    nearing-same n rd rd' e l A 0 t 0 (op_at n rd e 0) (within_none l)
     (λ a z q. (
       subst (λ (h : ℕ). covered_in h z ≡ true) (held-zero (code_in n rd e)) (s.valid.operands 0 a z (some-steps s.valid) q),
       expr-range n
@@ -203,7 +203,7 @@ phase-same n rd rd' e g c locks j (fresh t l s h p o m) A =
 phase-same n rd rd' e g c locks j (due s l k m q) A =
     subst (λ (x : Op). Phase n rd' e g (on s (target_turn x)) l 0) (op-kept n rd rd' e (keeps n rd rd' e l A) s)
     (due s l (sectioned-same n rd rd' e l A k) (named-kept n rd rd' e (keeps n rd rd' e l A) s m)
-    (subst (Due n rd' e s l) (sym (op-kept n rd rd' e (keeps n rd rd' e l A) s)) (due-same n rd rd' e l A s (opAt n rd e s) q)))
+    (subst (Due n rd' e s l) (sym (op-kept n rd rd' e (keeps n rd rd' e l A) s)) (due-same n rd rd' e l A s (op_at n rd e s) q)))
 phase-same n rd rd' e g c locks j (unlocking s a l k m o w i q) A =
     unlocking s a l (sectioned-same n rd rd' e l A k) (named-kept n rd rd' e (keeps n rd rd' e l A) s m) (op-kept n rd rd' e (keeps n rd rd' e l A) s ∙ o)
     (A.fields Owned ∙ (w ∙ sym (held_kept n rd rd' e (keeps n rd rd' e l A) (suc s))))
@@ -213,13 +213,13 @@ phase-same n rd rd' e g c locks j (unlocked s a l k m o w i q) A =
     (A.fields Owned ∙ (w ∙ sym (held_kept n rd rd' e (keeps n rd rd' e l A) (suc s))))
     (intent-same n rd rd' e l A s i) (q ∙ sym (held_kept n rd rd' e (keeps n rd rd' e l A) (suc s)))
 phase-same n rd rd' e g c locks j (between s k t l jj q m f u z o h y) A =
-    let w = nearing-within n rd e k t (held_at n rd e k) l (opAt n rd e k) y in
+    let w = nearing-within n rd e k t (held_at n rd e k) l (op_at n rd e k) y in
     let f' =
     target-same n rd rd' e l A (held_at n rd e k) s w
     (λ a x p. subst (λ (g : ℕ). covered g a ≡ true) (sym (h ∙ after-assign (code_in n rd e) s a x p)) (q.valid.targets s a x m.below p))
     in
     let y' =
-    nearing-same n rd rd' e l A k t (held_at n rd e k) (opAt n rd e k) w
+    nearing-same n rd rd' e l A k t (held_at n rd e k) (op_at n rd e k) w
     (λ a x p. (q.valid.operands k a x z p, expr-range n (code_in n rd e k) a x (q.valid.ranges k z) p)) y
     in
     between s k t l jj (sectioned-same n rd rd' e l A q) (named-kept n rd rd' e (keeps n rd rd' e l A) s m)
@@ -229,7 +229,7 @@ phase-same n rd rd' e g c locks j (between s k t l jj q m f u z o h y) A =
     (A.fields Owned ∙ (o ∙ sym (held_kept n rd rd' e (keeps n rd rd' e l A) k)))
     (held_kept n rd rd' e (keeps n rd rd' e l A) k ∙ (h ∙ sym (held_kept n rd rd' e (keeps n rd rd' e l A) (suc s))))
     (subst (Nearing n rd' e k t (held_at n rd' e k) l) (sym (op-kept n rd rd' e (keeps n rd rd' e l A) k))
-    (subst (λ (x : ℕ). Nearing n rd' e k t x l (opAt n rd e k)) (sym (held_kept n rd rd' e (keeps n rd rd' e l A) k)) y'))
+    (subst (λ (x : ℕ). Nearing n rd' e k t x l (op_at n rd e k)) (sym (held_kept n rd rd' e (keeps n rd rd' e l A) k)) y'))
 phase-same n rd rd' e g c locks j (ended s k p o i b q) A =
     ended s (sectioned-same n rd rd' e 0 A k) (A.fields Pc ∙ p) (A.fields Owned ∙ o) (A.fields Intent ∙ i) (rw (A.fields Count) b)
     (op-kept n rd rd' e (keeps n rd rd' e 0 A) s ∙ q)

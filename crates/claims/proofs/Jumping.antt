@@ -18,7 +18,7 @@ use Rattle.section.specs.Valid.{Valid}
 use Rattle.code.proofs.Ranges.{jump-range}
 use Rattle.worklog.specs.Log.{code_in, word_in}
 use Rattle.claims.specs.Reference.{Job, job, State, state, read_in, onto, advance, follow}
-use Rattle.claims.proofs.Invariant.{opAt, held_at, Jumps, stay, leap}
+use Rattle.claims.proofs.Invariant.{op_at, held_at, Jumps, stay, leap}
 use Rattle.claims.proofs.Machine.{follow-none, follow-last, advance-jump}
 use Rattle.claims.proofs.Frame.{jumps-held}
 
@@ -29,7 +29,7 @@ standing S d c o h k = onto S d (job c k o h) []
 module _ (n : ℕ) (rd : Memory) (d : ℕ) (val : Valid n (rd (field Count d)) (code_in n rd d)) (i : ℕ) where
   module _ (S : State) (c o : List ℕ) (h : ℕ) (room : d < length S.queues) (code : (x : ℕ) → x < rd (field Count d) → get_or c x 0 ≡ rd (step d x))
       (reads : (x : ℕ) → covered (held_at n rd d i) x ≡ true → x < 512 + n → read_in S.cells o x ≡ word_in n rd d x) where
-    jump-once : (k a b : ℕ) → held_at n rd d k ≡ held_at n rd d i → k < rd (field Count d) → opAt n rd d k ≡ Jump a b
+    jump-once : (k a b : ℕ) → held_at n rd d k ≡ held_at n rd d i → k < rd (field Count d) → op_at n rd d k ≡ Jump a b
         → advance (standing S d c o h k) d ≡ some (standing S d c o h (cond (eqb (word_in n rd d a) 0) b (suc k)))
     jump-once k a b e l p =
         let q : read_in S.cells o a ≡ word_in n rd d a = reads a (rw (← e) (val.tests k a b l p)) (jump-range n (code_in n rd d k) a b (val.ranges k l) p) in

@@ -18,14 +18,14 @@ use Rattle.image.specs.Image.{Image, at, workers, cells_of, put_all}
 use Rattle.intake.specs.declared.Submitted.{Submitted}
 use Rattle.intake.specs.declared.Submitted.TheVariants.{Taken, Refused}
 use Rattle.working.specs.Cursor.{Cursor, on, cursor_at, placed, all_idle}
-use Rattle.plan.specs.Turn.{turnAt}
+use Rattle.plan.specs.Turn.{turn_at}
 use Rattle.turn.specs.Call.{outcome_at, outcome}
 use Rattle.intake.specs.Submit.{submission, submit_answer, submit_leaves}
 use Rattle.working.proofs.Placed.{placed_same, placed-other}
 use Rattle.working.proofs.Placed.{idle-is}
 use Rattle.claims.specs.Reference.{Given, given, initial}
 use Rattle.claims.specs.Events.{but}
-use Rattle.claims.specs.Calls.{Traced, traced, turnBy, turnedAt, ranBy, submitTrace, Call, submits, turns, runs, recovers, Move, whole, cut, call, lent}
+use Rattle.claims.specs.Calls.{Traced, traced, turn_by, turned_at, ran_by, submit_trace, Call, submits, turns, runs, recovers, Move, whole, cut, call, lent}
 use Rattle.claims.specs.Calls.{move, play, from, recovering, plain, callable, machine}
 use Rattle.claims.specs.Claims.{Idle, Linearizable, after}
 use Rattle.claims.proofs.LiveTurn.{but_same, but-other}
@@ -111,21 +111,21 @@ module _ (mark n D : ℕ) (cells : List ℕ) where
   submit-call :
       (w : Traced) (d k : ℕ) (args ws : List ℕ) → 8 ≤ n → length args ≡ 8 → Running mark n D cells w → Paired mark n D cells w
       → Paired mark n D cells (traced (submit_leaves n w.world d k args ws (submit_answer mark n w.world d k ws))
-      (submitTrace mark n w.trace (given d k args ws) (submit_answer mark n w.world d k ws)))
+      (submit_trace mark n w.trace (given d k args ws) (submit_answer mark n w.world d k ws)))
   submit-call w d k args ws wide full r paired = by (submit_answer mark n w.world d k ws) refl
     where
       by : (a : Submitted) → submit_answer mark n w.world d k ws ≡ a
-          → Paired mark n D cells (traced (submit_leaves n w.world d k args ws a) (submitTrace mark n w.trace (given d k args ws) a))
+          → Paired mark n D cells (traced (submit_leaves n w.world d k args ws a) (submit_trace mark n w.trace (given d k args ws) a))
       by Taken e = submit-paired w d k args ws wide full r (taken_as mark n w.world d k ws e) paired w.world.left
       by (Refused q) e = paired
 
   -- ---- a turn
 
   turn-call : (w : Traced) (d : ℕ) → Running mark n D cells w → 0 < w.world.left → Paired mark n D cells w
-      → Paired mark n D cells (turnBy mark n w d (outcome mark n w.world d))
+      → Paired mark n D cells (turn_by mark n w d (outcome mark n w.world d))
   turn-call w d r left paired = by (ltb d D) refl
     where
-      by : (b : Bool) → ltb d D ≡ b → Paired mark n D cells (turnBy mark n w d (outcome mark n w.world d))
+      by : (b : Bool) → ltb d D ≡ b → Paired mark n D cells (turn_by mark n w d (outcome mark n w.world d))
       by true h = rw (outcome-below mark n D cells w d r.reached (ltb-true d D h)) (paired-turn mark n D cells w d r (ltb-true d D h) left paired)
       by false h = rw (outcome-above mark n D cells w d r.reached h) paired
 
@@ -137,15 +137,15 @@ module _ (mark n D : ℕ) (cells : List ℕ) where
     paired : Paired mark n D cells w
 
   paired-turned : (w : Traced) (d : ℕ) → Running mark n D cells w → d < D → 0 < w.world.left → Paired mark n D cells w
-      → Paired mark n D cells (turnedAt mark n w d)
-  unfolding turnedAt outcome_at
+      → Paired mark n D cells (turned_at mark n w d)
+  unfolding turned_at outcome_at
   paired-turned w d r l left paired = paired-turn mark n D cells w d r l left paired
 
-  both-turned : (w : Traced) (d : ℕ) → d < D → Coupled w → Coupled (turnedAt mark n w d)
-  both-turned w d l b = by (spare-turn mark n D cells w d b.spare l) (is_moving (turnAt n (at n w.world.image) d (cursor_at w.world.cursors d))) refl
+  both-turned : (w : Traced) (d : ℕ) → d < D → Coupled w → Coupled (turned_at mark n w d)
+  both-turned w d l b = by (spare-turn mark n D cells w d b.spare l) (is_moving (turn_at n (at n w.world.image) d (cursor_at w.world.cursors d))) refl
     where
-      by : Turn mark n D cells w d → (q : Bool) → is_moving (turnAt n (at n w.world.image) d (cursor_at w.world.cursors d)) ≡ q
-          → Coupled (turnedAt mark n w d)
+      by : Turn mark n D cells w d → (q : Bool) → is_moving (turn_at n (at n w.world.image) d (cursor_at w.world.cursors d)) ≡ q
+          → Coupled (turned_at mark n w d)
       by t true e =
           let f = t.falls e in
           let k = b.spare.stores in
@@ -153,7 +153,7 @@ module _ (mark n D : ℕ) (cells : List ℕ) where
       by t false e = let q = (t.same e).1 in record { spare = t.spare; paired = rw q b.paired }
 
   run_call : (w : Traced) (r : ℕ) → Running mark n D cells w → plenty mark n D cells ≤ w.world.left → Paired mark n D cells w
-      → Paired mark n D cells (ranBy mark n w r)
+      → Paired mark n D cells (ran_by mark n w r)
   run_call w r h l paired =
       rw (ran-is mark n D cells w r h.reached)
       (rounds-keep mark n D cells Coupled both-turned r w (record { spare = spare-lent mark n D cells w w.world.left h (omega arith); paired = paired })

@@ -18,15 +18,15 @@ use Rattle.code.specs.declared.Op.TheVariants.{Acquire, Release, Assign, Jump, F
 use Rattle.section.proofs.Facts.{valid-passed}
 use Rattle.section.proofs.Held.{after-release}
 use Rattle.working.specs.Cursor.{Cursor}
-use Rattle.worklog.specs.Log.{code_in, activeAddr}
-use Rattle.owed.specs.Owed.{target_of, owed_of, owed, namedStep, namedOp, entryOk}
-use Rattle.soundness.specs.Sound.{sectionOk, pcOk}
+use Rattle.worklog.specs.Log.{code_in, active_addr}
+use Rattle.owed.specs.Owed.{target_of, owed_of, owed, named_step, named_op, entry_ok}
+use Rattle.soundness.specs.Sound.{section_ok, pc_ok}
 use Rattle.claims.specs.Reference.{Given}
-use Rattle.claims.proofs.Invariant.{opAt, held_at, Sectioned, logsHeld, Named, Nearing, Due, Phase, resting, fresh, due, unlocking, unlocked, between}
+use Rattle.claims.proofs.Invariant.{op_at, held_at, Sectioned, logs_held, Named, Nearing, Due, Phase, resting, fresh, due, unlocking, unlocked, between}
 use Rattle.claims.proofs.Invariant.{ended, Live, Crashed}
 use Rattle.claims.proofs.Covers.{Covered, Parts, parts-crashed}
 use Rattle.claims.proofs.Sets.{within_none, within-with, without-within}
-use Rattle.claims.proofs.Entries.{named_step}
+use Rattle.claims.proofs.Entries.{named_step_lem}
 
 -- ---- sets
 
@@ -37,18 +37,18 @@ covered_same a b e c l h = rw (← e) h
 
 module _ (n : ℕ) (rd : Memory) (d : ℕ) where
   pub record Stands (locks : ℕ) : Type 0 where
-    pub section : sectionOk n rd d ≡ true
-    pub pc : pcOk n rd d ≡ true
+    pub section : section_ok n rd d ≡ true
+    pub pc : pc_ok n rd d ≡ true
     pub has : Covered (owed n rd d) locks
     pub meant : Covered locks (rd (field Intent d))
 
   -- no section, or one that passes
-  pub section-none : rd (field Count d) ≡ 0 → rd (field Pc d) ≡ 0 → sectionOk n rd d ≡ true
-  unfolding sectionOk
+  pub section-none : rd (field Count d) ≡ 0 → rd (field Pc d) ≡ 0 → section_ok n rd d ≡ true
+  unfolding section_ok
   section-none c p = rw (c, p)
 
-  pub section-some : Sectioned n rd d → sectionOk n rd d ≡ true
-  unfolding sectionOk
+  pub section-some : Sectioned n rd d → section_ok n rd d ≡ true
+  unfolding section_ok
   section-some s =
       let v = s.valid in
       rw (
@@ -60,8 +60,8 @@ module _ (n : ℕ) (rd : Memory) (d : ℕ) where
       )
 
   -- a pc that is 0
-  pub pc-none : rd (field Pc d) ≡ 0 → rd (field Owned d) ≡ 0 → pcOk n rd d ≡ true
-  unfolding pcOk
+  pub pc-none : rd (field Pc d) ≡ 0 → rd (field Owned d) ≡ 0 → pc_ok n rd d ≡ true
+  unfolding pc_ok
   pc-none p o = rw (p, o)
 
   pub owed_none : rd (field Pc d) ≡ 0 → owed n rd d ≡ 0
@@ -72,15 +72,15 @@ module _ (n : ℕ) (rd : Memory) (d : ℕ) where
   named_some s e = ne_eqb (rd (field Pc d)) 0 (λ z. omega arith)
 
   -- what is owed at step s
-  abbrev dueTo : ℕ → Op → ℕ
-  dueTo s x = owed_of x (held_at n rd d (suc s)) (rd (field Owned d))
+  abbrev due_to : ℕ → Op → ℕ
+  due_to s x = owed_of x (held_at n rd d (suc s)) (rd (field Owned d))
 
-  pub owed-named : (s : ℕ) → rd (field Pc d) % 2 ^ 63 ≡ suc s → owed n rd d ≡ dueTo s (opAt n rd d s)
-  unfolding owed namedOp
-  owed-named s e = rw (named_some s e, named_step n rd d s e)
+  pub owed-named : (s : ℕ) → rd (field Pc d) % 2 ^ 63 ≡ suc s → owed n rd d ≡ due_to s (op_at n rd d s)
+  unfolding owed named_op
+  owed-named s e = rw (named_some s e, named_step_lem n rd d s e)
 
-  private-entry : (s : ℕ) (x : Op) → namedStep n rd d ≡ s → rd (field (activeAddr n rd d) d) ≡ index_of n (target_of d x) → logsHeld n rd d s x
-      → entryOk n rd d x ≡ true
+  private-entry : (s : ℕ) (x : Op) → named_step n rd d ≡ s → rd (field (active_addr n rd d) d) ≡ index_of n (target_of d x) → logs_held n rd d s x
+      → entry_ok n rd d x ≡ true
   private-entry s (Acquire a) e h l = rw e (and_both _ _ (eq-eqb _ _ h) (eq-eqb _ _ l))
   private-entry s (Release a) e h l = rw e (and_both _ _ (eq-eqb _ _ h) (eq-eqb _ _ l))
   private-entry s (Assign a x) e h l = eq-eqb _ _ h
@@ -96,13 +96,13 @@ module _ (n : ℕ) (rd : Memory) (d : ℕ) where
       by true = refl
       by false = eq-eqb o g e
 
-  pub pc-named : (s : ℕ) → Named n rd d s → (rd (field Owned d) ≡ held_at n rd d s) ⊎ (rd (field Owned d) ≡ held_at n rd d (suc s)) → pcOk n rd d ≡ true
-  unfolding pcOk namedOp
+  pub pc-named : (s : ℕ) → Named n rd d s → (rd (field Owned d) ≡ held_at n rd d s) ⊎ (rd (field Owned d) ≡ held_at n rd d (suc s)) → pc_ok n rd d ≡ true
+  unfolding pc_ok named_op
   pc-named s m o =
-      let st = named_step n rd d s m.pc in
+      let st = named_step_lem n rd d s m.pc in
       let z = named_some s m.pc in
       let one = le-leb 1 (rd (field Pc d) % 2 ^ 63) (omega arith) in
-      let en = private-entry s (opAt n rd d s) st m.address m.logs in
+      let en = private-entry s (op_at n rd d s) st m.address m.logs in
       let ow = private-either (rd (field Owned d)) (held_at n rd d s) (held_at n rd d (suc s)) o in
       rw (z, one, st, lt-ltb s (rd (field Count d)) m.below, en, ow)
 
@@ -142,7 +142,7 @@ module _ (n : ℕ) (rd : Memory) (d : ℕ) where
   private-held s locks Finish r = absurd r
   private-held s locks Unknown r = absurd r
 
-  private-dues : (s locks : ℕ) (x : Op) → Due n rd d s locks x → (dueTo s x ≡ locks) × (locks ≡ rd (field Intent d))
+  private-dues : (s locks : ℕ) (x : Op) → Due n rd d s locks x → (due_to s x ≡ locks) × (locks ≡ rd (field Intent d))
   private-dues s locks (Acquire a) r = (sym r.2, r.2 ∙ sym r.1)
   private-dues s locks (Release a) r = by r.0
     where
@@ -157,12 +157,12 @@ module _ (n : ℕ) (rd : Memory) (d : ℕ) where
   private-dues s locks Unknown r = absurd r
 
   -- after a release's target store it is owed the smaller set, which is in the one that it intends
-  private-smaller : (s a : ℕ) → opAt n rd d s ≡ Release a → (rd (field Intent d) ≡ held_at n rd d s) ⊎ (rd (field Intent d) ≡ held_at n rd d (suc s))
+  private-smaller : (s a : ℕ) → op_at n rd d s ≡ Release a → (rd (field Intent d) ≡ held_at n rd d s) ⊎ (rd (field Intent d) ≡ held_at n rd d (suc s))
       → Covered (held_at n rd d (suc s)) (rd (field Intent d))
   private-smaller s a o (inl e) = rw (e, after-release (code_in n rd d) s a o) (λ c l. without-within (held_at n rd d s) a c)
   private-smaller s a o (inr e) = covered_same _ _ (sym e)
 
-  private-owned : (s : ℕ) (x : Op) (h : ℕ) → rd (field Owned d) ≡ h → h ≡ held_at n rd d (suc s) → dueTo s x ≡ h
+  private-owned : (s : ℕ) (x : Op) (h : ℕ) → rd (field Owned d) ≡ h → h ≡ held_at n rd d (suc s) → due_to s x ≡ h
   private-owned s (Acquire a) h e f = sym f
   private-owned s (Release a) h e f = e
   private-owned s (Assign a x) h e f = e
@@ -172,7 +172,7 @@ module _ (n : ℕ) (rd : Memory) (d : ℕ) where
 
   -- with the set after step s owned, it is what is owed
   private-after : (s : ℕ) → Named n rd d s → rd (field Owned d) ≡ held_at n rd d (suc s) → owed n rd d ≡ held_at n rd d (suc s)
-  private-after s m o = owed-named s m.pc ∙ private-owned s (opAt n rd d s) _ o refl
+  private-after s m o = owed-named s m.pc ∙ private-owned s (op_at n rd d s) _ o refl
 
   pub stands : {g : Given} {c : Cursor} {locks j : ℕ} → Phase n rd d g c locks j → Stands locks
   stands (resting c p i o) =
@@ -182,13 +182,13 @@ module _ (n : ℕ) (rd : Memory) (d : ℕ) where
         section = section-some s;
         pc = pc-none p o;
         has = rw (owed_none p) (λ c l. within_none locks c);
-        meant = (nearing-locks 0 t 0 locks (opAt n rd d 0) r).1;
+        meant = (nearing-locks 0 t 0 locks (op_at n rd d 0) r).1;
       }
   stands (due s locks v m r) =
-      let e = private-dues s locks (opAt n rd d s) r in
+      let e = private-dues s locks (op_at n rd d s) r in
       record {
         section = section-some v;
-        pc = pc-named s m (private-held s locks (opAt n rd d s) r);
+        pc = pc-named s m (private-held s locks (op_at n rd d s) r);
         has = covered_same _ _ (owed-named s m.pc ∙ e.0);
         meant = covered_same _ _ e.1;
       }
@@ -207,7 +207,7 @@ module _ (n : ℕ) (rd : Memory) (d : ℕ) where
         meant = rw l (private-smaller s a x i);
       }
   stands (between s k t locks j v m x u b o e r) =
-      let w = nearing-locks k t (held_at n rd d k) locks (opAt n rd d k) r in
+      let w = nearing-locks k t (held_at n rd d k) locks (op_at n rd d k) r in
       record {
         section = section-some v;
         pc = pc-named s m (inr (o ∙ e));

@@ -18,15 +18,15 @@ use Rattle.code.specs.declared.Op.{Op}
 use Rattle.code.specs.declared.Op.TheVariants.{Acquire, Release, Assign, Jump, Finish, Unknown}
 use Rattle.code.specs.Op.{eval}
 use Rattle.working.specs.Cursor.{Cursor, idle, on}
-use Rattle.worklog.specs.Log.{operand, word_in, spareAddr, spareVal, activeVal, switched}
+use Rattle.worklog.specs.Log.{operand, word_in, spare_addr, spare_val, active_val, switched}
 use Rattle.plan.specs.Turn.{Outcome, stored, passed, waiting, resting, refused, logged}
-use Rattle.plan.specs.Turn.{lockTurn, unlockTurn, acquireTurn, releaseTurn, finishTurn, turnAt}
+use Rattle.plan.specs.Turn.{lock_turn, unlock_turn, acquire_turn, release_turn, finish_turn, turn_at}
 use Rattle.plan.proofs.Outcomes.{unlock-either}
 use Rattle.owed.specs.Owed.{target_of}
 use Rattle.resuming.specs.Resumed.{target_turn}
 use Rattle.claims.specs.Reference.{Given, Job, State, follow, enqueue, initial}
 use Rattle.claims.specs.Calls.{is_pc}
-use Rattle.claims.proofs.Invariant.{opAt, held_at, Sectioned, logsHeld, Nearing, Jumps, Lodged, Phase, resting as rests, fresh, due, unlocking, unlocked}
+use Rattle.claims.proofs.Invariant.{op_at, held_at, Sectioned, logs_held, Nearing, Jumps, Lodged, Phase, resting as rests, fresh, due, unlocking, unlocked}
 use Rattle.claims.proofs.Invariant.{between, ended, Live, JobOf, Mirrors}
 use Rattle.claims.proofs.Machine.{follow-then, initial-more}
 use Rattle.claims.proofs.Entries.{named-pc, operand-no-pc, addr-no-pc, val-no-pc}
@@ -55,20 +55,20 @@ Mirrored n D rd S j g d (refused r) = Unit {0}
 -- ---- the turns of an instruction up to its pc store
 
 module _ (n D : ℕ) (rd : Memory) (S : State) (M : Mirrors n D rd S) (j : ℕ) (g : Given) (d : ℕ) (mine : rd (field Pc d) ≡ 0 → g.worker ≡ d) where
-  addr-turn : (v : ℕ) → MirroredStore n D rd S j g d (field (spareAddr n rd d) d) v (is_pc (field (spareAddr n rd d) d))
-  addr-turn v = rw (addr-no-pc n rd d) (mirror-kept n D rd (field (spareAddr n rd d) d) v (unmirrored-spare-addr n D rd d) S M)
+  addr-turn : (v : ℕ) → MirroredStore n D rd S j g d (field (spare_addr n rd d) d) v (is_pc (field (spare_addr n rd d) d))
+  addr-turn v = rw (addr-no-pc n rd d) (mirror-kept n D rd (field (spare_addr n rd d) d) v (unmirrored-spare-addr n D rd d) S M)
 
-  val-turn : (v : ℕ) → MirroredStore n D rd S j g d (field (spareVal n rd d) d) v (is_pc (field (spareVal n rd d) d))
-  val-turn v = rw (val-no-pc n rd d) (mirror-kept n D rd (field (spareVal n rd d) d) v (unmirrored-spare-val n D rd d) S M)
+  val-turn : (v : ℕ) → MirroredStore n D rd S j g d (field (spare_val n rd d) d) v (is_pc (field (spare_val n rd d) d))
+  val-turn v = rw (val-no-pc n rd d) (mirror-kept n D rd (field (spare_val n rd d) d) v (unmirrored-spare-val n D rd d) S M)
 
-  lock-turn : (a k : ℕ) → Mirrored n D rd S j g d (lockTurn n rd d a k)
+  lock-turn : (a k : ℕ) → Mirrored n D rd S j g d (lock_turn n rd d a k)
   lock-turn a k = by (eqb (rd (lock a)) 0)
     where
       by : (b : Bool) → Mirrored n D rd S j g d (cond b (stored (lock a) (d + 1) (on k 2)) (waiting a))
       by true = mirror-kept n D rd (lock a) (d + 1) (unmirrored-lock n D rd a) S M
       by false = tt
 
-  unlock-turn : (a s : ℕ) → Mirrored n D rd S j g d (unlockTurn n rd d a s)
+  unlock-turn : (a s : ℕ) → Mirrored n D rd S j g d (unlock_turn n rd d a s)
   unlock-turn a s = unlock-either n rd d a s (Mirrored n D rd S j g d) (mirror-kept n D rd (lock a) 0 (unmirrored-lock n D rd a) S M) (λ why. tt)
 
   -- address, value, pc
@@ -80,34 +80,34 @@ module _ (n D : ℕ) (rd : Memory) (S : State) (M : Mirrors n D rd S) (j : ℕ) 
   logged-turns k t p v c (suc (suc zero)) h f = (refl, mine, f refl)
   logged-turns k t p v c (suc (suc (suc i))) h f = absurd (omega arith)
 
-  acquire-turns : (k t a : ℕ) → t ≤ 4 → (t ≡ 4 → Counted n D rd S j g d (switched n rd d k)) → Mirrored n D rd S j g d (acquireTurn n rd d a k t)
+  acquire-turns : (k t a : ℕ) → t ≤ 4 → (t ≡ 4 → Counted n D rd S j g d (switched n rd d k)) → Mirrored n D rd S j g d (acquire_turn n rd d a k t)
   acquire-turns k zero a h f = mirror-kept n D rd (field Intent d) _ (unmirrored-intent n D rd d) S M
   acquire-turns k (suc zero) a h f = lock-turn a k
   acquire-turns k (suc (suc t)) a h f = logged-turns k (suc (suc t)) (field Owned d) _ _ t (omega arith) (λ e. f (omega arith))
 
-  release-turns : (k t a : ℕ) → t ≤ 2 → (t ≡ 2 → Counted n D rd S j g d (switched n rd d k)) → Mirrored n D rd S j g d (releaseTurn n rd d a k t)
+  release-turns : (k t a : ℕ) → t ≤ 2 → (t ≡ 2 → Counted n D rd S j g d (switched n rd d k)) → Mirrored n D rd S j g d (release_turn n rd d a k t)
   release-turns k zero a h f = addr-turn _
   release-turns k (suc zero) a h f = val-turn _
   release-turns k (suc (suc zero)) a h f = (refl, mine, f refl)
   release-turns k (suc (suc (suc t))) a h f = absurd (omega arith)
 
-  finish-turns : (k t : ℕ) → t ≤ 1 → (t ≡ 1 → Counted n D rd S j g d 0) → Mirrored n D rd S j g d (finishTurn n rd d k t)
+  finish-turns : (k t : ℕ) → t ≤ 1 → (t ≡ 1 → Counted n D rd S j g d 0) → Mirrored n D rd S j g d (finish_turn n rd d k t)
   finish-turns k zero h f = mirror-kept n D rd (field Finished d) _ (unmirrored-finished n D rd d) S M
   finish-turns k (suc zero) h f = (refl, mine, f refl)
   finish-turns k (suc (suc t)) h f = absurd (omega arith)
 
 -- ---- the phases
 
-turn-idle : (n : ℕ) (rd : Memory) (d : ℕ) → turnAt n rd d idle ≡ resting
-unfolding turnAt
+turn-idle : (n : ℕ) (rd : Memory) (d : ℕ) → turn_at n rd d idle ≡ resting
+unfolding turn_at
 turn-idle n rd d = refl
 
 module _ (n D : ℕ) (rd : Memory) (cursor : ℕ → Cursor) (locks jumps : ℕ → ℕ) (given : ℕ → Given) (L : Live n D rd cursor locks jumps given) (d : ℕ) (l : d < D)
     (S : State) (M : Mirrors n D rd S) where
   -- a section that is not begun
   fresh-turn :
-      (t : ℕ) → Sectioned n rd d → Lodged n rd d (given d) → rd (field Pc d) ≡ 0 → rd (field Owned d) ≡ 0 → Nearing n rd d 0 t 0 (locks d) (opAt n rd d 0)
-      → Mirrored n D rd S 0 (given d) d (turnAt n rd d (on 0 t))
+      (t : ℕ) → Sectioned n rd d → Lodged n rd d (given d) → rd (field Pc d) ≡ 0 → rd (field Owned d) ≡ 0 → Nearing n rd d 0 t 0 (locks d) (op_at n rd d 0)
+      → Mirrored n D rd S 0 (given d) d (turn_at n rd d (on 0 t))
   fresh-turn t sec H p o N =
       let (a, x) = sec.valid.first in
       let c : 3 ≤ rd (field Count d) = sec.valid.least in
@@ -118,19 +118,19 @@ module _ (n D : ℕ) (rd : Memory) (cursor : ℕ → Cursor) (locks jumps : ℕ 
       (λ e. fresh-counted n D rd cursor locks jumps given L d l S M sec H p o a x (rw (K.2, e) (has-with 0 a)) (K.4 (omega arith))))
 
   -- the target store
-  due-turn : (s : ℕ) → Busy n rd d (locks d) s → (x : Op) → opAt n rd d s ≡ x → Mirrored n D rd S 0 (given d) d (turnAt n rd d (on s (target_turn x)))
+  due-turn : (s : ℕ) → Busy n rd d (locks d) s → (x : Op) → op_at n rd d s ≡ x → Mirrored n D rd S 0 (given d) d (turn_at n rd d (on s (target_turn x)))
   due-turn s B x o = by x o
     where
-      kept : (y : Op) → opAt n rd d s ≡ y → Mirrors n D (upd rd (target_of d y) (rd (field (activeVal n rd d) d))) S
+      kept : (y : Op) → op_at n rd d s ≡ y → Mirrors n D (upd rd (target_of d y) (rd (field (active_val n rd d) d))) S
       kept y p =
-          subst (λ (z : Op). Mirrors n D (upd rd (target_of d z) (rd (field (activeVal n rd d) d))) S) p
+          subst (λ (z : Op). Mirrors n D (upd rd (target_of d z) (rd (field (active_val n rd d) d))) S) p
           (mirror-target n D rd d s S B.named l
-          (λ e m h. misses-guarded n D rd cursor locks jumps given L d e l m h (target_of d (opAt n rd d s)) (target-guarded n rd d (locks d) s B)) M)
+          (λ e m h. misses-guarded n D rd cursor locks jumps given L d e l m h (target_of d (op_at n rd d s)) (target-guarded n rd d (locks d) s B)) M)
 
-      logs : (y : Op) → opAt n rd d s ≡ y → logsHeld n rd d s y
-      logs y p = subst (logsHeld n rd d s) p B.named.logs
+      logs : (y : Op) → op_at n rd d s ≡ y → logs_held n rd d s y
+      logs y p = subst (logs_held n rd d s) p B.named.logs
 
-      by : (y : Op) → opAt n rd d s ≡ y → Mirrored n D rd S 0 (given d) d (turnAt n rd d (on s (target_turn y)))
+      by : (y : Op) → op_at n rd d s ≡ y → Mirrored n D rd S 0 (given d) d (turn_at n rd d (on s (target_turn y)))
       by (Acquire a) p = rw (turn-op n rd d s 5 (Acquire a) B.sectioned.valid B.named.below p (omega arith)) (kept (Acquire a) p)
       by (Release a) p = rw (turn-op n rd d s 3 (Release a) B.sectioned.valid B.named.below p (omega arith)) (kept (Release a) p)
       by (Assign a e) p =
@@ -141,12 +141,12 @@ module _ (n D : ℕ) (rd : Memory) (cursor : ℕ → Cursor) (locks jumps : ℕ 
 
   -- a step that has not been counted
   between-turn :
-      (s k t i : ℕ) → Busy n rd d (locks d) s → rd (target_of d (opAt n rd d s)) ≡ rd (field (activeVal n rd d) d) → Jumps n rd d (suc s) i k
-      → k < rd (field Count d) → held_at n rd d k ≡ held_at n rd d (suc s) → Nearing n rd d k t (held_at n rd d k) (locks d) (opAt n rd d k)
-      → Mirrored n D rd S i (given d) d (turnAt n rd d (on k t))
+      (s k t i : ℕ) → Busy n rd d (locks d) s → rd (target_of d (op_at n rd d s)) ≡ rd (field (active_val n rd d) d) → Jumps n rd d (suc s) i k
+      → k < rd (field Count d) → held_at n rd d k ≡ held_at n rd d (suc s) → Nearing n rd d k t (held_at n rd d k) (locks d) (op_at n rd d k)
+      → Mirrored n D rd S i (given d) d (turn_at n rd d (on k t))
   between-turn s k t i B made leaps below level near =
       let (j, q, J) = M.some d l (named-pc n rd d s B.named.pc) in
-      by j q J (opAt n rd d k) refl near
+      by j q J (op_at n rd d k) refl near
     where
       sec : Sectioned n rd d
       sec = B.sectioned
@@ -154,8 +154,8 @@ module _ (n D : ℕ) (rd : Memory) (cursor : ℕ → Cursor) (locks jumps : ℕ 
       mine : rd (field Pc d) ≡ 0 → (given d).worker ≡ d
       mine z = absurd (named-pc n rd d s B.named.pc z)
 
-      by : (j : Job) → get_or S.queues d [] ≡ j ∷ [] → JobOf n D rd d j → (x : Op) → opAt n rd d k ≡ x → Nearing n rd d k t (held_at n rd d k) (locks d) x
-          → Mirrored n D rd S i (given d) d (turnAt n rd d (on k t))
+      by : (j : Job) → get_or S.queues d [] ≡ j ∷ [] → JobOf n D rd d j → (x : Op) → op_at n rd d k ≡ x → Nearing n rd d k t (held_at n rd d k) (locks d) x
+          → Mirrored n D rd S i (given d) d (turn_at n rd d (on k t))
       by j q J (Acquire a) x K =
           let r : t ≤ 4 = K.0 in
           rw (turn-op n rd d k t (Acquire a) sec.valid below x (omega arith))
@@ -180,10 +180,10 @@ module _ (n D : ℕ) (rd : Memory) (cursor : ℕ → Cursor) (locks jumps : ℕ 
           (λ e. counted-finish n D rd cursor locks jumps given L d l S M sec s k i B made leaps below level j q J x))
       by j q J Unknown x K = absurd K
 
-  phase-turn : (c : Cursor) (w i : ℕ) → locks d ≡ w → Phase n rd d (given d) c w i → Mirrored n D rd S i (given d) d (turnAt n rd d c)
+  phase-turn : (c : Cursor) (w i : ℕ) → locks d ≡ w → Phase n rd d (given d) c w i → Mirrored n D rd S i (given d) d (turn_at n rd d c)
   phase-turn c w i e (rests a b x y) = rw (turn-idle n rd d) tt
   phase-turn c w i e (fresh t lk sec H p o N) = fresh-turn t sec H p o (rw e N)
-  phase-turn c w i e (due s lk sec N K) = due-turn s (rw e (busy-due n rd d s lk sec N K)) (opAt n rd d s) refl
+  phase-turn c w i e (due s lk sec N K) = due-turn s (rw e (busy-due n rd d s lk sec N K)) (op_at n rd d s) refl
   phase-turn c w i e (unlocking s a lk sec N o x y z) =
       rw (turn-op n rd d s 4 (Release a) sec.valid N.below o (omega arith))
       (unlock-turn n D rd S M 0 (given d) d (λ q. absurd (named-pc n rd d s N.pc q)) a s)
@@ -198,7 +198,7 @@ module _ (n D : ℕ) (rd : Memory) (cursor : ℕ → Cursor) (locks jumps : ℕ 
 pub mirror-turn :
     (n D : ℕ) (rd : Memory) (cursor : ℕ → Cursor) (locks jumps : ℕ → ℕ) (given : ℕ → Given) → Live n D rd cursor locks jumps given → (d : ℕ) → d < D →
     (S : State)
-    → Mirrors n D rd S → Mirrored n D rd S (jumps d) (given d) d (turnAt n rd d (cursor d))
+    → Mirrors n D rd S → Mirrored n D rd S (jumps d) (given d) d (turn_at n rd d (cursor d))
 mirror-turn n D rd cursor locks jumps given L d l S M = phase-turn n D rd cursor locks jumps given L d l S M (cursor d) (locks d) (jumps d) refl (L.phase d l)
 
 -- ---- what that says of a store

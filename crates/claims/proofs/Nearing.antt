@@ -25,12 +25,12 @@ use Rattle.section.proofs.Facts.{acquire-above}
 use Rattle.section.proofs.Held.{after-acquire, after-release, after-jump}
 use Rattle.code.proofs.Ranges.{acquire-range}
 use Rattle.working.specs.Cursor.{on}
-use Rattle.worklog.specs.Log.{operand, code_in, word_in, spareAddr, spareVal, switched}
-use Rattle.plan.specs.Turn.{opTurn, turnAt, stored, waiting}
+use Rattle.worklog.specs.Log.{operand, code_in, word_in, spare_addr, spare_val, switched}
+use Rattle.plan.specs.Turn.{op_turn, turn_at, stored, waiting}
 use Rattle.owed.specs.Owed.{target_of}
 use Rattle.resuming.specs.Resumed.{target_turn}
 use Rattle.claims.specs.Reference.{Given}
-use Rattle.claims.proofs.Invariant.{opAt, held_at, Sectioned, logsHeld, Named, Nearing, Due, leap, Phase, due, ended}
+use Rattle.claims.proofs.Invariant.{op_at, held_at, Sectioned, logs_held, Named, Nearing, Due, leap, Phase, due, ended}
 use Rattle.claims.proofs.Turns.{in_record, takes, Stepped}
 use Rattle.claims.proofs.Fields.{quiet-intent, quiet-finished, quiet-lock, quiet-spare-addr, quiet-spare-val, spare-addr-other, spare-val-other}
 use Rattle.claims.proofs.Fields.{spare-addr-now, spare-val-now, spare-val-addr, next-step, next_address, next-value}
@@ -41,7 +41,7 @@ use Rattle.claims.proofs.Entries.{addr-no-pc, val-no-pc}
 -- a jump is never first, so that there is a step that is over
 jump-origin :
     (n : ℕ) (rd : Memory) (d : ℕ) (g : Given) → Valid n (rd (field Count d)) (code_in n rd d) → (a c : ℕ) (q : Bool) → eqb (word_in n rd d a) 0 ≡ q → {k j : ℕ}
-    → k < rd (field Count d) → opAt n rd d k ≡ Jump a c
+    → k < rd (field Count d) → op_at n rd d k ≡ Jump a c
     → held_at n rd d (cond q c (suc k)) ≡ held_at n rd d k → Origin n rd d g k j → Origin n rd d g (cond q c (suc k)) (suc j)
 jump-origin n rd d g v a c q e l o h (began x p) = let y = v.first.1 in let z : ◌≡◌ {A = ℕ} 0 1 = cc in absurd (omega arith)
 jump-origin n rd d g v a c q e l o h (after s k j m done js f) = after s (cond q c (suc k)) (suc j) m done (rw e at (leap j k a c js l o)) (h ∙ f)
@@ -53,34 +53,34 @@ module _ (n : ℕ) (rd : Memory) (d : ℕ) (g : Given) (k j locks : ℕ) (b : Be
   small = let m = b.sectioned.valid.most in let l = b.below in omega arith
 
   log-address :
-      (w t : ℕ) (x : Op) → opAt n rd d k ≡ x → Nearing n (upd rd (field (spareAddr n rd d) d) w) d k t (held_at n rd d k) locks x
-      → Stepped n rd d g locks j (stored (field (spareAddr n rd d) d) w (on k t))
+      (w t : ℕ) (x : Op) → op_at n rd d k ≡ x → Nearing n (upd rd (field (spare_addr n rd d) d) w) d k t (held_at n rd d k) locks x
+      → Stepped n rd d g locks j (stored (field (spare_addr n rd d) d) w (on k t))
   log-address w t x o r =
-      let rd' = upd rd (field (spareAddr n rd d) d) w in
+      let rd' = upd rd (field (spare_addr n rd d) d) w in
       let f : rd' (field Finished d) ≤ rd' (field Number d) = rw (spare-addr-other n rd d w Finished refl refl, spare-addr-other n rd d w Number refl refl)
       b.sectioned.unfinished in (
         locks,
-        in_record (spareAddr n rd d) w,
+        in_record (spare_addr n rd d) w,
         rw (addr-no-pc n rd d)
             (near n rd' d g k j t locks x (before-kept n rd rd' d g k j (quiet-spare-addr n rd d w) f b) o r),
       )
 
   log-value :
-      (w t : ℕ) (x : Op) → opAt n rd d k ≡ x → Nearing n (upd rd (field (spareVal n rd d) d) w) d k t (held_at n rd d k) locks x
-      → Stepped n rd d g locks j (stored (field (spareVal n rd d) d) w (on k t))
+      (w t : ℕ) (x : Op) → op_at n rd d k ≡ x → Nearing n (upd rd (field (spare_val n rd d) d) w) d k t (held_at n rd d k) locks x
+      → Stepped n rd d g locks j (stored (field (spare_val n rd d) d) w (on k t))
   log-value w t x o r =
-      let rd' = upd rd (field (spareVal n rd d) d) w in
+      let rd' = upd rd (field (spare_val n rd d) d) w in
       let f : rd' (field Finished d) ≤ rd' (field Number d) = rw (spare-val-other n rd d w Finished refl refl, spare-val-other n rd d w Number refl refl)
       b.sectioned.unfinished in (
         locks,
-        in_record (spareVal n rd d) w,
+        in_record (spare_val n rd d) w,
         rw (val-no-pc n rd d)
             (near n rd' d g k j t locks x (before-kept n rd rd' d g k j (quiet-spare-val n rd d w) f b) o r),
       )
 
   log-pc :
-      (x : Op) → opAt n rd d k ≡ x → rd (field (spareAddr n rd d) d) ≡ index_of n (target_of d x)
-      → logsHeld n (upd rd (field Pc d) (switched n rd d k)) d k x → Due n (upd rd (field Pc d) (switched n rd d k)) d k locks x
+      (x : Op) → op_at n rd d k ≡ x → rd (field (spare_addr n rd d) d) ≡ index_of n (target_of d x)
+      → logs_held n (upd rd (field Pc d) (switched n rd d k)) d k x → Due n (upd rd (field Pc d) (switched n rd d k)) d k locks x
       → Stepped n rd d g locks j (stored (field Pc d) (switched n rd d k) (on k (target_turn x)))
   log-pc x o a v u =
       let rd' = upd rd (field Pc d) (switched n rd d k) in
@@ -90,7 +90,7 @@ module _ (n : ℕ) (rd : Memory) (d : ℕ) (g : Given) (k j locks : ℕ) (b : Be
         pc = next-step n rd d k small;
         below = b.below;
         address = next_address n rd d k small ∙ (a ∙ ap (λ (y : Op). index_of n (target_of d y)) (sym o));
-        logs = subst (λ (y : Op). logsHeld n rd' d k y) (sym o) v;
+        logs = subst (λ (y : Op). logs_held n rd' d k y) (sym o) v;
       }
       in
       let p = due k locks s m (subst (λ (y : Op). Due n rd' d k locks y) (sym o) u) in
@@ -98,11 +98,11 @@ module _ (n : ℕ) (rd : Memory) (d : ℕ) (g : Given) (k j locks : ℕ) (b : Be
 
   -- ---- an acquire
 
-  module _ (a : ℕ) (o : opAt n rd d k ≡ Acquire a) where
+  module _ (a : ℕ) (o : op_at n rd d k ≡ Acquire a) where
     grown : held_at n rd d (suc k) ≡ with (held_at n rd d k) a
     grown = after-acquire (code_in n rd d) k a o
 
-    acquire-intent : Nearing n rd d k 0 (held_at n rd d k) locks (Acquire a) → Stepped n rd d g locks j (opTurn n rd d k 0 (Acquire a))
+    acquire-intent : Nearing n rd d k 0 (held_at n rd d k) locks (Acquire a) → Stepped n rd d g locks j (op_turn n rd d k 0 (Acquire a))
     acquire-intent r =
         let w = with (rd (field Intent d)) a in
         let rd' = upd rd (field Intent d) w in
@@ -123,7 +123,7 @@ module _ (n : ℕ) (rd : Memory) (d : ℕ) (g : Given) (k j locks : ℕ) (b : Be
             let f : has locks c ≡ false = rw e (acquire-above n (rd (field Count d)) (code_in n rd d) k a b.sectioned.valid b.below o c (omega arith)) in
             absurd (true≢false (sym h ∙ f))
 
-    acquire-lock : Nearing n rd d k 1 (held_at n rd d k) locks (Acquire a) → Stepped n rd d g locks j (opTurn n rd d k 1 (Acquire a))
+    acquire-lock : Nearing n rd d k 1 (held_at n rd d k) locks (Acquire a) → Stepped n rd d g locks j (op_turn n rd d k 1 (Acquire a))
     acquire-lock r = by (eqb (rd (lock a)) 0) refl
       where
         rd' : Memory
@@ -140,7 +140,7 @@ module _ (n : ℕ) (rd : Memory) (d : ℕ) (g : Given) (k j locks : ℕ) (b : Be
             )
         by false e = (range, eqb-false _ _ e, above r.2)
 
-    acquire-turn : (t : ℕ) → Nearing n rd d k t (held_at n rd d k) locks (Acquire a) → Stepped n rd d g locks j (opTurn n rd d k t (Acquire a))
+    acquire-turn : (t : ℕ) → Nearing n rd d k t (held_at n rd d k) locks (Acquire a) → Stepped n rd d g locks j (op_turn n rd d k t (Acquire a))
     acquire-turn zero r = acquire-intent r
     acquire-turn (suc zero) r = acquire-lock r
     acquire-turn (suc (suc zero)) r =
@@ -169,8 +169,8 @@ module _ (n : ℕ) (rd : Memory) (d : ℕ) (g : Given) (k j locks : ℕ) (b : Be
 
   -- ---- a release
 
-  module _ (a : ℕ) (o : opAt n rd d k ≡ Release a) where
-    release-turn : (t : ℕ) → Nearing n rd d k t (held_at n rd d k) locks (Release a) → Stepped n rd d g locks j (opTurn n rd d k t (Release a))
+  module _ (a : ℕ) (o : op_at n rd d k ≡ Release a) where
+    release-turn : (t : ℕ) → Nearing n rd d k t (held_at n rd d k) locks (Release a) → Stepped n rd d g locks j (op_turn n rd d k t (Release a))
     release-turn zero r =
         let w = index_of n (field Owned d) in
         log-address w 1 (Release a) o (
@@ -197,15 +197,15 @@ module _ (n : ℕ) (rd : Memory) (d : ℕ) (g : Given) (k j locks : ℕ) (b : Be
 
   -- ---- an assignment
 
-  module _ (a : ℕ) (e : Expr) (o : opAt n rd d k ≡ Assign a e) where
-    assign-turn : (t : ℕ) → Nearing n rd d k t (held_at n rd d k) locks (Assign a e) → Stepped n rd d g locks j (opTurn n rd d k t (Assign a e))
+  module _ (a : ℕ) (e : Expr) (o : op_at n rd d k ≡ Assign a e) where
+    assign-turn : (t : ℕ) → Nearing n rd d k t (held_at n rd d k) locks (Assign a e) → Stepped n rd d g locks j (op_turn n rd d k t (Assign a e))
     assign-turn zero r =
         let w = index_of n (operand d a) in
         log-address w 1 (Assign a e) o
         (omega arith, spare-addr-other n rd d w Intent refl refl ∙ r.1, r.2, (λ m. spare-addr-now n rd d w), (λ m. absurd (omega arith)))
     assign-turn (suc zero) r =
         let w = eval (word_in n rd d) e in
-        let rd' = upd rd (field (spareVal n rd d) d) w in
+        let rd' = upd rd (field (spare_val n rd d) d) w in
         let v : w ≡ eval (word_in n rd' d) e = ap (λ (f : ℕ → ℕ). eval f e) (sym (reads_kept n rd rd' d (quiet-spare-val n rd d w))) in
         log-value w 2 (Assign a e) o (
           omega arith,
@@ -219,7 +219,7 @@ module _ (n : ℕ) (rd : Memory) (d : ℕ) (g : Given) (k j locks : ℕ) (b : Be
 
   -- ---- a jump
 
-  module _ (a c : ℕ) (o : opAt n rd d k ≡ Jump a c) where
+  module _ (a c : ℕ) (o : op_at n rd d k ≡ Jump a c) where
     landed-held : (q : Bool) → held_at n rd d (cond q c (suc k)) ≡ held_at n rd d k
     landed-held true = (b.sectioned.valid.jumps k a c b.below o).2
     landed-held false = after-jump (code_in n rd d) k a c o
@@ -238,7 +238,7 @@ module _ (n : ℕ) (rd : Memory) (d : ℕ) (g : Given) (k j locks : ℕ) (b : Be
           owned = b.owned ∙ sym (landed-held q);
         }
 
-    jump-turn : (t : ℕ) → Nearing n rd d k t (held_at n rd d k) locks (Jump a c) → Stepped n rd d g locks j (opTurn n rd d k t (Jump a c))
+    jump-turn : (t : ℕ) → Nearing n rd d k t (held_at n rd d k) locks (Jump a c) → Stepped n rd d g locks j (op_turn n rd d k t (Jump a c))
     jump-turn t r = by (eqb (word_in n rd d a) 0) refl
       where
         by : (q : Bool) → eqb (word_in n rd d a) 0 ≡ q → Phase n rd d g (cond q (on c 0) (on (k + 1) 0)) locks (suc j)
@@ -247,11 +247,11 @@ module _ (n : ℕ) (rd : Memory) (d : ℕ) (g : Given) (k j locks : ℕ) (b : Be
 
   -- ---- a finish
 
-  module _ (o : opAt n rd d k ≡ Finish) where
+  module _ (o : op_at n rd d k ≡ Finish) where
     none : held_at n rd d k ≡ 0
     none = finish-free n (rd (field Count d)) (code_in n rd d) b.sectioned.valid k b.below o
 
-    finish-turn : (t : ℕ) → Nearing n rd d k t (held_at n rd d k) locks Finish → Stepped n rd d g locks j (opTurn n rd d k t Finish)
+    finish-turn : (t : ℕ) → Nearing n rd d k t (held_at n rd d k) locks Finish → Stepped n rd d g locks j (op_turn n rd d k t Finish)
     finish-turn zero r =
         let w = rd (field Number d) in
         let rd' = upd rd (field Finished d) w in
@@ -273,7 +273,7 @@ module _ (n : ℕ) (rd : Memory) (d : ℕ) (g : Given) (k j locks : ℕ) (b : Be
 
   -- ---- all of them
 
-  near-op : (t : ℕ) (x : Op) → opAt n rd d k ≡ x → Nearing n rd d k t (held_at n rd d k) locks x → Stepped n rd d g locks j (opTurn n rd d k t x)
+  near-op : (t : ℕ) (x : Op) → op_at n rd d k ≡ x → Nearing n rd d k t (held_at n rd d k) locks x → Stepped n rd d g locks j (op_turn n rd d k t x)
   near-op t (Acquire a) o r = acquire-turn a o t r
   near-op t (Release a) o r = release-turn a o t r
   near-op t (Assign a e) o r = assign-turn a e o t r
@@ -282,7 +282,7 @@ module _ (n : ℕ) (rd : Memory) (d : ℕ) (g : Given) (k j locks : ℕ) (b : Be
   near-op t Unknown o r = absurd r
 
   -- a turn on the way to the pc
-  pub near-turn : (t : ℕ) → Nearing n rd d k t (held_at n rd d k) locks (opAt n rd d k) → Stepped n rd d g locks j (turnAt n rd d (on k t))
+  pub near-turn : (t : ℕ) → Nearing n rd d k t (held_at n rd d k) locks (op_at n rd d k) → Stepped n rd d g locks j (turn_at n rd d (on k t))
   near-turn t r =
-      let x = opAt n rd d k in
+      let x = op_at n rd d k in
       rw (turn-op n rd d k t x b.sectioned.valid b.below refl (near-ready n rd d k t (held_at n rd d k) locks x r)) (near-op t x refl r)

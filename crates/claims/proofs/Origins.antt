@@ -16,10 +16,10 @@ use Rattle.section.specs.Valid.{Valid}
 use Rattle.section.proofs.Held.{held-zero}
 use Rattle.code.proofs.Ranges.{known, op_turns}
 use Rattle.working.specs.Cursor.{on}
-use Rattle.worklog.specs.Log.{operand, code_in, word_in, activeAddr, activeVal}
+use Rattle.worklog.specs.Log.{operand, code_in, word_in, active_addr, active_val}
 use Rattle.owed.specs.Owed.{target_of}
 use Rattle.claims.specs.Reference.{Given}
-use Rattle.claims.proofs.Invariant.{opAt, held_at, Sectioned, logsHeld, Named, Nearing, Jumps, stay, leap, Lodged, Phase, fresh, between}
+use Rattle.claims.proofs.Invariant.{op_at, held_at, Sectioned, logs_held, Named, Nearing, Jumps, stay, leap, Lodged, Phase, fresh, between}
 use Rattle.claims.proofs.Fields.{KeepsNamed, Quiet, active-addr-kept, active-val-kept, word_kept}
 
 -- ---- what is kept with the pc, the section and the active entry
@@ -28,16 +28,16 @@ module _ (n : ℕ) (rd rd' : Memory) (d : ℕ) (k : KeepsNamed n rd rd' d) where
   code-kept : code_in n rd' d ≡ code_in n rd d
   code-kept = fun_ext k.steps
 
-  pub op-kept : (s : ℕ) → opAt n rd' d s ≡ opAt n rd d s
+  pub op-kept : (s : ℕ) → op_at n rd' d s ≡ op_at n rd d s
   op-kept s = ap op_of (k.steps s)
 
   pub held_kept : (s : ℕ) → held_at n rd' d s ≡ held_at n rd d s
   held_kept s = ap (λ (c : Code). held_before c s) code-kept
 
-  pub value-kept : rd' (field (activeVal n rd' d) d) ≡ rd (field (activeVal n rd d) d)
+  pub value-kept : rd' (field (active_val n rd' d) d) ≡ rd (field (active_val n rd d) d)
   value-kept = ap (λ (f : Field). rd' (field f d)) (active-val-kept n rd rd' d k.pc) ∙ k.value
 
-  address_kept : rd' (field (activeAddr n rd' d) d) ≡ rd (field (activeAddr n rd d) d)
+  address_kept : rd' (field (active_addr n rd' d) d) ≡ rd (field (active_addr n rd d) d)
   address_kept = ap (λ (f : Field). rd' (field f d)) (active-addr-kept n rd rd' d k.pc) ∙ k.address
 
   pub sectioned-kept : rd' (field Number d) ≡ rd (field Number d) → rd' (field Finished d) ≤ rd' (field Number d) → Sectioned n rd d → Sectioned n rd' d
@@ -48,7 +48,7 @@ module _ (n : ℕ) (rd rd' : Memory) (d : ℕ) (k : KeepsNamed n rd rd' d) where
         unfinished = l;
       }
 
-  private-logs : (s : ℕ) (x : Op) → logsHeld n rd d s x → logsHeld n rd' d s x
+  private-logs : (s : ℕ) (x : Op) → logs_held n rd d s x → logs_held n rd' d s x
   private-logs s (Acquire a) h = value-kept ∙ (h ∙ sym (held_kept (suc s)))
   private-logs s (Release a) h = value-kept ∙ (h ∙ sym (held_kept (suc s)))
   private-logs s (Assign a e) h = tt
@@ -62,7 +62,7 @@ module _ (n : ℕ) (rd rd' : Memory) (d : ℕ) (k : KeepsNamed n rd rd' d) where
         pc = rw k.pc m.pc;
         below = rw k.count m.below;
         address = address_kept ∙ (m.address ∙ ap (λ (x : Op). index_of n (target_of d x)) (sym (op-kept s)));
-        logs = subst (λ (x : Op). logsHeld n rd' d s x) (sym (op-kept s)) (private-logs s (opAt n rd d s) m.logs);
+        logs = subst (λ (x : Op). logs_held n rd' d s x) (sym (op-kept s)) (private-logs s (op_at n rd d s) m.logs);
       }
 
   pub entered-kept : ((i : ℕ) → rd' (own d i) ≡ rd (own d i)) → rd' (field Number d) ≡ rd (field Number d) → (g : Given) → Lodged n rd d g → Lodged n rd' d g
@@ -82,7 +82,8 @@ pub data Origin (n : ℕ) (rd : Memory) (d : ℕ) (g : Given) : ℕ → ℕ → 
   began : Lodged n rd d g → rd (field Pc d) ≡ 0 → Origin n rd d g 0 0
   -- its step s is over
   after :
-      (s k j : ℕ) → Named n rd d s → rd (target_of d (opAt n rd d s)) ≡ rd (field (activeVal n rd d) d) → Jumps n rd d (suc s) j k → held_at n rd d k ≡ held_at n
+      (s k j : ℕ) → Named n rd d s → rd (target_of d (op_at n rd d s)) ≡ rd (field (active_val n rd d) d) → Jumps n rd d (suc s) j k
+      → held_at n rd d k ≡ held_at n
       rd d (suc s)
       → Origin n rd d g k j
 
@@ -110,7 +111,7 @@ module _ (n : ℕ) (rd rd' : Memory) (d : ℕ) (q : Quiet n rd rd' d) where
   origin-kept {g} (after s k j m done r e) =
       let ks = q.keeps in
       after s k j (named-kept n rd rd' d ks s m)
-      (ap (λ (x : Op). rd' (target_of d x)) (op-kept n rd rd' d ks s) ∙ (target-kept (opAt n rd d s) ∙ (done ∙ sym (value-kept n rd rd' d ks))))
+      (ap (λ (x : Op). rd' (target_of d x)) (op-kept n rd rd' d ks s) ∙ (target-kept (op_at n rd d s) ∙ (done ∙ sym (value-kept n rd rd' d ks))))
       (jumps_kept r)
       (held_kept n rd rd' d ks k ∙ (e ∙ sym (held_kept n rd rd' d ks (suc s))))
 
@@ -136,14 +137,14 @@ before-kept n rd rd' d g k j q l b =
 module _ (n : ℕ) (rd : Memory) (d : ℕ) (g : Given) where
   private-near :
       {k j : ℕ} (t locks : ℕ) → Sectioned n rd d → Origin n rd d g k j → k < rd (field Count d) → rd (field Owned d) ≡ held_at n rd d k
-      → Nearing n rd d k t (held_at n rd d k) locks (opAt n rd d k) → Phase n rd d g (on k t) locks j
+      → Nearing n rd d k t (held_at n rd d k) locks (op_at n rd d k) → Phase n rd d g (on k t) locks j
   private-near t locks s (began h p) l o r =
       let z = held-zero (code_in n rd d) in
-      fresh t locks s h p (o ∙ z) (subst (λ (m : ℕ). Nearing n rd d 0 t m locks (opAt n rd d 0)) z r)
+      fresh t locks s h p (o ∙ z) (subst (λ (m : ℕ). Nearing n rd d 0 t m locks (op_at n rd d 0)) z r)
   private-near t locks s (after i k j m done js e) l o r = between i k t locks j s m done js l o e r
 
   -- the phase at turn t of step k
-  pub near : (k j t locks : ℕ) (x : Op) → Before n rd d g k j → opAt n rd d k ≡ x → Nearing n rd d k t (held_at n rd d k) locks x
+  pub near : (k j t locks : ℕ) (x : Op) → Before n rd d g k j → op_at n rd d k ≡ x → Nearing n rd d k t (held_at n rd d k) locks x
       → Phase n rd d g (on k t) locks j
   near k j t locks x b o r =
       private-near t locks b.sectioned b.origin b.below b.owned (subst (λ (y : Op). Nearing n rd d k t (held_at n rd d k) locks y) (sym o) r)
@@ -159,7 +160,7 @@ module _ (n : ℕ) (rd : Memory) (d : ℕ) (g : Given) where
   -- and at its first turn
   pub arrive : (k j locks : ℕ) → Before n rd d g k j → rd (field Intent d) ≡ held_at n rd d k → locks ≡ held_at n rd d k → Phase n rd d g (on k 0) locks j
   arrive k j locks b e f =
-      let x = opAt n rd d k in
+      let x = op_at n rd d k in
       near k j 0 locks x b refl (private-start k (held_at n rd d k) locks x (known n (code_in n rd d k) (b.sectioned.valid.ranges k b.below)) e f)
 
 -- a step that has come so far has the turn

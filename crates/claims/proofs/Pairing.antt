@@ -14,11 +14,11 @@ use Rattle.image.specs.Place.{field, Memory}
 use Rattle.image.specs.Inner.Same.{upd}
 use Rattle.image.specs.Image.{index_of, at, put}
 use Rattle.working.specs.Cursor.{Cursor, cursor_at, placed}
-use Rattle.plan.specs.Turn.{Outcome, stored, passed, waiting, resting, refused, turnAt}
+use Rattle.plan.specs.Turn.{Outcome, stored, passed, waiting, resting, refused, turn_at}
 use Rattle.working.proofs.Placed.{placed_same, held-cursor, placed-other}
 use Rattle.turn.specs.Call.{held_by}
 use Rattle.claims.specs.Reference.{Given}
-use Rattle.claims.specs.Calls.{Traced, is_pc, turnBy}
+use Rattle.claims.specs.Calls.{Traced, is_pc, turn_by}
 use Rattle.claims.specs.Claims.{of_worker}
 use Rattle.claims.proofs.Invariant.{Phase}
 use Rattle.claims.proofs.Turns.{Stepped}
@@ -127,7 +127,7 @@ module _ (mark n D : ℕ) (cells : List ℕ) where
     outcome-paired :
         (o : Outcome) → Stepped n rd d (w.trace.last d) (r.locks d) (w.trace.jumps d) o
         → Mirrored n D rd r.reached.state (w.trace.jumps d) (w.trace.last d) d o
-        → Pends (rd (field Pc d)) cursor o → Paired (turnBy mark n w d o)
+        → Pends (rd (field Pc d)) cursor o → Paired (turn_by mark n w d o)
     outcome-paired (stored p v c) (locks', t, ph) mi x = by (is_pc p) refl x
       where
         left_over : eqb w.world.left 0 ≡ false
@@ -136,7 +136,7 @@ module _ (mark n D : ℕ) (cells : List ℕ) where
         now : c ≡ cursor_at (placed w.world.cursors d c) d
         now = cursor-now (upd rd p v) c locks' (cond (is_pc p) 0 (w.trace.jumps d)) ph
 
-        held : (e : ℕ) → cursor_at (turnBy mark n w d (stored p v c)).world.cursors e ≡ cursor_at (placed w.world.cursors d c) e
+        held : (e : ℕ) → cursor_at (turn_by mark n w d (stored p v c)).world.cursors e ≡ cursor_at (placed w.world.cursors d c) e
         held = held-cursor (held_by p v w.world.cursors.held) (placed w.world.cursors d c)
 
         memory : at n (put w.world.left w.world.image (index_of n p) v) ≡ upd rd p v
@@ -144,7 +144,7 @@ module _ (mark n D : ℕ) (cells : List ℕ) where
             memory-store n D w.world.image (running-sized mark n D cells w r.reached) w.world.left p v
             (touches-valid n D rd d (r.locks d) p v locks' dl t) some_left
 
-        by : (b : Bool) → is_pc p ≡ b → Passes (rd (field Pc d)) cursor v c b → Paired (turnBy mark n w d (stored p v c))
+        by : (b : Bool) → is_pc p ≡ b → Passes (rd (field Pc d)) cursor v c b → Paired (turn_by mark n w d (stored p v c))
         by true h y e l =
             let k = mirror-counts n D rd r.reached.state (w.trace.jumps d) (w.trace.last d) d p v c h mi in
             rw (h, left_over, memory, held e, k.0) (begins-paired v c now y k.1 e l)
@@ -156,9 +156,9 @@ module _ (mark n D : ℕ) (cells : List ℕ) where
     outcome-paired (refused q) st mi x = paired
 
     -- a turn for which a store is left
-    pub paired-turn : Paired (turnBy mark n w d (turnAt n rd d cursor))
+    pub paired-turn : Paired (turn_by mark n w d (turn_at n rd d cursor))
     paired-turn =
-        outcome-paired (turnAt n rd d cursor)
+        outcome-paired (turn_at n rd d cursor)
         (own_turn n rd d (w.trace.last d) cursor (r.locks d) (w.trace.jumps d) (r.live.phase d dl) (λ b l h. r.live.locked b d l dl h)
         (λ b l h. (r.live.owner b d l h).1))
         (mirror-turn n D rd (cursor_at w.world.cursors) r.locks w.trace.jumps w.trace.last r.live d dl r.reached.state

@@ -22,12 +22,12 @@ use Rattle.rules.specs.Rules.{covered}
 use Rattle.section.proofs.Facts.{acquire-free}
 use Rattle.code.proofs.Ranges.{acquire-range, assign-range, expr-range}
 use Rattle.working.specs.Cursor.{Cursor}
-use Rattle.worklog.specs.Log.{code_in, word_in, spareVal, activeVal, switched}
+use Rattle.worklog.specs.Log.{code_in, word_in, spare_val, active_val, switched}
 use Rattle.owed.specs.Owed.{target_of}
 use Rattle.claims.specs.Reference.{Given, Job, job, State, state, read_in, onto, follow, start, enqueue}
-use Rattle.claims.proofs.Invariant.{opAt, held_at, Sectioned, Jumps, Lodged, Live, JobOf, Mirrors}
+use Rattle.claims.proofs.Invariant.{op_at, held_at, Sectioned, Jumps, Lodged, Live, JobOf, Mirrors}
 use Rattle.claims.proofs.Machine.{follow_one, follow-last}
-use Rattle.claims.proofs.Entries.{named-pc, named_step}
+use Rattle.claims.proofs.Entries.{named-pc, named_step_lem}
 use Rattle.claims.proofs.Apart.{Busy, covered-guarded, virtual-resting, virtual-owned, reads_same}
 use Rattle.claims.proofs.Switching.{Freed, freed-resting, freed-settled}
 use Rattle.claims.proofs.Counts.{Poised, Counts, counts-acquire, counts-release, counts-assign, counts-finish}
@@ -60,8 +60,8 @@ module _ (n D : ℕ) (rd : Memory) (cursor : ℕ → Cursor) (locks jumps : ℕ 
       }
 
   pub fresh-counted :
-      Lodged n rd d (given d) → rd (field Pc d) ≡ 0 → rd (field Owned d) ≡ 0 → (a : ℕ) → opAt n rd d 0 ≡ Acquire a → has (locks d) a ≡ true
-      → rd (field (spareVal n rd d) d) ≡ with 0 a → Counted n D rd S 0 (given d) d (switched n rd d 0)
+      Lodged n rd d (given d) → rd (field Pc d) ≡ 0 → rd (field Owned d) ≡ 0 → (a : ℕ) → op_at n rd d 0 ≡ Acquire a → has (locks d) a ≡ true
+      → rd (field (spare_val n rd d) d) ≡ with 0 a → Counted n D rd S 0 (given d) d (switched n rd d 0)
   fresh-counted H p o a x h v =
       let c : 3 ≤ rd (field Count d) = sec.valid.least in
       let (S', e, m) =
@@ -73,7 +73,7 @@ module _ (n D : ℕ) (rd : Memory) (cursor : ℕ → Cursor) (locks jumps : ℕ 
 
   -- ---- a later instruction: step k, to which jumps lead from behind the named step s
 
-  module _ (s k i : ℕ) (B : Busy n rd d (locks d) s) (made : rd (target_of d (opAt n rd d s)) ≡ rd (field (activeVal n rd d) d))
+  module _ (s k i : ℕ) (B : Busy n rd d (locks d) s) (made : rd (target_of d (op_at n rd d s)) ≡ rd (field (active_val n rd d) d))
       (leaps : Jumps n rd d (suc s) i k) (below : k < rd (field Count d)) (level : held_at n rd d k ≡ held_at n rd d (suc s))
       (j : Job) (q : get_or S.queues d [] ≡ j ∷ []) (J : JobOf n D rd d j) where
     -- the section before step k
@@ -83,7 +83,7 @@ module _ (n D : ℕ) (rd : Memory) (cursor : ℕ → Cursor) (locks jumps : ℕ 
     began-later : began n rd S (given d) d ≡ onto S d (job j.code (suc s) j.own j.held) []
     began-later =
         let e : onto S d j [] ≡ S = ap (state S.cells) (rw (← q) (set-get_or S.queues d [])) in
-        let f : j.next ≡ suc s = J.next ∙ ap suc (named_step n rd d s B.named.pc) in
+        let f : j.next ≡ suc s = J.next ∙ ap suc (named_step_lem n rd d s B.named.pc) in
         rw (ne_eqb (rd (field Pc d)) 0 (named-pc n rd d s B.named.pc)) (sym e ∙ ap (λ (x : ℕ). onto S d (job j.code x j.own j.held) []) f)
 
     reads : (x : ℕ) → covered (held_at n rd d (suc s)) x ≡ true → x < 512 + n → read_in S.cells j.own x ≡ word_in n rd d x
@@ -110,7 +110,7 @@ module _ (n D : ℕ) (rd : Memory) (cursor : ℕ → Cursor) (locks jumps : ℕ 
     counted v c = (c.0, follow-last (began n rd S (given d) d) (onto S d here []) c.0 i d jumped-here c.1, c.2)
 
     pub counted-acquire :
-        (a : ℕ) → opAt n rd d k ≡ Acquire a → has (locks d) a ≡ true → rd (field (spareVal n rd d) d) ≡ with (held_at n rd d k) a
+        (a : ℕ) → op_at n rd d k ≡ Acquire a → has (locks d) a ≡ true → rd (field (spare_val n rd d) d) ≡ with (held_at n rd d k) a
         → Counted n D rd S i (given d) d (switched n rd d k)
     counted-acquire a x h v =
         counted (switched n rd d k)
@@ -119,12 +119,12 @@ module _ (n D : ℕ) (rd : Memory) (cursor : ℕ → Cursor) (locks jumps : ℕ 
         (rw held-here (acquire-free n (rd (field Count d)) (code_in n rd d) k a sec.valid below x)) (rw held-here v))
 
     pub counted-release :
-        (a : ℕ) → opAt n rd d k ≡ Release a → rd (field (spareVal n rd d) d) ≡ without (held_at n rd d k) a → Counted n D rd S i (given d) d (switched n rd d k)
+        (a : ℕ) → op_at n rd d k ≡ Release a → rd (field (spare_val n rd d) d) ≡ without (held_at n rd d k) a → Counted n D rd S i (given d) d (switched n rd d k)
     counted-release a x v =
         counted (switched n rd d k) (counts-release n D rd cursor locks jumps given L d l k few freed S M here poised-here below a x (rw held-here v))
 
     pub counted-assign :
-        (a : ℕ) (e : Expr) → opAt n rd d k ≡ Assign a e → rd (field (spareVal n rd d) d) ≡ eval (word_in n rd d) e
+        (a : ℕ) (e : Expr) → op_at n rd d k ≡ Assign a e → rd (field (spare_val n rd d) d) ≡ eval (word_in n rd d) e
         → Counted n D rd S i (given d) d (switched n rd d k)
     counted-assign a e x v =
         let w = code_in n rd d k in
@@ -138,5 +138,5 @@ module _ (n D : ℕ) (rd : Memory) (cursor : ℕ → Cursor) (locks jumps : ℕ 
         (eval-same n (held_at n rd d (suc s)) (read_in S.cells j.own) (word_in n rd d) reads e (rw (← level) (sec.valid.operands k a e below x))
         (expr-range n w a e r x))))
 
-    pub counted-finish : opAt n rd d k ≡ Finish → Counted n D rd S i (given d) d 0
+    pub counted-finish : op_at n rd d k ≡ Finish → Counted n D rd S i (given d) d 0
     counted-finish x = counted 0 (counts-finish n D rd cursor locks jumps given L d l k few freed S M here poised-here below x)

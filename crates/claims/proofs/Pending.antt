@@ -16,13 +16,13 @@ use Rattle.code.specs.Op.{op_of}
 use Rattle.working.specs.Cursor.{Cursor, idle, on}
 use Rattle.working.specs.declared.Refusal.TheVariants.{Cursor as CursorRefused}
 use Rattle.worklog.specs.Log.{operand, code_in}
-use Rattle.plan.specs.Turn.{Outcome, stored, passed, waiting, resting, refused, logged, lockTurn, unlockTurn, acquireTurn, releaseTurn}
-use Rattle.plan.specs.Turn.{finishTurn, opTurn, ready, turnAt}
+use Rattle.plan.specs.Turn.{Outcome, stored, passed, waiting, resting, refused, logged, lock_turn, unlock_turn, acquire_turn, release_turn}
+use Rattle.plan.specs.Turn.{finish_turn, op_turn, ready, turn_at}
 use Rattle.plan.proofs.Outcomes.{unlock-either}
 use Rattle.resuming.specs.Resumed.{target_turn}
 use Rattle.claims.specs.Reference.{Given}
 use Rattle.claims.specs.Calls.{is_pc}
-use Rattle.claims.proofs.Invariant.{opAt, Sectioned, Nearing, Phase, resting as rests, fresh, due, unlocking, unlocked, between, ended}
+use Rattle.claims.proofs.Invariant.{op_at, Sectioned, Nearing, Phase, resting as rests, fresh, due, unlocking, unlocked, between, ended}
 use Rattle.claims.proofs.Entries.{named-pc, operand-no-pc, addr-no-pc, val-no-pc}
 use Rattle.claims.proofs.Ready.{turn-op}
 use Rattle.claims.proofs.Switching.{switched-some}
@@ -91,37 +91,37 @@ module _ (n : ℕ) (rd : Memory) (d : ℕ) where
   logged-ends s t p v c (suc (suc zero)) h = λ e. pend-begun _ _ (switched-some n rd d s)
   logged-ends s t p v c (suc (suc (suc i))) h = no-pc h
 
-  lock-ends : (a s : ℕ) → Ends (lockTurn n rd d a s)
+  lock-ends : (a s : ℕ) → Ends (lock_turn n rd d a s)
   lock-ends a s = by (eqb (rd (lock a)) 0)
     where
       by : (b : Bool) → Ends (cond b (stored (lock a) (d + 1) (on s 2)) (waiting a))
       by true = no-pc refl
       by false = tt
 
-  unlock-ends : (a s : ℕ) → Ends (unlockTurn n rd d a s)
+  unlock-ends : (a s : ℕ) → Ends (unlock_turn n rd d a s)
   unlock-ends a s = unlock-either n rd d a s Ends (no-pc refl) (λ why. tt)
 
-  acquire-ends : (a s t : ℕ) → Ends (acquireTurn n rd d a s t)
+  acquire-ends : (a s t : ℕ) → Ends (acquire_turn n rd d a s t)
   acquire-ends a s zero = no-pc refl
   acquire-ends a s (suc zero) = lock-ends a s
   acquire-ends a s (suc (suc t)) = logged-ends s (suc (suc t)) (field Owned d) _ _ t refl
 
-  release-ends : (a s t : ℕ) → Ends (releaseTurn n rd d a s t)
+  release-ends : (a s t : ℕ) → Ends (release_turn n rd d a s t)
   release-ends a s t = by (ltb t 4) (eqb t 4)
     where
       by : (b c : Bool)
           → Ends (cond b (logged n rd d s t (field Owned d) (without (rd (field Owned d)) a) (on s 4) t)
-          (cond c (unlockTurn n rd d a s) (stored (field Intent d) (without (rd (field Intent d)) a) (on (s + 1) 0))))
+          (cond c (unlock_turn n rd d a s) (stored (field Intent d) (without (rd (field Intent d)) a) (on (s + 1) 0))))
       by true c = logged-ends s t (field Owned d) _ _ t refl
       by false true = unlock-ends a s
       by false false = no-pc refl
 
-  finish-ends : (s t : ℕ) → s ≢ 0 → Ends (finishTurn n rd d s t)
+  finish-ends : (s t : ℕ) → s ≢ 0 → Ends (finish_turn n rd d s t)
   finish-ends s zero h = no-pc refl
   finish-ends s (suc zero) h = λ e. pend-later 0 s 2 h
   finish-ends s (suc (suc t)) h = no-pc refl
 
-  op-ends : (s t : ℕ) (x : Op) → (x ≡ Finish → s ≢ 0) → Ends (opTurn n rd d s t x)
+  op-ends : (s t : ℕ) (x : Op) → (x ≡ Finish → s ≢ 0) → Ends (op_turn n rd d s t x)
   op-ends s t (Acquire a) h = acquire-ends a s t
   op-ends s t (Release a) h = release-ends a s t
   op-ends s t (Assign a e) h = logged-ends s t (operand d a) _ _ t (operand-no-pc d a)
@@ -130,19 +130,19 @@ module _ (n : ℕ) (rd : Memory) (d : ℕ) where
   op-ends s t Unknown h = tt
 
   -- a section's first step is no finish
-  finish-later : Sectioned n rd d → (s : ℕ) → opAt n rd d s ≡ Finish → s ≢ 0
+  finish-later : Sectioned n rd d → (s : ℕ) → op_at n rd d s ≡ Finish → s ≢ 0
   finish-later sec s f z =
       let (a, x) = sec.valid.first in
-      let q : opAt n rd d 0 ≡ Finish = rw z at f in
+      let q : op_at n rd d 0 ≡ Finish = rw z at f in
       let e : ◌≡◌ {A = ℕ} 0 1 = cc in
       omega arith
 
-  turn-ends : Sectioned n rd d → (c : Cursor) → Ends (turnAt n rd d c)
-  unfolding turnAt
+  turn-ends : Sectioned n rd d → (c : Cursor) → Ends (turn_at n rd d c)
+  unfolding turn_at
   turn-ends sec idle = tt
   turn-ends sec (on s t) = by (ready n rd d s t)
     where
-      by : (b : Bool) → Ends (cond b (opTurn n rd d s t (op_of (code_in n rd d s))) (refused (CursorRefused d)))
+      by : (b : Bool) → Ends (cond b (op_turn n rd d s t (op_of (code_in n rd d s))) (refused (CursorRefused d)))
       by true = op-ends s t (op_of (code_in n rd d s)) (finish-later sec s)
       by false = tt
 
@@ -171,14 +171,14 @@ module _ (n : ℕ) (rd : Memory) (d : ℕ) (pc : ℕ) (z : pc ≡ 0) where
   first-logged t (suc (suc zero)) p v c h = (pend-start pc t z ∙ sym (eq-eqb pc 0 z), pend-begun _ _ (switched-some n rd d 0))
   first-logged t (suc (suc (suc i))) p v c h = absurd (omega arith)
 
-  first-lock : (a : ℕ) → Pends pc (on 0 1) (lockTurn n rd d a 0)
+  first-lock : (a : ℕ) → Pends pc (on 0 1) (lock_turn n rd d a 0)
   first-lock a = by (eqb (rd (lock a)) 0)
     where
       by : (b : Bool) → Pends pc (on 0 1) (cond b (stored (lock a) (d + 1) (on 0 2)) (waiting a))
       by true = stays_on 1 2
       by false = tt
 
-  first-acquire : (a t : ℕ) → t ≤ 4 → Pends pc (on 0 t) (acquireTurn n rd d a 0 t)
+  first-acquire : (a t : ℕ) → t ≤ 4 → Pends pc (on 0 t) (acquire_turn n rd d a 0 t)
   first-acquire a zero h = stays_on 0 1
   first-acquire a (suc zero) h = first-lock a
   first-acquire a (suc (suc t)) h = first-logged (suc (suc t)) t (field Owned d) _ _ (omega arith)
@@ -186,8 +186,8 @@ module _ (n : ℕ) (rd : Memory) (d : ℕ) (pc : ℕ) (z : pc ≡ 0) where
 -- ---- all phases
 
 module _ (n : ℕ) (rd : Memory) (d : ℕ) (g : Given) where
-  fresh-pends : (t locks : ℕ) → Sectioned n rd d → rd (field Pc d) ≡ 0 → Nearing n rd d 0 t 0 locks (opAt n rd d 0)
-      → Pends (rd (field Pc d)) (on 0 t) (turnAt n rd d (on 0 t))
+  fresh-pends : (t locks : ℕ) → Sectioned n rd d → rd (field Pc d) ≡ 0 → Nearing n rd d 0 t 0 locks (op_at n rd d 0)
+      → Pends (rd (field Pc d)) (on 0 t) (turn_at n rd d (on 0 t))
   fresh-pends t locks sec p N =
       let (a, x) = sec.valid.first in
       let c : 3 ≤ rd (field Count d) = sec.valid.least in
@@ -195,21 +195,21 @@ module _ (n : ℕ) (rd : Memory) (d : ℕ) (g : Given) where
       let r : t ≤ 4 = K.0 in
       rw (turn-op n rd d 0 t (Acquire a) sec.valid (omega arith) x (omega arith)) (first-acquire n rd d (rd (field Pc d)) p a t r)
 
-  ended-pends : (s : ℕ) → Sectioned n rd d → rd (field Pc d) ≡ 0 → s < rd (field Count d) → opAt n rd d s ≡ Finish
-      → Pends (rd (field Pc d)) (on s 2) (turnAt n rd d (on s 2))
+  ended-pends : (s : ℕ) → Sectioned n rd d → rd (field Pc d) ≡ 0 → s < rd (field Count d) → op_at n rd d s ≡ Finish
+      → Pends (rd (field Pc d)) (on s 2) (turn_at n rd d (on s 2))
   ended-pends s sec p below f =
       rw (turn-op n rd d s 2 Finish sec.valid below f (omega arith))
       (pend-later (rd (field Pc d)) s 2 (finish-later n rd d sec s f) ∙ sym (pend-idle (rd (field Pc d))))
 
-  named-pends : (s : ℕ) (c : Cursor) → Sectioned n rd d → rd (field Pc d) % 2 ^ 63 ≡ suc s → Pends (rd (field Pc d)) c (turnAt n rd d c)
-  named-pends s c sec p = begun-pends (rd (field Pc d)) c (turnAt n rd d c) (named-pc n rd d s p) (turn-ends n rd d sec c)
+  named-pends : (s : ℕ) (c : Cursor) → Sectioned n rd d → rd (field Pc d) % 2 ^ 63 ≡ suc s → Pends (rd (field Pc d)) c (turn_at n rd d c)
+  named-pends s c sec p = begun-pends (rd (field Pc d)) c (turn_at n rd d c) (named-pc n rd d s p) (turn-ends n rd d sec c)
 
   -- a turn of a worker at any place of its section
-  pub pends-turn : (c : Cursor) (locks j : ℕ) → Phase n rd d g c locks j → Pends (rd (field Pc d)) c (turnAt n rd d c)
-  unfolding turnAt
+  pub pends-turn : (c : Cursor) (locks j : ℕ) → Phase n rd d g c locks j → Pends (rd (field Pc d)) c (turn_at n rd d c)
+  unfolding turn_at
   pends-turn c locks j (rests k p i o) = tt
   pends-turn c locks j (fresh t l sec H p o N) = fresh-pends t l sec p N
-  pends-turn c locks j (due s l sec N K) = named-pends s (on s (target_turn (opAt n rd d s))) sec N.pc
+  pends-turn c locks j (due s l sec N K) = named-pends s (on s (target_turn (op_at n rd d s))) sec N.pc
   pends-turn c locks j (unlocking s a l sec N o x y q) = named-pends s (on s 4) sec N.pc
   pends-turn c locks j (unlocked s a l sec N o x y q) = named-pends s (on s 5) sec N.pc
   pends-turn c locks j (between s k t l i sec N made J below o h K) = named-pends s (on k t) sec N.pc

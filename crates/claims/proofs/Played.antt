@@ -15,12 +15,12 @@ use Rattle.working.specs.declared.Refusal.TheVariants.{Worker}
 use Rattle.intake.specs.declared.Submitted.{Submitted}
 use Rattle.intake.specs.declared.Submitted.TheVariants.{Taken, Refused}
 use Rattle.working.specs.Cursor.{cursor_at}
-use Rattle.plan.specs.Turn.{refused, turnAt}
+use Rattle.plan.specs.Turn.{refused, turn_at}
 use Rattle.turn.specs.Call.{outcome_at, outcome}
 use Rattle.intake.specs.Submit.{submit_answer, submit_leaves}
 use Rattle.recovery.specs.Recovery.{recovery}
 use Rattle.claims.specs.Reference.{given}
-use Rattle.claims.specs.Calls.{Traced, traced, turnBy, ranBy, rounds, submitTrace, recoveredBy, Call, submits, turns, runs, recovers, Move, whole, cut}
+use Rattle.claims.specs.Calls.{Traced, traced, turn_by, ran_by, rounds, submit_trace, recovered_by, Call, submits, turns, runs, recovers, Move, whole, cut}
 use Rattle.claims.specs.Calls.{call, lent, move, play, recovering, legal, ends_cut, callable, machine}
 use Rattle.claims.proofs.LiveCrashed.{live-crashed}
 use Rattle.claims.proofs.Progress.{rank_sum-most}
@@ -52,7 +52,7 @@ module _ (mark n D : ℕ) (cells : List ℕ) where
   -- ---- turns
 
   pub outcome-below : (w : Traced) (d : ℕ) → Reached mark n D cells w.world.image w.trace.begun w.trace.order → d < D
-      → outcome mark n w.world d ≡ turnAt n (at n w.world.image) d (cursor_at w.world.cursors d)
+      → outcome mark n w.world d ≡ turn_at n (at n w.world.image) d (cursor_at w.world.cursors d)
   unfolding outcome outcome_at
   outcome-below w d r l = let e : ltb d (workers w.world.image) ≡ true = rw r.many (lt-ltb d D l) in rw (r.header, e)
 
@@ -61,17 +61,17 @@ module _ (mark n D : ℕ) (cells : List ℕ) where
   unfolding outcome
   outcome-above w d r l = rw (r.header, r.many, l)
 
-  pub turn-whole : (w : Traced) (d : ℕ) → Running mark n D cells w → 0 < w.world.left → Running mark n D cells (turnBy mark n w d (outcome mark n w.world d))
+  pub turn-whole : (w : Traced) (d : ℕ) → Running mark n D cells w → 0 < w.world.left → Running mark n D cells (turn_by mark n w d (outcome mark n w.world d))
   turn-whole w d r l = by (ltb d D) refl
     where
-      by : (b : Bool) → ltb d D ≡ b → Running mark n D cells (turnBy mark n w d (outcome mark n w.world d))
+      by : (b : Bool) → ltb d D ≡ b → Running mark n D cells (turn_by mark n w d (outcome mark n w.world d))
       by true h = rw (outcome-below w d r.reached (ltb-true d D h)) (running-turn mark n D cells w d r (ltb-true d D h) l)
       by false h = rw (outcome-above w d r.reached h) r
 
-  turn-cut : (w : Traced) (d : ℕ) → Running mark n D cells w → Worth (turnBy mark n w d (outcome mark n w.world d))
+  turn-cut : (w : Traced) (d : ℕ) → Running mark n D cells w → Worth (turn_by mark n w d (outcome mark n w.world d))
   turn-cut w d r = by (ltb d D) refl
     where
-      by : (b : Bool) → ltb d D ≡ b → Worth (turnBy mark n w d (outcome mark n w.world d))
+      by : (b : Bool) → ltb d D ≡ b → Worth (turn_by mark n w d (outcome mark n w.world d))
       by true h = rw (outcome-below w d r.reached (ltb-true d D h)) (cutting-worth _ (cutting-turn mark n D cells w d (ltb-true d D h) (inl r)))
       by false h = rw (outcome-above w d r.reached h) (running-worth w r)
 
@@ -84,11 +84,11 @@ module _ (mark n D : ℕ) (cells : List ℕ) where
       let small = few mark n D cells w r.reached in
       record { running = running-lent k w r; stores = omega arith }
 
-  pub ran-is : (w : Traced) (r : ℕ) → Reached mark n D cells w.world.image w.trace.begun w.trace.order → ranBy mark n w r ≡ rounds mark n r D w
-  unfolding ranBy
+  pub ran-is : (w : Traced) (r : ℕ) → Reached mark n D cells w.world.image w.trace.begun w.trace.order → ran_by mark n w r ≡ rounds mark n r D w
+  unfolding ran_by
   ran-is w r h = rw (h.header, h.many)
 
-  run-cut : (w : Traced) (r : ℕ) → Running mark n D cells w → Worth (ranBy mark n w r)
+  run-cut : (w : Traced) (r : ℕ) → Running mark n D cells w → Worth (ran_by mark n w r)
   run-cut w r h =
       rw (ran-is w r h.reached) (cutting-worth _
       (rounds-keep mark n D cells (Cutting mark n D cells) (λ v d l c. cutting-turned mark n D cells v d l c) r w (inl h)))
@@ -100,30 +100,30 @@ module _ (mark n D : ℕ) (cells : List ℕ) where
 
   submit-call : (w : Traced) (d k : ℕ) (args ws : List ℕ) → 8 ≤ n → n ≤ 64 → length args ≡ 8 → plenty ≤ w.world.left → Running mark n D cells w
       → Running mark n D cells (traced (submit_leaves n w.world d k args ws (submit_answer mark n w.world d k ws))
-      (submitTrace mark n w.trace (given d k args ws) (submit_answer mark n w.world d k ws)))
+      (submit_trace mark n w.trace (given d k args ws) (submit_answer mark n w.world d k ws)))
   submit-call w d k args ws wide narrow full l r = by (submit_answer mark n w.world d k ws) refl
     where
       by : (a : Submitted) → submit_answer mark n w.world d k ws ≡ a
-          → Running mark n D cells (traced (submit_leaves n w.world d k args ws a) (submitTrace mark n w.trace (given d k args ws) a))
+          → Running mark n D cells (traced (submit_leaves n w.world d k args ws a) (submit_trace mark n w.trace (given d k args ws) a))
       by Taken e = submit-whole mark n D cells w d k args ws wide full r (taken_as mark n w.world d k ws e) w.world.left (omega arith)
       by (Refused x) e = r
 
   submit-cut-call : (w : Traced) (d k : ℕ) (args ws : List ℕ) → 8 ≤ n → length args ≡ 8 → Running mark n D cells w
       → Worth (traced (submit_leaves n w.world d k args ws (submit_answer mark n w.world d k ws))
-      (submitTrace mark n w.trace (given d k args ws) (submit_answer mark n w.world d k ws)))
+      (submit_trace mark n w.trace (given d k args ws) (submit_answer mark n w.world d k ws)))
   submit-cut-call w d k args ws wide full r = by (submit_answer mark n w.world d k ws) refl
     where
       by : (a : Submitted) → submit_answer mark n w.world d k ws ≡ a
-          → Worth (traced (submit_leaves n w.world d k args ws a) (submitTrace mark n w.trace (given d k args ws) a))
+          → Worth (traced (submit_leaves n w.world d k args ws a) (submit_trace mark n w.trace (given d k args ws) a))
       by Taken e = submit-cut mark n D cells w d k args ws wide full r (taken_as mark n w.world d k ws e) w.world.left
       by (Refused x) e = running-worth w r
 
-  recover-call : (w : Traced) → Worth w → plenty ≤ w.world.left → Running mark n D cells (recoveredBy mark n w (recovery mark n w.world.image))
+  recover-call : (w : Traced) → Worth w → plenty ≤ w.world.left → Running mark n D cells (recovered_by mark n w (recovery mark n w.world.image))
   recover-call w k l =
       rw (accepts mark n D cells w.world.image w.trace.begun w.trace.order k)
       (recover-whole mark n D cells w.world.image w.trace.begun w.trace.order k w.world.left (omega arith) w.trace refl refl)
 
-  recover-cut-call : (w : Traced) → Worth w → Worth (recoveredBy mark n w (recovery mark n w.world.image))
+  recover-cut-call : (w : Traced) → Worth w → Worth (recovered_by mark n w (recovery mark n w.world.image))
   recover-cut-call w k =
       rw (accepts mark n D cells w.world.image w.trace.begun w.trace.order k)
       (recover-cut mark n D cells w.world.image w.trace.begun w.trace.order k w.world.left)

@@ -20,11 +20,11 @@ use Rattle.code.specs.declared.Op.TheVariants.{Acquire, Release, Assign, Jump, F
 use Rattle.code.specs.Op.{op_of}
 use Rattle.working.specs.Cursor.{Cursor, idle, on, is_idle}
 use Rattle.worklog.specs.Log.{code_in}
-use Rattle.plan.specs.Turn.{Outcome, stored, passed, waiting, resting, refused, logged, acquireTurn, finishTurn, opTurn, ready, turnAt}
+use Rattle.plan.specs.Turn.{Outcome, stored, passed, waiting, resting, refused, logged, acquire_turn, finish_turn, op_turn, ready, turn_at}
 use Rattle.plan.proofs.Outcomes.{either, unlock-either}
 use Rattle.claims.specs.Reference.{Given}
 use Rattle.claims.specs.Events.{but}
-use Rattle.claims.proofs.Invariant.{Phase, resting as atRest, fresh, due, unlocking, unlocked, between, ended, Live}
+use Rattle.claims.proofs.Invariant.{Phase, resting as at_rest, fresh, due, unlocking, unlocked, between, ended, Live}
 use Rattle.claims.proofs.Turns.{Touches, in_record, own_word, own_cell, takes, frees, Stepped, Went}
 use Rattle.claims.proofs.LiveTurn.{but_same, but-other}
 use Rattle.claims.proofs.Rank.{rank, rank-idle, rank_most, Unranked, rank-unranked, Falls, rank_falls}
@@ -104,12 +104,12 @@ private-falls n D rd cursor locks jumps given d (refused r) l f w = tt
 
 -- a turn that stores or moves makes the sum smaller
 pub sum-falls :
-    (n D : ℕ) (rd : Memory) (cursor : ℕ → Cursor) (locks jumps : ℕ → ℕ) (given : ℕ → Given) (d : ℕ) (o : Outcome) → d < D → turnAt n rd d (cursor d) ≡ o
+    (n D : ℕ) (rd : Memory) (cursor : ℕ → Cursor) (locks jumps : ℕ → ℕ) (given : ℕ → Given) (d : ℕ) (o : Outcome) → d < D → turn_at n rd d (cursor d) ≡ o
     → Went n D rd cursor locks jumps given d o → SumFalls n D rd cursor d o
 sum-falls n D rd cursor locks jumps given d o l e w = private-falls n D rd cursor locks jumps given d o l (rank_falls n rd d (cursor d) o e) w
 
 pub phase-most : (n : ℕ) (rd : Memory) (d : ℕ) (g : Given) (c : Cursor) (locks j : ℕ) → Phase n rd d g c locks j → rank n rd d c ≤ 384
-phase-most n rd d g c locks j (atRest k p i o) = rw (rank-idle n rd d) (omega arith)
+phase-most n rd d g c locks j (at_rest k p i o) = rw (rank-idle n rd d) (omega arith)
 phase-most n rd d g c locks j (fresh t l s h p o m) = rank_most n rd d _ s.valid.most
 phase-most n rd d g c locks j (due s l k m q) = rank_most n rd d _ k.valid.most
 phase-most n rd d g c locks j (unlocking s a l k m o w i q) = rank_most n rd d _ k.valid.most
@@ -141,7 +141,7 @@ is_resting (refused r) = false
 
 -- a worker that has a lock is open
 pub phase-open : (n : ℕ) (rd : Memory) (d : ℕ) (g : Given) (c : Cursor) (locks j b : ℕ) → Phase n rd d g c locks j → has locks b ≡ true → is_idle c ≡ false
-phase-open n rd d g c locks j b (atRest k p i o) h = absurd (true≢false (sym h ∙ has-none b))
+phase-open n rd d g c locks j b (at_rest k p i o) h = absurd (true≢false (sym h ∙ has-none b))
 phase-open n rd d g c locks j b (fresh t l s q p o m) h = refl
 phase-open n rd d g c locks j b (due s l k m q) h = refl
 phase-open n rd d g c locks j b (unlocking s a l k m o w i q) h = refl
@@ -159,16 +159,16 @@ module _ (n D : ℕ) (rd : Memory) (cursor : ℕ → Cursor) (locks jumps : ℕ 
 
   -- an open worker whose turn does not wait
   abbrev Moving : Type 0
-  Moving = (e : ℕ) × (e < D) × (is_idle (cursor e) ≡ false) × (is_waiting (turnAt n rd e (cursor e)) ≡ false)
+  Moving = (e : ℕ) × (e < D) × (is_idle (cursor e) ≡ false) × (is_waiting (turn_at n rd e (cursor e)) ≡ false)
 
-  module _ (stepped : (e : ℕ) → e < D → Stepped n rd e (given e) (locks e) (jumps e) (turnAt n rd e (cursor e))) where
+  module _ (stepped : (e : ℕ) → e < D → Stepped n rd e (given e) (locks e) (jumps e) (turn_at n rd e (cursor e))) where
     -- from a worker that has lock a, upwards
     climb : (k e a : ℕ) → e < D → is_idle (cursor e) ≡ false → has (locks e) a ≡ true → a < 64 → 64 ≤ a + k → Moving
     climb zero e a l q h m f = absurd (omega arith)
-    climb (suc k) e a l q h m f = by (climb k) (turnAt n rd e (cursor e)) refl (stepped e l)
+    climb (suc k) e a l q h m f = by (climb k) (turn_at n rd e (cursor e)) refl (stepped e l)
       where
         by : ((e' a' : ℕ) → e' < D → is_idle (cursor e') ≡ false → has (locks e') a' ≡ true → a' < 64 → 64 ≤ a' + k → Moving)
-            → (o : Outcome) → turnAt n rd e (cursor e) ≡ o → Stepped n rd e (given e) (locks e) (jumps e) o → Moving
+            → (o : Outcome) → turn_at n rd e (cursor e) ≡ o → Stepped n rd e (given e) (locks e) (jumps e) o → Moving
         by more (stored p v c) x s = (e, l, q, ap is_waiting x)
         by more (passed why c) x s = (e, l, q, ap is_waiting x)
         by more (waiting b) x (bl, ne, above) = let y = owned_by b bl ne in let z = above a h in more y.0 b y.1 y.2 y.3 bl (omega arith)
@@ -176,10 +176,10 @@ module _ (n D : ℕ) (rd : Memory) (cursor : ℕ → Cursor) (locks jumps : ℕ 
         by more (refused r) x s = absurd s
 
     pub progress : (d : ℕ) → d < D → is_idle (cursor d) ≡ false
-        → (e : ℕ) × (e < D) × (is_idle (cursor e) ≡ false) × (is_waiting (turnAt n rd e (cursor e)) ≡ false)
-    progress d l q = by (turnAt n rd d (cursor d)) refl (stepped d l)
+        → (e : ℕ) × (e < D) × (is_idle (cursor e) ≡ false) × (is_waiting (turn_at n rd e (cursor e)) ≡ false)
+    progress d l q = by (turn_at n rd d (cursor d)) refl (stepped d l)
       where
-        by : (o : Outcome) → turnAt n rd d (cursor d) ≡ o → Stepped n rd d (given d) (locks d) (jumps d) o → Moving
+        by : (o : Outcome) → turn_at n rd d (cursor d) ≡ o → Stepped n rd d (given d) (locks d) (jumps d) o → Moving
         by (stored p v c) x s = (d, l, q, ap is_waiting x)
         by (passed why c) x s = (d, l, q, ap is_waiting x)
         by (waiting b) x (bl, ne, above) = let y = owned_by b bl ne in climb 64 y.0 b y.1 y.2 y.3 bl (omega arith)
@@ -204,17 +204,17 @@ private-logged n rd d s t p v c (suc (suc (suc j))) = refl
 abbrev Active : Outcome → Type 0
 Active o = is_resting o ≡ false
 
-private-acquire : (n : ℕ) (rd : Memory) (d a s t : ℕ) → is_resting (acquireTurn n rd d a s t) ≡ false
+private-acquire : (n : ℕ) (rd : Memory) (d a s t : ℕ) → is_resting (acquire_turn n rd d a s t) ≡ false
 private-acquire n rd d a s zero = refl
 private-acquire n rd d a s (suc zero) = either Active (eqb (rd (lock a)) 0) _ _ (λ e. refl) (λ e. refl)
 private-acquire n rd d a s (suc (suc j)) = private-logged n rd d s _ _ _ _ j
 
-private-finish : (n : ℕ) (rd : Memory) (d s t : ℕ) → is_resting (finishTurn n rd d s t) ≡ false
+private-finish : (n : ℕ) (rd : Memory) (d s t : ℕ) → is_resting (finish_turn n rd d s t) ≡ false
 private-finish n rd d s zero = refl
 private-finish n rd d s (suc zero) = refl
 private-finish n rd d s (suc (suc t)) = refl
 
-private-op : (n : ℕ) (rd : Memory) (d s t : ℕ) (x : Op) → is_resting (opTurn n rd d s t x) ≡ false
+private-op : (n : ℕ) (rd : Memory) (d s t : ℕ) (x : Op) → is_resting (op_turn n rd d s t x) ≡ false
 private-op n rd d s t (Acquire a) = private-acquire n rd d a s t
 private-op n rd d s t (Release a) =
     either Active (ltb t 4) _ _ (λ e. private-logged n rd d s t _ _ _ t)
@@ -225,8 +225,8 @@ private-op n rd d s t Finish = private-finish n rd d s t
 private-op n rd d s t Unknown = refl
 
 -- a turn rests only at an idle cursor
-pub open-acts : (n : ℕ) (rd : Memory) (d : ℕ) (c : Cursor) → is_resting (turnAt n rd d c) ≡ is_idle c
-unfolding turnAt
+pub open-acts : (n : ℕ) (rd : Memory) (d : ℕ) (c : Cursor) → is_resting (turn_at n rd d c) ≡ is_idle c
+unfolding turn_at
 open-acts n rd d idle = refl
 open-acts n rd d (on s t) = either Active (ready n rd d s t) _ _ (λ e. private-op n rd d s t (op_of (code_in n rd d s))) (λ e. refl)
 
@@ -239,6 +239,6 @@ private-moves n rd d g locks j resting r w s = sym r
 private-moves n rd d g locks j (refused e) r w s = absurd s
 
 pub open-moves :
-    (n : ℕ) (rd : Memory) (d : ℕ) (g : Given) (c : Cursor) (locks j : ℕ) → is_idle c ≡ false → is_waiting (turnAt n rd d c) ≡ false
-    → Stepped n rd d g locks j (turnAt n rd d c) → is_moving (turnAt n rd d c) ≡ true
-open-moves n rd d g c locks j i w s = private-moves n rd d g locks j (turnAt n rd d c) (open-acts n rd d c ∙ i) w s
+    (n : ℕ) (rd : Memory) (d : ℕ) (g : Given) (c : Cursor) (locks j : ℕ) → is_idle c ≡ false → is_waiting (turn_at n rd d c) ≡ false
+    → Stepped n rd d g locks j (turn_at n rd d c) → is_moving (turn_at n rd d c) ≡ true
+open-moves n rd d g c locks j i w s = private-moves n rd d g locks j (turn_at n rd d c) (open-acts n rd d c ∙ i) w s

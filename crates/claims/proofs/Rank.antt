@@ -22,9 +22,9 @@ use Rattle.code.proofs.Ranges.{turns-most}
 use Rattle.section.proofs.Steps.{place-jump}
 use Rattle.working.specs.declared.Refusal.TheVariants.{Cursor as CursorRefused}
 use Rattle.working.specs.Cursor.{Cursor, idle, on}
-use Rattle.worklog.specs.Log.{operand, code_in, word_in, second, spareAddr, spareVal}
+use Rattle.worklog.specs.Log.{operand, code_in, word_in, second, spare_addr, spare_val}
 use Rattle.plan.specs.Turn.{Outcome, stored, passed, waiting, resting, refused, logged}
-use Rattle.plan.specs.Turn.{acquireTurn, unlockTurn, releaseTurn, finishTurn, opTurn, ready, turnAt}
+use Rattle.plan.specs.Turn.{acquire_turn, unlock_turn, release_turn, finish_turn, op_turn, ready, turn_at}
 use Rattle.worklog.specs.declared.Passing.TheVariants.{Jump as PassedJump}
 use Rattle.plan.proofs.Outcomes.{unlock-either}
 
@@ -134,16 +134,16 @@ unranked-operand d e x = by (ltb x 512)
     by true = record { count = refl; steps = λ i. refl }
     by false = record { count = refl; steps = λ i. refl }
 
-unranked-addr : (n : ℕ) (rd : Memory) (d e : ℕ) → Unranked e (field (spareAddr n rd d) d)
-unfolding spareAddr
+unranked-addr : (n : ℕ) (rd : Memory) (d e : ℕ) → Unranked e (field (spare_addr n rd d) d)
+unfolding spare_addr
 unranked-addr n rd d e = by (second n rd d)
   where
     by : (b : Bool) → Unranked e (field (cond b Addr0 Addr1) d)
     by true = record { count = refl; steps = λ i. refl }
     by false = record { count = refl; steps = λ i. refl }
 
-unranked-val : (n : ℕ) (rd : Memory) (d e : ℕ) → Unranked e (field (spareVal n rd d) d)
-unfolding spareVal
+unranked-val : (n : ℕ) (rd : Memory) (d e : ℕ) → Unranked e (field (spare_val n rd d) d)
+unfolding spare_val
 unranked-val n rd d e = by (second n rd d)
   where
     by : (b : Bool) → Unranked e (field (cond b Val0 Val1) d)
@@ -198,19 +198,20 @@ module _ (n : ℕ) (rd : Memory) (d s t : ℕ) (I : AtTurn n rd d s t) where
   assign-falls : (a v : ℕ) → Sinks (logged n rd d s t (operand d a) v (on (s + 1) 0) t)
   assign-falls a v = logged-falls (operand d a) v (on (s + 1) 0) (unranked-operand d d a) next-step t
 
-  release-falls : (a : ℕ) → Sinks (releaseTurn n rd d a s t)
+  release-falls : (a : ℕ) → Sinks (release_turn n rd d a s t)
   release-falls a = by (ltb t 4) refl (eqb t 4) refl
     where
       by : (b : Bool) → ltb t 4 ≡ b → (c : Bool) → eqb t 4 ≡ c →
           Sinks (cond b (logged n rd d s t (field Owned d) (without (rd (field Owned d)) a) (on s 4) t)
-          (cond c (unlockTurn n rd d a s) (stored (field Intent d) (without (rd (field Intent d)) a) (on (s + 1) 0))))
+          (cond c (unlock_turn n rd d a s) (stored (field Intent d) (without (rd (field Intent d)) a) (on (s + 1) 0))))
       by true e c f = logged-falls (field Owned d) _ (on s 4) (unranked-owned d d) (within 4 (ltb-true t 4 e)) t
       by false e true f =
           let l : Later s t (rd (field Count d)) (on s 5) = within 5 (omega (arith, eqb-true t 4 f)) in
           unlock-either n rd d a s Sinks (stored_falls _ _ _ (unranked-lock a d) l) (λ why. later-falls n rd d s t (on s 5) I l)
       by false e false f = stored_falls _ _ _ (unranked-intent d d) next-step
 
-  jump-falls : (a b : ℕ) → in_place (rd (field Count d)) s (Jump a b) ≡ true → Sinks (passed PassedJump (cond (eqb (word_in n rd d a) 0) (on b 0) (on (s + 1) 0)))
+  jump-falls : (a b : ℕ) → in_place (rd (field Count d)) s (Jump a b) ≡ true
+      → Sinks (passed PassedJump (cond (eqb (word_in n rd d a) 0) (on b 0) (on (s + 1) 0)))
   jump-falls a b i = by (eqb (word_in n rd d a) 0)
     where
       by : (z : Bool) → Sinks (passed PassedJump (cond z (on b 0) (on (s + 1) 0)))
@@ -218,7 +219,7 @@ module _ (n : ℕ) (rd : Memory) (d s t : ℕ) (I : AtTurn n rd d s t) where
       by false = later-falls n rd d s t (on (s + 1) 0) I next-step
 
 -- where the turn itself tells the instruction's part
-acquire-falls : (n : ℕ) (rd : Memory) (d s t a : ℕ) → AtTurn n rd d s t → Falls n rd d (rank n rd d (on s t)) (acquireTurn n rd d a s t)
+acquire-falls : (n : ℕ) (rd : Memory) (d s t a : ℕ) → AtTurn n rd d s t → Falls n rd d (rank n rd d (on s t)) (acquire_turn n rd d a s t)
 acquire-falls n rd d s zero a I = stored_falls n rd d s 0 I _ _ _ (unranked-intent d d) (within 1 (omega arith))
 acquire-falls n rd d s (suc zero) a I = by (eqb (rd (lock a)) 0)
   where
@@ -228,14 +229,14 @@ acquire-falls n rd d s (suc zero) a I = by (eqb (rd (lock a)) 0)
 acquire-falls n rd d s (suc (suc j)) a I =
     logged-falls n rd d s (suc (suc j)) I (field Owned d) _ (on (s + 1) 0) (unranked-owned d d) (next-step n rd d s (suc (suc j)) I) j
 
-finish-falls : (n : ℕ) (rd : Memory) (d s t : ℕ) → AtTurn n rd d s t → Falls n rd d (rank n rd d (on s t)) (finishTurn n rd d s t)
+finish-falls : (n : ℕ) (rd : Memory) (d s t : ℕ) → AtTurn n rd d s t → Falls n rd d (rank n rd d (on s t)) (finish_turn n rd d s t)
 finish-falls n rd d s zero I = stored_falls n rd d s 0 I _ _ _ (unranked-finished d d) (within 1 (omega arith))
 finish-falls n rd d s (suc zero) I = stored_falls n rd d s 1 I _ _ _ (unranked-pc d d) (within 2 (omega arith))
 finish-falls n rd d s (suc (suc t)) I =
     let l = later-falls n rd d s (suc (suc t)) idle I over in rw (rank-idle n (upd rd (field Count d) 0) d) (rw (rank-idle n rd d) at l)
 
 op-falls : (n : ℕ) (rd : Memory) (d s t : ℕ) (x : Op) → AtTurn n rd d s t → in_place (rd (field Count d)) s x ≡ true
-    → Falls n rd d (rank n rd d (on s t)) (opTurn n rd d s t x)
+    → Falls n rd d (rank n rd d (on s t)) (op_turn n rd d s t x)
 op-falls n rd d s t (Acquire a) I i = acquire-falls n rd d s t a I
 op-falls n rd d s t (Release a) I i = release-falls n rd d s t I a
 op-falls n rd d s t (Assign a e) I i = assign-falls n rd d s t I a (eval (word_in n rd d) e)
@@ -268,16 +269,16 @@ ready-placed n rd d s t r =
     (and_left (leb 3 k && leb k 64 && ltb s k && well_formed n k s w) (ltb t (turns_of w)) r))
 
 -- every turn that stores or moves makes the rank smaller
-pub turn-falls : (n : ℕ) (rd : Memory) (d : ℕ) (c : Cursor) → Falls n rd d (rank n rd d c) (turnAt n rd d c)
-unfolding turnAt
+pub turn-falls : (n : ℕ) (rd : Memory) (d : ℕ) (c : Cursor) → Falls n rd d (rank n rd d c) (turn_at n rd d c)
+unfolding turn_at
 turn-falls n rd d idle = tt
 turn-falls n rd d (on s t) = by (ready n rd d s t) refl
   where
     by : (b : Bool) → ready n rd d s t ≡ b
-        → Falls n rd d (rank n rd d (on s t)) (cond b (opTurn n rd d s t (op_of (code_in n rd d s))) (refused (CursorRefused d)))
+        → Falls n rd d (rank n rd d (on s t)) (cond b (op_turn n rd d s t (op_of (code_in n rd d s))) (refused (CursorRefused d)))
     by true e = op-falls n rd d s t (op_of (code_in n rd d s)) (ready-inside n rd d s t e) (ready-placed n rd d s t e)
     by false e = tt
 
 -- the same of a turn whose outcome is told
-pub rank_falls : (n : ℕ) (rd : Memory) (d : ℕ) (c : Cursor) (o : Outcome) → turnAt n rd d c ≡ o → Falls n rd d (rank n rd d c) o
+pub rank_falls : (n : ℕ) (rd : Memory) (d : ℕ) (c : Cursor) (o : Outcome) → turn_at n rd d c ≡ o → Falls n rd d (rank n rd d c) o
 rank_falls n rd d c o e = subst (Falls n rd d (rank n rd d c)) e (turn-falls n rd d c)

@@ -20,7 +20,7 @@ use Rattle.section.proofs.Facts.{valid-passed, check-parts}
 use Rattle.code.proofs.Ranges.{op_turns, turns-op}
 use Rattle.working.specs.Cursor.{on}
 use Rattle.worklog.specs.Log.{code_in}
-use Rattle.plan.specs.Turn.{opTurn, ready, turnAt}
+use Rattle.plan.specs.Turn.{op_turn, ready, turn_at}
 
 -- ---- the tests before a turn
 
@@ -36,8 +36,8 @@ module _ (n : ℕ) (rd : Memory) (d s t : ℕ) (x : Op) (v : Valid n (rd (field 
       rw (le-leb 3 c v.least, le-leb c 64 v.most, lt-ltb s c l, form, turns)
 
   -- a turn is what its instruction does
-  pub turn-op : turnAt n rd d (on s t) ≡ opTurn n rd d s t x
-  unfolding turnAt
+  pub turn-op : turn_at n rd d (on s t) ≡ op_turn n rd d s t x
+  unfolding turn_at
   turn-op = rw (ready_at, o)
 
 -- ---- the step behind

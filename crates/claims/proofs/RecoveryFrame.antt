@@ -10,9 +10,9 @@ use Rattle.code.specs.declared.Op.TheVariants.{Acquire, Release, Assign, Jump, F
 use Rattle.section.specs.Check.{held_before}
 use Rattle.section.proofs.Facts.{check-cong}
 use Rattle.section.proofs.Held.{held-cong}
-use Rattle.worklog.specs.Log.{code_in, activeAddr, activeVal}
-use Rattle.owed.specs.Owed.{owed, namedStep, namedOp, entryOk}
-use Rattle.soundness.specs.Sound.{sectionOk, pcOk}
+use Rattle.worklog.specs.Log.{code_in, active_addr, active_val}
+use Rattle.owed.specs.Owed.{owed, named_step, named_op, entry_ok}
+use Rattle.soundness.specs.Sound.{section_ok, pc_ok}
 use Rattle.resuming.specs.Resumed.{resumed}
 use Rattle.claims.proofs.Fields.{active-addr-kept, active-val-kept}
 use Rattle.claims.proofs.Entries.{named-cong}
@@ -21,24 +21,24 @@ module _ (n : ℕ) (rd rd' : Memory) (d : ℕ) where
   pub record Framed : Type 0 where
     pub pc : rd' (field Pc d) ≡ rd (field Pc d)
     pub owned : rd' (field Owned d) ≡ rd (field Owned d)
-    pub addr : rd' (field (activeAddr n rd d) d) ≡ rd (field (activeAddr n rd d) d)
-    pub val : rd' (field (activeVal n rd d) d) ≡ rd (field (activeVal n rd d) d)
+    pub addr : rd' (field (active_addr n rd d) d) ≡ rd (field (active_addr n rd d) d)
+    pub val : rd' (field (active_val n rd d) d) ≡ rd (field (active_val n rd d) d)
     pub code : (i : ℕ) → rd' (step d i) ≡ rd (step d i)
 
 module _ (n : ℕ) (rd rd' : Memory) (d : ℕ) (f : Framed n rd rd' d) where
   pub frame-held : (s : ℕ) → held_before (code_in n rd' d) s ≡ held_before (code_in n rd d) s
   frame-held s = held-cong (code_in n rd' d) (code_in n rd d) s (λ j l. f.code j)
 
-  pub frame-op : namedOp n rd' d ≡ namedOp n rd d
-  unfolding namedOp
-  frame-op = rw (named-cong n rd rd' d f.pc, f.code (namedStep n rd d))
+  pub frame-op : named_op n rd' d ≡ named_op n rd d
+  unfolding named_op
+  frame-op = rw (named-cong n rd rd' d f.pc, f.code (named_step n rd d))
 
   -- what is owed
   pub owed-frame : owed n rd' d ≡ owed n rd d
   unfolding owed
-  owed-frame = rw (f.pc, frame-op, named-cong n rd rd' d f.pc, frame-held (suc (namedStep n rd d)), f.owned)
+  owed-frame = rw (f.pc, frame-op, named-cong n rd rd' d f.pc, frame-held (suc (named_step n rd d)), f.owned)
 
-  private-entry : (x : Op) → entryOk n rd' d x ≡ entryOk n rd d x
+  private-entry : (x : Op) → entry_ok n rd' d x ≡ entry_ok n rd d x
   private-entry (Acquire a) =
       rw (
         active-addr-kept n rd rd' d f.pc,
@@ -47,7 +47,7 @@ module _ (n : ℕ) (rd rd' : Memory) (d : ℕ) (f : Framed n rd rd' d) where
         f.val,
         named-cong n rd rd' d f.pc,
         frame-held
-            (suc (namedStep n rd d)),
+            (suc (named_step n rd d)),
       )
   private-entry (Release a) =
       rw (
@@ -57,7 +57,7 @@ module _ (n : ℕ) (rd rd' : Memory) (d : ℕ) (f : Framed n rd rd' d) where
         f.val,
         named-cong n rd rd' d f.pc,
         frame-held
-            (suc (namedStep n rd d)),
+            (suc (named_step n rd d)),
       )
   private-entry (Assign a e) = rw (active-addr-kept n rd rd' d f.pc, f.addr)
   private-entry (Jump a b) = refl
@@ -65,8 +65,8 @@ module _ (n : ℕ) (rd rd' : Memory) (d : ℕ) (f : Framed n rd rd' d) where
   private-entry Unknown = refl
 
   -- whether the pc is right; the count is read only where the pc is not 0
-  pub pc-frame : (rd' (field Count d) ≡ rd (field Count d)) ⊎ (rd (field Pc d) ≡ 0) → pcOk n rd' d ≡ pcOk n rd d
-  unfolding pcOk
+  pub pc-frame : (rd' (field Count d) ≡ rd (field Count d)) ⊎ (rd (field Pc d) ≡ 0) → pc_ok n rd' d ≡ pc_ok n rd d
+  unfolding pc_ok
   pc-frame (inl e) =
       rw (
         f.pc,
@@ -74,18 +74,18 @@ module _ (n : ℕ) (rd rd' : Memory) (d : ℕ) (f : Framed n rd rd' d) where
         e,
         named-cong n rd rd' d f.pc,
         frame-op,
-        private-entry (namedOp n rd d),
-        frame-held (namedStep n rd d),
+        private-entry (named_op n rd d),
+        frame-held (named_step n rd d),
         frame-held
-            (suc (namedStep n rd d)),
+            (suc (named_step n rd d)),
       )
   pc-frame (inr e) = rw (f.pc, e, f.owned)
 
   -- whether the section is right
   pub section-frame :
-      rd' (field Count d) ≡ rd (field Count d) → rd' (field Number d) ≡ rd (field Number d) → rd' (field Finished d) ≡ rd (field Finished d) → sectionOk n rd' d
-      ≡ sectionOk n rd d
-  unfolding sectionOk
+      rd' (field Count d) ≡ rd (field Count d) → rd' (field Number d) ≡ rd (field Number d) → rd' (field Finished d) ≡ rd (field Finished d) → section_ok n rd' d
+      ≡ section_ok n rd d
+  unfolding section_ok
   section-frame c k g =
       rw (c, k, g, f.pc, check-cong n (rd (field Count d)) (code_in n rd' d) (code_in n rd d) (λ j l. f.code j))
 

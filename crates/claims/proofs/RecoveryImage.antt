@@ -24,8 +24,8 @@ use Rattle.working.specs.Cursor.{Cursor, idle, on, step_no, turn_no, cursor_at}
 use Rattle.working.proofs.Placed.{Full, sayable}
 use Rattle.repair.specs.Plan.{rows, unbegun, intended, intend, withdraw, relock, relocks, unlock, plan}
 use Rattle.owed.specs.Owed.{owed}
-use Rattle.owed.specs.Owed.{namedStep, namedOp}
-use Rattle.resuming.specs.Resumed.{target_turn, resumed, resumedAt, resumedAll}
+use Rattle.owed.specs.Owed.{named_step, named_op}
+use Rattle.resuming.specs.Resumed.{target_turn, resumed, resumed_at, resumed_all}
 use Rattle.soundness.proofs.Sets.{eight-at}
 use Rattle.claims.specs.Reference.{Given}
 use Rattle.claims.proofs.Invariant.{Live, Crashed}
@@ -36,19 +36,19 @@ use Rattle.claims.proofs.LiveTurn.{live-cursors}
 -- ---- cursors
 
 module _ (n : ℕ) (rd : Memory) (D : ℕ) where
-  pub resumed-turn : (d : ℕ) → d < 8 → get_or (resumedAll n rd D).turn d 255 ≡ turn_no (resumedAt n rd D d)
-  unfolding resumedAll
-  resumed-turn d l = eight-at (λ e. turn_no (resumedAt n rd D e)) 255 d l
+  pub resumed-turn : (d : ℕ) → d < 8 → get_or (resumed_all n rd D).turn d 255 ≡ turn_no (resumed_at n rd D d)
+  unfolding resumed_all
+  resumed-turn d l = eight-at (λ e. turn_no (resumed_at n rd D e)) 255 d l
 
-  pub resumed-step : (d : ℕ) → d < 8 → get_or (resumedAll n rd D).step d 0 ≡ step_no (resumedAt n rd D d)
-  unfolding resumedAll
-  resumed-step d l = eight-at (λ e. step_no (resumedAt n rd D e)) 0 d l
+  pub resumed-step : (d : ℕ) → d < 8 → get_or (resumed_all n rd D).step d 0 ≡ step_no (resumed_at n rd D d)
+  unfolding resumed_all
+  resumed-step d l = eight-at (λ e. step_no (resumed_at n rd D e)) 0 d l
 
-  pub resumed-full : Full (resumedAll n rd D)
-  unfolding resumedAll
+  pub resumed-full : Full (resumed_all n rd D)
+  unfolding resumed_all
   resumed-full = record { steps = refl; turns = refl }
 
-  private-target : (d : ℕ) (x : Op) → sayable (on (namedStep n rd d) (target_turn x))
+  private-target : (d : ℕ) (x : Op) → sayable (on (named_step n rd d) (target_turn x))
   private-target d (Acquire a) = λ e. omega arith
   private-target d (Release a) = λ e. omega arith
   private-target d (Assign a x) = λ e. omega arith
@@ -60,16 +60,16 @@ module _ (n : ℕ) (rd : Memory) (D : ℕ) where
   unfolding resumed
   private-sayable d = by (eqb (rd (field Pc d)) 0)
     where
-      by : (t : Bool) → sayable (cond t idle (on (namedStep n rd d) (target_turn (namedOp n rd d))))
+      by : (t : Bool) → sayable (cond t idle (on (named_step n rd d) (target_turn (named_op n rd d))))
       by true = tt
-      by false = private-target d (namedOp n rd d)
+      by false = private-target d (named_op n rd d)
 
   private-said : (x : Cursor) → sayable x → cond (eqb (turn_no x) 255) idle (on (step_no x) (turn_no x)) ≡ x
   private-said idle h = refl
   private-said (on s t) h = rw (ne_eqb t 255 h)
 
   -- the cursors that a recovery answers
-  pub resumed-cursor : (d : ℕ) → d < D → D ≤ 8 → cursor_at (resumedAll n rd D) d ≡ resumed n rd d
+  pub resumed-cursor : (d : ℕ) → d < D → D ≤ 8 → cursor_at (resumed_all n rd D) d ≡ resumed n rd d
   unfolding cursor_at
   resumed-cursor d l u = rw (resumed-turn d (omega arith), resumed-step d (omega arith), lt-ltb d D l) (private-said (resumed n rd d) (private-sayable d))
 
@@ -116,13 +116,13 @@ module _ (mark n : ℕ) (m : Image) (h : header_ok mark n m ≡ true) where
 
   -- and one that is not
   pub recovery-whole : Crashed n (workers m) (at n m) → (left : ℕ) → 592 ≤ left → (given : ℕ → Given)
-      → Live n (workers m) (at n (put_all n left m (plan n (at n m) (workers m)))) (cursor_at (resumedAll n (at n m) (workers m))) (owed n (at n m)) (λ d. 0)
+      → Live n (workers m) (at n (put_all n left m (plan n (at n m) (workers m)))) (cursor_at (resumed_all n (at n m) (workers m))) (owed n (at n m)) (λ d. 0)
       given
   recovery-whole c left l given =
       let few = (header-workers mark n m h).1 in
       let short = plan-length n (at n m) (workers m) few in
       rw (recovery-at left, take_all left (plan n (at n m) (workers m)) (omega arith))
-      (live-cursors n (workers m) (upd_all (at n m) (plan n (at n m) (workers m))) (resumed n (at n m)) (cursor_at (resumedAll n (at n m) (workers m)))
+      (live-cursors n (workers m) (upd_all (at n m) (plan n (at n m) (workers m))) (resumed n (at n m)) (cursor_at (resumed_all n (at n m) (workers m)))
       (owed n (at n m)) (λ d. 0) given
       (λ d u. sym (resumed-cursor n (at n m) (workers m) d u few))
       (recovered-live n (at n m) (workers m) c given))

@@ -12,13 +12,13 @@ use Rattle.image.specs.Inner.Same.{upd}
 use Rattle.image.specs.Image.{at}
 use Rattle.working.specs.declared.Cursors.{Cursors}
 use Rattle.working.specs.Cursor.{Cursor, is_idle, cursor_at, holding, placed}
-use Rattle.plan.specs.Turn.{Outcome, stored, passed, waiting, resting, refused, turnAt}
+use Rattle.plan.specs.Turn.{Outcome, stored, passed, waiting, resting, refused, turn_at}
 use Rattle.turn.specs.Call.{outcome_at}
 use Rattle.run.specs.Run.{any_open}
 use Rattle.working.proofs.Placed.{sayable, held-cursor}
 use Rattle.claims.specs.Reference.{Given}
 use Rattle.claims.specs.Events.{waited, but}
-use Rattle.claims.specs.Calls.{Traced, turnBy, turnedAt, refuses, round, rounds}
+use Rattle.claims.specs.Calls.{Traced, turn_by, turned_at, refuses, round, rounds}
 use Rattle.claims.proofs.Invariant.{Live}
 use Rattle.claims.proofs.Turns.{Stepped, Went}
 use Rattle.claims.proofs.LiveTurn.{live-turn, but_same}
@@ -55,8 +55,8 @@ module _ (mark n D : ℕ) (cells : List ℕ) where
   unfolding sum
   sum-noted w v (es, e) = rw e
 
-  moves-noted : (e : ℕ) (w v : Traced) → Noted w v → is_moving (turnAt n (at n w.world.image) e (cursor_at w.world.cursors e)) ≡ true
-      → is_moving (turnAt n (at n v.world.image) e (cursor_at v.world.cursors e)) ≡ true
+  moves-noted : (e : ℕ) (w v : Traced) → Noted w v → is_moving (turn_at n (at n w.world.image) e (cursor_at w.world.cursors e)) ≡ true
+      → is_moving (turn_at n (at n v.world.image) e (cursor_at v.world.cursors e)) ≡ true
   moves-noted e w v (es, q) m = rw q m
 
   -- running, with a store for each turn that any worker has to go
@@ -73,7 +73,7 @@ module _ (mark n D : ℕ) (cells : List ℕ) where
     rd = at n w.world.image
 
     abbrev turn : Outcome
-    turn = turnAt n rd d (cursor_at w.world.cursors d)
+    turn = turn_at n rd d (cursor_at w.world.cursors d)
 
     pub steps : Stepped n rd d (w.trace.last d) (r.locks d) (w.trace.jumps d) turn
     steps =
@@ -95,7 +95,7 @@ module _ (mark n D : ℕ) (cells : List ℕ) where
 
     -- a turn that moves lowers the sum
     moved : (o : Outcome) → turn ≡ o → Went n D rd (cursor_at w.world.cursors) r.locks w.trace.jumps w.trace.last d o → 0 < w.world.left
-        → is_moving o ≡ true → sum n D (turnBy mark n w d o) < sum n D w
+        → is_moving o ≡ true → sum n D (turn_by mark n w d o) < sum n D w
     unfolding sum
     moved (stored p v c) e g left m =
         let q = memory-store n D w.world.image (running-sized mark n D cells w r.reached) w.world.left p v
@@ -109,7 +109,7 @@ module _ (mark n D : ℕ) (cells : List ℕ) where
     moved (refused x) e g left m = absurd (false≢true m)
 
     -- one that does not leaves an event at most
-    stays : (o : Outcome) → is_moving o ≡ false → Noted w (turnBy mark n w d o)
+    stays : (o : Outcome) → is_moving o ≡ false → Noted w (turn_by mark n w d o)
     stays (stored p v c) m = absurd (true≢false m)
     stays (passed why c) m = absurd (true≢false m)
     stays (waiting b) m = (waited d b ∷ [], refl)
@@ -119,21 +119,21 @@ module _ (mark n D : ℕ) (cells : List ℕ) where
     went : Went n D rd (cursor_at w.world.cursors) r.locks w.trace.jumps w.trace.last d turn
     went = live-turn n D rd (cursor_at w.world.cursors) r.locks w.trace.jumps w.trace.last d turn r.live dl steps
 
-    moving-turn : 0 < w.world.left → is_moving turn ≡ true → sum n D (turnedAt mark n w d) < sum n D w
-    unfolding turnedAt outcome_at
+    moving-turn : 0 < w.world.left → is_moving turn ≡ true → sum n D (turned_at mark n w d) < sum n D w
+    unfolding turned_at outcome_at
     moving-turn left m = moved turn refl went left m
 
-    still-turn : is_moving turn ≡ false → Noted w (turnedAt mark n w d)
-    unfolding turnedAt outcome_at
+    still-turn : is_moving turn ≡ false → Noted w (turned_at mark n w d)
+    unfolding turned_at outcome_at
     still-turn m = stays turn m
 
   -- ---- a turn, with a store for each rank
 
   -- what a turn of worker d comes to: it lowers the sum, or nothing changes but the events
   pub record Turn (w : Traced) (d : ℕ) : Type 0 where
-    pub spare : Spare (turnedAt mark n w d)
-    pub falls : is_moving (turnAt n (at n w.world.image) d (cursor_at w.world.cursors d)) ≡ true → sum n D (turnedAt mark n w d) < sum n D w
-    pub same : is_moving (turnAt n (at n w.world.image) d (cursor_at w.world.cursors d)) ≡ false → Noted w (turnedAt mark n w d)
+    pub spare : Spare (turned_at mark n w d)
+    pub falls : is_moving (turn_at n (at n w.world.image) d (cursor_at w.world.cursors d)) ≡ true → sum n D (turned_at mark n w d) < sum n D w
+    pub same : is_moving (turn_at n (at n w.world.image) d (cursor_at w.world.cursors d)) ≡ false → Noted w (turned_at mark n w d)
 
   -- a worker that moves has a rank, so a store is left for it
   no-rank : (w : Traced) (d : ℕ) (s : Spare w) (dl : d < D) → is_moving (turn w d s.running dl) ≡ true → ¬◌ (0 < w.world.left) → ⊥
@@ -164,14 +164,14 @@ module _ (mark n D : ℕ) (cells : List ℕ) where
       by true m (no l) = absurd (no-rank w d s dl m l)
       by false m l =
           let e = still-turn w d s.running dl m in
-          record { spare = spare-noted w (turnedAt mark n w d) e s; falls = λ x. absurd (true≢false (sym x ∙ m)); same = λ x. e }
+          record { spare = spare-noted w (turned_at mark n w d) e s; falls = λ x. absurd (true≢false (sym x ∙ m)); same = λ x. e }
 
   -- ---- a round
 
   -- the turns of k workers from d on, none of them refused
   swept : ℕ → ℕ → Traced → Traced
   swept zero d w = w
-  swept (suc k) d w = swept k (d + 1) (turnedAt mark n w d)
+  swept (suc k) d w = swept k (d + 1) (turned_at mark n w d)
 
   pub never-refused : (w : Traced) (d : ℕ) → Running mark n D cells w → d < D → refuses mark n (outcome_at n w.world d) ≡ false
   unfolding outcome_at
@@ -187,21 +187,21 @@ module _ (mark n D : ℕ) (cells : List ℕ) where
   spare-swept : (k d : ℕ) (w : Traced) → d + k ≤ D → Spare w → Spare (swept k d w)
   unfolding swept
   spare-swept zero d w l s = s
-  spare-swept (suc k) d w l s = spare-swept k (d + 1) (turnedAt mark n w d) (omega arith) (spare-turn w d s (omega arith)).spare
+  spare-swept (suc k) d w l s = spare-swept k (d + 1) (turned_at mark n w d) (omega arith) (spare-turn w d s (omega arith)).spare
 
   -- a round is its turns
   round-swept : (rest : Traced → Traced) (k d : ℕ) (w : Traced) → d + k ≤ D → Spare w → round mark n rest w d k ≡ rest (swept k d w)
   unfolding round swept
   round-swept rest zero d w l s = refl
   round-swept rest (suc k) d w l s =
-      rw (never-refused w d s.running (omega arith)) (round-swept rest k (d + 1) (turnedAt mark n w d) (omega arith) (spare-turn w d s (omega arith)).spare)
+      rw (never-refused w d s.running (omega arith)) (round-swept rest k (d + 1) (turned_at mark n w d) (omega arith) (spare-turn w d s (omega arith)).spare)
 
-  pub sum-turn : (w : Traced) (d : ℕ) → Turn w d → sum n D (turnedAt mark n w d) ≤ sum n D w
-  sum-turn w d t = by (is_moving (turnAt n (at n w.world.image) d (cursor_at w.world.cursors d))) refl
+  pub sum-turn : (w : Traced) (d : ℕ) → Turn w d → sum n D (turned_at mark n w d) ≤ sum n D w
+  sum-turn w d t = by (is_moving (turn_at n (at n w.world.image) d (cursor_at w.world.cursors d))) refl
     where
-      by : (b : Bool) → is_moving (turnAt n (at n w.world.image) d (cursor_at w.world.cursors d)) ≡ b → sum n D (turnedAt mark n w d) ≤ sum n D w
+      by : (b : Bool) → is_moving (turn_at n (at n w.world.image) d (cursor_at w.world.cursors d)) ≡ b → sum n D (turned_at mark n w d) ≤ sum n D w
       by true m = let f = t.falls m in omega arith
-      by false m = rw (sum-noted w (turnedAt mark n w d) (t.same m)) (omega arith)
+      by false m = rw (sum-noted w (turned_at mark n w d) (t.same m)) (omega arith)
 
   -- the sum never rises
   sum-swept : (k d : ℕ) (w : Traced) → d + k ≤ D → Spare w → sum n D (swept k d w) ≤ sum n D w
@@ -209,31 +209,31 @@ module _ (mark n D : ℕ) (cells : List ℕ) where
   sum-swept zero d w l s = omega arith
   sum-swept (suc k) d w l s =
       let t = spare-turn w d s (omega arith) in
-      let a = sum-swept k (d + 1) (turnedAt mark n w d) (omega arith) t.spare in
+      let a = sum-swept k (d + 1) (turned_at mark n w d) (omega arith) t.spare in
       let b = sum-turn w d t in
       omega arith
 
   -- and where one of the workers would move, it falls
   sum-falls-swept :
       (k d : ℕ) (w : Traced) → d + k ≤ D → Spare w → (e : ℕ) → d ≤ e → e < d + k → is_moving
-      (turnAt n (at n w.world.image) e (cursor_at w.world.cursors e)) ≡ true
+      (turn_at n (at n w.world.image) e (cursor_at w.world.cursors e)) ≡ true
       → sum n D (swept k d w) < sum n D w
   unfolding swept
   sum-falls-swept zero d w l s e x y m = absurd (omega arith)
   sum-falls-swept (suc k) d w l s e x y m =
-      by (λ g q. sum-falls-swept k (d + 1) (turnedAt mark n w d) (omega arith) t.spare e g (omega arith) (moves-noted e w (turnedAt mark n w d) q m))
-      (is_moving (turnAt n (at n w.world.image) d (cursor_at w.world.cursors d))) refl (ℕ_discrete e d)
+      by (λ g q. sum-falls-swept k (d + 1) (turned_at mark n w d) (omega arith) t.spare e g (omega arith) (moves-noted e w (turned_at mark n w d) q m))
+      (is_moving (turn_at n (at n w.world.image) d (cursor_at w.world.cursors d))) refl (ℕ_discrete e d)
     where
       t : Turn w d
       t = spare-turn w d s (omega arith)
 
-      by : (d + 1 ≤ e → Noted w (turnedAt mark n w d) → sum n D (swept k (d + 1) (turnedAt mark n w d)) < sum n D (turnedAt mark n w d)) → (b : Bool)
-          → is_moving (turnAt n (at n w.world.image) d (cursor_at w.world.cursors d)) ≡ b → Dec (e ≡ d) → sum n D (swept k (d + 1) (turnedAt mark n w d))
+      by : (d + 1 ≤ e → Noted w (turned_at mark n w d) → sum n D (swept k (d + 1) (turned_at mark n w d)) < sum n D (turned_at mark n w d)) → (b : Bool)
+          → is_moving (turn_at n (at n w.world.image) d (cursor_at w.world.cursors d)) ≡ b → Dec (e ≡ d) → sum n D (swept k (d + 1) (turned_at mark n w d))
           < sum n D w
-      by more true q i = let a = sum-swept k (d + 1) (turnedAt mark n w d) (omega arith) t.spare in let f = t.falls q in omega arith
+      by more true q i = let a = sum-swept k (d + 1) (turned_at mark n w d) (omega arith) t.spare in let f = t.falls q in omega arith
       by more false q (yes i) =
-          absurd (true≢false (sym m ∙ (ap (λ (z : ℕ). is_moving (turnAt n (at n w.world.image) z (cursor_at w.world.cursors z))) i ∙ q)))
-      by more false q (no i) = let a = more (omega arith) (t.same q) in let b = sum-noted w (turnedAt mark n w d) (t.same q) in omega arith
+          absurd (true≢false (sym m ∙ (ap (λ (z : ℕ). is_moving (turn_at n (at n w.world.image) z (cursor_at w.world.cursors z))) i ∙ q)))
+      by more false q (no i) = let a = more (omega arith) (t.same q) in let b = sum-noted w (turned_at mark n w d) (t.same q) in omega arith
 
   -- ---- a run
 
@@ -252,7 +252,7 @@ module _ (mark n D : ℕ) (cells : List ℕ) where
       by more false q = (d, omega arith, omega arith, q)
 
   some-moves : (w : Traced) → Running mark n D cells w → any_open D 0 w.world.cursors ≡ true
-      → (e : ℕ) × (e < D) × (is_moving (turnAt n (at n w.world.image) e (cursor_at w.world.cursors e)) ≡ true)
+      → (e : ℕ) × (e < D) × (is_moving (turn_at n (at n w.world.image) e (cursor_at w.world.cursors e)) ≡ true)
   some-moves w r h =
       let o = open-some D 0 w h in
       let p =

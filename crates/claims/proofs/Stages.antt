@@ -17,10 +17,10 @@ use Rattle.mask.specs.Mask.{has}
 use Rattle.image.specs.declared.Field.TheVariants.{Count, Pc, Addr0, Val0, Addr1, Val1, Intent, Owned, Number, Finished}
 use Rattle.image.specs.Place.{Place, cell, lock, field, own, step, Memory}
 use Rattle.image.specs.Inner.Same.{same_field, upd, upd_all}
-use Rattle.worklog.specs.Log.{second, activeAddr, activeVal}
+use Rattle.worklog.specs.Log.{second, active_addr, active_val}
 use Rattle.repair.specs.Plan.{◌≔◌, rows, unbegun, intended, intend, withdraw, relock, relocks, unlock, plan}
 use Rattle.owed.specs.Owed.{owed}
-use Rattle.soundness.specs.Sound.{sectionOk, pcOk}
+use Rattle.soundness.specs.Sound.{section_ok, pc_ok}
 use Rattle.claims.proofs.Invariant.{Crashed}
 use Rattle.claims.proofs.Covers.{Names, Covered, Parts, crashed-parts, parts-crashed}
 use Rattle.claims.proofs.LiveCrashed.{section-none, covered_same}
@@ -49,16 +49,16 @@ module _ (n D : ℕ) (rd : Memory) where
   abbrev pub Free : Memory → Type 0
   Free rd' = (b : ℕ) → b < 64 → rd' (lock b) ≡ 0
 
-  private-addr : (d : ℕ) → stays (field (activeAddr n rd d) d) ≡ true
-  unfolding activeAddr
+  private-addr : (d : ℕ) → stays (field (active_addr n rd d) d) ≡ true
+  unfolding active_addr
   private-addr d = by (second n rd d)
     where
       by : (t : Bool) → stays (field (cond t Addr1 Addr0) d) ≡ true
       by true = refl
       by false = refl
 
-  private-val : (d : ℕ) → stays (field (activeVal n rd d) d) ≡ true
-  unfolding activeVal
+  private-val : (d : ℕ) → stays (field (active_val n rd d) d) ≡ true
+  unfolding active_val
   private-val d = by (second n rd d)
     where
       by : (t : Bool) → stays (field (cond t Val1 Val0) d) ≡ true
@@ -70,18 +70,18 @@ module _ (n D : ℕ) (rd : Memory) where
       record {
         pc = k.fixed (field Pc d) refl;
         owned = k.fixed (field Owned d) refl;
-        addr = k.fixed (field (activeAddr n rd d) d) (private-addr d);
-        val = k.fixed (field (activeVal n rd d) d) (private-val d);
+        addr = k.fixed (field (active_addr n rd d) d) (private-addr d);
+        val = k.fixed (field (active_val n rd d) d) (private-val d);
         code = λ i. k.fixed (step d i) refl;
       }
 
-  private-section : (rd' : Memory) → Kept rd' → (d : ℕ) → sectionOk n rd d ≡ true
-      → (rd' (field Count d) ≡ rd (field Count d)) ⊎ ((rd (field Pc d) ≡ 0) × (rd' (field Count d) ≡ 0)) → sectionOk n rd' d ≡ true
+  private-section : (rd' : Memory) → Kept rd' → (d : ℕ) → section_ok n rd d ≡ true
+      → (rd' (field Count d) ≡ rd (field Count d)) ⊎ ((rd (field Pc d) ≡ 0) × (rd' (field Count d) ≡ 0)) → section_ok n rd' d ≡ true
   private-section rd' k d s (inl e) = section-frame n rd rd' d (kept-framed rd' k d) e (k.fixed (field Number d) refl) (k.fixed (field Finished d) refl) ∙ s
   private-section rd' k d s (inr e) = section-none n rd' d e.1 (k.fixed (field Pc d) refl ∙ e.0)
 
-  private-pc : (rd' : Memory) → Kept rd' → (d : ℕ) → pcOk n rd d ≡ true
-      → (rd' (field Count d) ≡ rd (field Count d)) ⊎ ((rd (field Pc d) ≡ 0) × (rd' (field Count d) ≡ 0)) → pcOk n rd' d ≡ true
+  private-pc : (rd' : Memory) → Kept rd' → (d : ℕ) → pc_ok n rd d ≡ true
+      → (rd' (field Count d) ≡ rd (field Count d)) ⊎ ((rd (field Pc d) ≡ 0) × (rd' (field Count d) ≡ 0)) → pc_ok n rd' d ≡ true
   private-pc rd' k d s (inl e) = pc-frame n rd rd' d (kept-framed rd' k d) (inl e) ∙ s
   private-pc rd' k d s (inr e) = pc-frame n rd rd' d (kept-framed rd' k d) (inr e.0) ∙ s
 

@@ -57,7 +57,8 @@ module _ (P : Memory → Type 0) where
   prefix-one s rd p q (suc (suc k)) = q
 
   -- a list after another; the second may start from what holds once the first is done
-  pub prefix-append : (xs ys : List Store) (rd : Memory) → ((j : ℕ) → P (upd_all rd (take j xs))) → ((j : ℕ) → P (upd_all (upd_all rd xs) (take j ys))) → (k : ℕ)
+  pub prefix-append : (xs ys : List Store) (rd : Memory) → ((j : ℕ) → P (upd_all rd (take j xs))) → ((j : ℕ) → P (upd_all (upd_all rd xs) (take j ys)))
+      → (k : ℕ)
       → P (upd_all rd (take k (xs ++ ys)))
   prefix-append xs ys rd a b k = cut-append (λ l. P (upd_all rd l)) k xs ys a (λ j. rw (upd_all-append rd xs (take j ys)) (b j))
 

@@ -13,11 +13,11 @@ use Rattle.image.specs.declared.Field.TheVariants.{Count, Pc, Intent, Owned, Fin
 use Rattle.image.specs.Inner.Same.{same_field, same, upd}
 use Rattle.image.specs.Place.{Place, cell, lock, field, own, step, Memory}
 use Rattle.image.proofs.Places.{same_refl, same_place, upd_other}
-use Rattle.worklog.specs.Log.{spareAddr, spareVal, activeVal}
+use Rattle.worklog.specs.Log.{spare_addr, spare_val, active_val}
 use Rattle.owed.specs.Owed.{target_of}
 use Rattle.claims.specs.Reference.{Job, State}
 use Rattle.claims.proofs.Virtual.{Entry, none, due, over, misses, entry_of, virtual, virtual-due, virtual-cong}
-use Rattle.claims.proofs.Invariant.{opAt, Named, JobOf, Mirrors}
+use Rattle.claims.proofs.Invariant.{op_at, Named, JobOf, Mirrors}
 use Rattle.claims.proofs.Entries.{apart_by, apart_of, aimed, target-aimed, belongs, active-apart, active-spare-val, spare-val-apart, spare-addr-apart}
 use Rattle.claims.proofs.Entries.{active-not-addr, named-cong, entry_named, entry-cong}
 
@@ -63,7 +63,7 @@ mirror-frame n D rd rd' s f m =
 pub record Unmirrored (n D : ℕ) (rd : Memory) (p : Place) : Type 0 where
   pub pcs : (d : ℕ) → d < D → same (field Pc d) p ≡ false
   pub cells : (x : ℕ) → x < 512 → same (cell x) p ≡ false
-  pub values : (d : ℕ) → d < D → rd (field Pc d) ≢ 0 → same (field (activeVal n rd d) d) p ≡ false
+  pub values : (d : ℕ) → d < D → rd (field Pc d) ≢ 0 → same (field (active_val n rd d) d) p ≡ false
   pub owneds : (d : ℕ) → d < D → rd (field Pc d) ≢ 0 → same (field Owned d) p ≡ false
   pub owns : (d : ℕ) → d < D → rd (field Pc d) ≢ 0 → (i : ℕ) → same (own d i) p ≡ false
   pub counts : (d : ℕ) → d < D → rd (field Pc d) ≢ 0 → same (field Count d) p ≡ false
@@ -72,10 +72,10 @@ pub record Unmirrored (n D : ℕ) (rd : Memory) (p : Place) : Type 0 where
 -- the entries of a memory after a store that touches no pc, and no value or step of a worker under way
 pub entry-upd :
     (n : ℕ) (rd : Memory) (p : Place) (v d : ℕ) → same (field Pc d) p ≡ false → (rd (field Pc d) ≢ 0 → (i : ℕ) → same (step d i) p ≡ false)
-    → (rd (field Pc d) ≢ 0 → same (field (activeVal n rd d) d) p ≡ false) → entry_of n (upd rd p v) d ≡ entry_of n rd d
+    → (rd (field Pc d) ≢ 0 → same (field (active_val n rd d) d) p ≡ false) → entry_of n (upd rd p v) d ≡ entry_of n rd d
 entry-upd n rd p v d a b c =
     entry-cong n rd (upd rd p v) d (upd_other rd p v (field Pc d) a) (λ z i. upd_other rd p v (step d i) (b z i))
-    (λ z. upd_other rd p v (field (activeVal n rd d) d) (c z))
+    (λ z. upd_other rd p v (field (active_val n rd d) d) (c z))
 
 module _ (n D : ℕ) (rd : Memory) (p : Place) (v : ℕ) (k : Unmirrored n D rd p) where
   unmirrored-virtual : (q : Place) → same q p ≡ false → virtual n (upd rd p v) D q ≡ virtual n rd D q
@@ -115,7 +115,7 @@ module _ (n D : ℕ) (rd : Memory) where
   -- a single word that is neither pc, nor count, nor owned set, nor any worker's value of the active entry
   pub unmirrored-field :
       (f : Field) (e : ℕ) → same_field Pc f ≡ false → same_field Count f ≡ false → same_field Owned f ≡ false
-      → ((d : ℕ) → same (field (activeVal n rd d) d) (field f e) ≡ false) → Unmirrored n D rd (field f e)
+      → ((d : ℕ) → same (field (active_val n rd d) d) (field f e) ≡ false) → Unmirrored n D rd (field f e)
   unmirrored-field f e a b c v =
       record {
         pcs = λ d l. rw a;
@@ -133,22 +133,22 @@ module _ (n D : ℕ) (rd : Memory) where
   pub unmirrored-finished : (e : ℕ) → Unmirrored n D rd (field Finished e)
   unmirrored-finished e = unmirrored-field Finished e refl refl refl (λ d. rw (active-apart n rd d Finished refl refl))
 
-  pub unmirrored-spare-addr : (e : ℕ) → Unmirrored n D rd (field (spareAddr n rd e) e)
+  pub unmirrored-spare-addr : (e : ℕ) → Unmirrored n D rd (field (spare_addr n rd e) e)
   unmirrored-spare-addr e =
-      unmirrored-field (spareAddr n rd e) e (spare-addr-apart n rd e Pc refl refl) (spare-addr-apart n rd e Count refl refl)
+      unmirrored-field (spare_addr n rd e) e (spare-addr-apart n rd e Pc refl refl) (spare-addr-apart n rd e Count refl refl)
       (spare-addr-apart n rd e Owned refl refl)
       (λ d. rw (active-not-addr n rd d e))
 
-  spare-val-unmirrored : (d e : ℕ) → same (field (activeVal n rd d) d) (field (spareVal n rd e) e) ≡ false
+  spare-val-unmirrored : (d e : ℕ) → same (field (active_val n rd d) d) (field (spare_val n rd e) e) ≡ false
   spare-val-unmirrored d e = by (ℕ_discrete d e)
     where
-      by : Dec (d ≡ e) → same (field (activeVal n rd d) d) (field (spareVal n rd e) e) ≡ false
+      by : Dec (d ≡ e) → same (field (active_val n rd d) d) (field (spare_val n rd e) e) ≡ false
       by (yes i) = rw (i, active-spare-val n rd e)
-      by (no i) = apart_of (belongs d) (field (activeVal n rd d) d) (field (spareVal n rd e) e) (eq-eqb d d refl) (ne_eqb e d (λ j. i (sym j)))
+      by (no i) = apart_of (belongs d) (field (active_val n rd d) d) (field (spare_val n rd e) e) (eq-eqb d d refl) (ne_eqb e d (λ j. i (sym j)))
 
-  pub unmirrored-spare-val : (e : ℕ) → Unmirrored n D rd (field (spareVal n rd e) e)
+  pub unmirrored-spare-val : (e : ℕ) → Unmirrored n D rd (field (spare_val n rd e) e)
   unmirrored-spare-val e =
-      unmirrored-field (spareVal n rd e) e (spare-val-apart n rd e Pc refl refl) (spare-val-apart n rd e Count refl refl)
+      unmirrored-field (spare_val n rd e) e (spare-val-apart n rd e Pc refl refl) (spare-val-apart n rd e Count refl refl)
       (spare-val-apart n rd e Owned refl refl)
       (λ d. spare-val-unmirrored d e)
 
@@ -163,7 +163,7 @@ module _ (n D : ℕ) (rd : Memory) where
         record {
           pcs = λ d l. a d;
           cells = λ x l. apart_by (belongs e) (cell x) p refl b;
-          values = λ d l z. apart_by (belongs e) (field (activeVal n rd d) d) p (other d z) b;
+          values = λ d l z. apart_by (belongs e) (field (active_val n rd d) d) p (other d z) b;
           owneds = λ d l z. apart_by (belongs e) (field Owned d) p (other d z) b;
           owns = λ d l z i. apart_by (belongs e) (own d i) p (other d z) b;
           counts = λ d l z. apart_by (belongs e) (field Count d) p (other d z) b;
@@ -187,7 +187,7 @@ aimed-step d i p a = apart_by aimed (step d i) p refl a
 pub aimed-entry : (n : ℕ) (rd : Memory) (p : Place) (v d : ℕ) → aimed p ≡ true → entry_of n (upd rd p v) d ≡ entry_of n rd d
 aimed-entry n rd p v d a =
     entry-upd n rd p v d (aimed-field Pc d p a refl) (λ z i. aimed-step d i p a)
-    (λ z. aimed-field (activeVal n rd d) d p a (active-apart n rd d Owned refl refl))
+    (λ z. aimed-field (active_val n rd d) d p a (active-apart n rd d Owned refl refl))
 
 module _ (n D : ℕ) (rd : Memory) (d : ℕ) (p : Place) (v : ℕ) (below : d < D) (here : entry_of n rd d ≡ due p v) (aims : aimed p ≡ true)
     (others : (e : ℕ) → e < D → e ≢ d → misses (entry_of n rd e) p) where
@@ -217,9 +217,9 @@ module _ (n D : ℕ) (rd : Memory) (d : ℕ) (p : Place) (v : ℕ) (below : d < 
 -- the target store of the step that the pc names, where no other entry is for its place
 pub mirror-target :
     (n D : ℕ) (rd : Memory) (d s : ℕ) (S : State) → Named n rd d s → d < D
-    → ((e : ℕ) → e < D → e ≢ d → misses (entry_of n rd e) (target_of d (opAt n rd d s))) → Mirrors n D rd S
-    → Mirrors n D (upd rd (target_of d (opAt n rd d s)) (rd (field (activeVal n rd d) d))) S
+    → ((e : ℕ) → e < D → e ≢ d → misses (entry_of n rd e) (target_of d (op_at n rd d s))) → Mirrors n D rd S
+    → Mirrors n D (upd rd (target_of d (op_at n rd d s)) (rd (field (active_val n rd d) d))) S
 mirror-target n D rd d s S N l others m =
-    let p = target_of d (opAt n rd d s) in
-    let v = rd (field (activeVal n rd d) d) in
-    mirror-frame n D rd (upd rd p v) S (due-framed n D rd d p v l (entry_named n rd d s N.pc) (target-aimed d (opAt n rd d s)) others) m
+    let p = target_of d (op_at n rd d s) in
+    let v = rd (field (active_val n rd d) d) in
+    mirror-frame n D rd (upd rd p v) S (due-framed n D rd d p v l (entry_named n rd d s N.pc) (target-aimed d (op_at n rd d s)) others) m

@@ -17,11 +17,11 @@ use Rattle.image.specs.Inner.Same.{same_field, same, upd, upd_all}
 use Rattle.section.specs.declared.Verdict.TheVariants.{Pass}
 use Rattle.section.specs.Check.{code_of, check}
 use Rattle.section.proofs.Facts.{check-parts, check-cong}
-use Rattle.worklog.specs.Log.{code_in, second, activeAddr, activeVal}
+use Rattle.worklog.specs.Log.{code_in, second, active_addr, active_val}
 use Rattle.intake.specs.Submit.{assigns, submission}
 use Rattle.repair.specs.Plan.{◌≔◌}
 use Rattle.owed.specs.Owed.{owed}
-use Rattle.soundness.specs.Sound.{sectionOk, pcOk}
+use Rattle.soundness.specs.Sound.{section_ok, pc_ok}
 use Rattle.claims.proofs.Invariant.{Crashed}
 use Rattle.claims.proofs.Covers.{Parts, crashed-parts, parts-crashed}
 use Rattle.claims.proofs.LiveCrashed.{section-none, pc-none, owed_none}
@@ -57,16 +57,16 @@ module _ (d : ℕ) (rd : Memory) where
   aside-store p h v rd' k q g = rw (apart_of (aside d) q p g h) (k q g)
 
 module _ (n D d : ℕ) (rd : Memory) where
-  private-addr : (e : ℕ) → aside d (field (activeAddr n rd e) e) ≡ true
-  unfolding activeAddr
+  private-addr : (e : ℕ) → aside d (field (active_addr n rd e) e) ≡ true
+  unfolding active_addr
   private-addr e = by (second n rd e)
     where
       by : (t : Bool) → aside d (field (cond t Addr1 Addr0) e) ≡ true
       by true = refl
       by false = refl
 
-  private-val : (e : ℕ) → aside d (field (activeVal n rd e) e) ≡ true
-  unfolding activeVal
+  private-val : (e : ℕ) → aside d (field (active_val n rd e) e) ≡ true
+  unfolding active_val
   private-val e = by (second n rd e)
     where
       by : (t : Bool) → aside d (field (cond t Val1 Val0) e) ≡ true
@@ -78,8 +78,8 @@ module _ (n D d : ℕ) (rd : Memory) where
       record {
         pc = k (field Pc e) refl;
         owned = k (field Owned e) refl;
-        addr = k (field (activeAddr n rd e) e) (private-addr e);
-        val = k (field (activeVal n rd e) e) (private-val e);
+        addr = k (field (active_addr n rd e) e) (private-addr e);
+        val = k (field (active_val n rd e) e) (private-val e);
         code = λ i. k (step e i) (rw (ne_eqb e d h));
       }
 
@@ -91,24 +91,24 @@ module _ (n D d : ℕ) (rd : Memory) where
         by (yes i) = rw i (owed_none n rd' d (k (field Pc d) refl ∙ z) ∙ sym (owed_none n rd d z))
         by (no i) = owed-frame n rd rd' e (aside-framed rd' k e i)
 
-    private-section : (e : ℕ) → sectionOk n rd e ≡ true → sectionOk n rd' d ≡ true → sectionOk n rd' e ≡ true
+    private-section : (e : ℕ) → section_ok n rd e ≡ true → section_ok n rd' d ≡ true → section_ok n rd' e ≡ true
     private-section e h g = by (ℕ_discrete e d)
       where
-        by : Dec (e ≡ d) → sectionOk n rd' e ≡ true
+        by : Dec (e ≡ d) → section_ok n rd' e ≡ true
         by (yes i) = rw i g
         by (no i) =
             section-frame n rd rd' e (aside-framed rd' k e i) (k (field Count e) (rw (ne_eqb e d i))) (k (field Number e) (rw (ne_eqb e d i)))
             (k (field Finished e) refl) ∙ h
 
-    private-pc : (e : ℕ) → pcOk n rd e ≡ true → pcOk n rd' e ≡ true
+    private-pc : (e : ℕ) → pc_ok n rd e ≡ true → pc_ok n rd' e ≡ true
     private-pc e h = by (ℕ_discrete e d)
       where
-        by : Dec (e ≡ d) → pcOk n rd' e ≡ true
+        by : Dec (e ≡ d) → pc_ok n rd' e ≡ true
         by (yes i) = rw i (pc-none n rd' d (k (field Pc d) refl ∙ z) (k (field Owned d) refl ∙ ok-owned n rd d (rw i at h) z))
         by (no i) = pc-frame n rd rd' e (aside-framed rd' k e i) (inl (k (field Count e) (rw (ne_eqb e d i)))) ∙ h
 
     -- whatever the section's words are, if the section is right
-    pub aside-parts : Parts n D rd → sectionOk n rd' d ≡ true → Parts n D rd'
+    pub aside-parts : Parts n D rd → section_ok n rd' d ≡ true → Parts n D rd'
     aside-parts p s =
         record {
           section = λ e l. private-section e (p.section e l) s;
@@ -184,8 +184,8 @@ module _ (n d k : ℕ) (args ws : List ℕ) (rd : Memory) where
   submitted-check h = check-cong n (length ws) (code_in n submitted d) (code_of ws) laid.code-words ∙ h
 
   -- the section that was submitted is right
-  pub submitted-section : rd (field Count d) ≡ 0 → check n (length ws) (code_of ws) ≡ Pass → rd (field Finished d) < k → sectionOk n submitted d ≡ true
-  unfolding sectionOk
+  pub submitted-section : rd (field Count d) ≡ 0 → check n (length ws) (code_of ws) ≡ Pass → rd (field Finished d) < k → section_ok n submitted d ≡ true
+  unfolding section_ok
   submitted-section c h l =
       let some = (check-parts n (length ws) (code_of ws) h).0 in
       let f : submitted (field Finished d) ≡ rd (field Finished d) = submitted-aside c (field Finished d) refl in

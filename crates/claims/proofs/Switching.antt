@@ -19,19 +19,19 @@ use Rattle.image.specs.Inner.Same.{same_field, same, upd}
 use Rattle.image.specs.Place.{Place, cell, field, own, Memory}
 use Rattle.image.proofs.Places.{same_refl, same_place, upd_same, upd_other}
 use Rattle.working.specs.Cursor.{Cursor}
-use Rattle.worklog.specs.Log.{second, spareVal, activeVal, switched}
-use Rattle.owed.specs.Owed.{target_of, namedStep}
+use Rattle.worklog.specs.Log.{second, spare_val, active_val, switched}
+use Rattle.owed.specs.Owed.{target_of, named_step}
 use Rattle.claims.specs.Reference.{Given, Job, State, state}
 use Rattle.claims.proofs.Virtual.{Entry, due, over, misses, entry_of, virtual, virtual-none, virtual-due, virtual-cong}
-use Rattle.claims.proofs.Invariant.{opAt, Live, JobOf, Mirrors}
-use Rattle.claims.proofs.Entries.{active-apart, entry-none, entry_named, entry-cong, named_step}
+use Rattle.claims.proofs.Invariant.{op_at, Live, JobOf, Mirrors}
+use Rattle.claims.proofs.Entries.{active-apart, entry-none, entry_named, entry-cong, named_step_lem}
 use Rattle.claims.proofs.Stutter.{job-frame}
 use Rattle.claims.proofs.Apart.{Busy, Guarded, misses-guarded, target-guarded, virtual-settled}
 
 -- ---- the pc that switches entries
 
-spare-no-pc : (n : ℕ) (rd : Memory) (d : ℕ) → same_field (spareVal n rd d) Pc ≡ false
-unfolding spareVal
+spare-no-pc : (n : ℕ) (rd : Memory) (d : ℕ) → same_field (spare_val n rd d) Pc ≡ false
+unfolding spare_val
 spare-no-pc n rd d = by (second n rd d)
   where
     by : (b : Bool) → same_field (cond b Val0 Val1) Pc ≡ false
@@ -62,24 +62,24 @@ module _ (n : ℕ) (rd : Memory) (d k : ℕ) (short : k < 64) where
   switched-pc : after n rd d k (field Pc d) % 2 ^ 63 ≡ suc k
   switched-pc = rw (upd_same rd (field Pc d) (switched n rd d k)) switched-names
 
-  pub switched-step : namedStep n (after n rd d k) d ≡ k
-  switched-step = named_step n (after n rd d k) d k switched-pc
+  pub switched-step : named_step n (after n rd d k) d ≡ k
+  switched-step = named_step_lem n (after n rd d k) d k switched-pc
 
   -- the entry that was spare is active
-  switched-active : activeVal n (after n rd d k) d ≡ spareVal n rd d
-  unfolding activeVal spareVal second switched
+  switched-active : active_val n (after n rd d k) d ≡ spare_val n rd d
+  unfolding active_val spare_val second switched
   switched-active = rw (upd_same rd (field Pc d) (switched n rd d k)) (by (not (eqb (rd (field Pc d) / 2 ^ 63) 0)))
     where
       by : (b : Bool) → cond (not (eqb (cond b (k + 1) (k + 1 + 2 ^ 63) / 2 ^ 63) 0)) Val1 Val0 ≡ cond b Val0 Val1
       by true = let e : (k + 1) / 2 ^ 63 ≡ 0 = omega arith in rw e
       by false = let e : (k + 1 + 2 ^ 63) / 2 ^ 63 ≡ 1 = omega arith in rw e
 
-  spare-stays : after n rd d k (field (spareVal n rd d) d) ≡ rd (field (spareVal n rd d) d)
-  spare-stays = upd_other rd (field Pc d) (switched n rd d k) (field (spareVal n rd d) d) (rw (spare-no-pc n rd d))
+  spare-stays : after n rd d k (field (spare_val n rd d) d) ≡ rd (field (spare_val n rd d) d)
+  spare-stays = upd_other rd (field Pc d) (switched n rd d k) (field (spare_val n rd d) d) (rw (spare-no-pc n rd d))
 
-  pub switched-entry : entry_of n (after n rd d k) d ≡ due (target_of d (opAt n rd d k)) (rd (field (spareVal n rd d) d))
+  pub switched-entry : entry_of n (after n rd d k) d ≡ due (target_of d (op_at n rd d k)) (rd (field (spare_val n rd d) d))
   switched-entry =
-      entry_named n (after n rd d k) d k switched-pc ∙ ap (due (target_of d (opAt n rd d k)))
+      entry_named n (after n rd d k) d k switched-pc ∙ ap (due (target_of d (op_at n rd d k)))
       (ap (λ (f : Field). after n rd d k (field f d)) switched-active ∙ spare-stays)
 
 -- ---- the entries after any pc of worker d
@@ -87,7 +87,7 @@ module _ (n : ℕ) (rd : Memory) (d k : ℕ) (short : k < 64) where
 pub entry-others : (n : ℕ) (rd : Memory) (d v e : ℕ) → e ≢ d → entry_of n (upd rd (field Pc d) v) e ≡ entry_of n rd e
 entry-others n rd d v e h =
     entry-cong n rd (upd rd (field Pc d) v) e (upd_other rd (field Pc d) v (field Pc e) (ne_eqb e d h)) (λ z i. refl)
-    (λ z. upd_other rd (field Pc d) v (field (activeVal n rd e) e) (rw (active-apart n rd e Pc refl refl)))
+    (λ z. upd_other rd (field Pc d) v (field (active_val n rd e) e) (rw (active-apart n rd e Pc refl refl)))
 
 -- a pc of 0 leaves the virtual memory as it is
 abbrev pub Freed : ℕ → ℕ → Memory → ℕ → Type 0
@@ -119,12 +119,12 @@ module _ (n D : ℕ) (rd : Memory) (cursor : ℕ → Cursor) (locks jumps : ℕ 
         by e m (yes i) = rw (i, zero-entry n rd d) tt
         by e m (no i) = rw (entry-others n rd d 0 e i) (misses-guarded n D rd cursor locks jumps given L d e l m i q g)
 
-    pub freed-settled : (s : ℕ) → Busy n rd d (locks d) s → rd (target_of d (opAt n rd d s)) ≡ rd (field (activeVal n rd d) d) → Freed n D rd d
-    freed-settled s B made q f = by (same q (target_of d (opAt n rd d s))) refl
+    pub freed-settled : (s : ℕ) → Busy n rd d (locks d) s → rd (target_of d (op_at n rd d s)) ≡ rd (field (active_val n rd d) d) → Freed n D rd d
+    freed-settled s B made q f = by (same q (target_of d (op_at n rd d s))) refl
       where
-        by : (t : Bool) → same q (target_of d (opAt n rd d s)) ≡ t → virtual n (upd rd (field Pc d) 0) D q ≡ virtual n rd D q
+        by : (t : Bool) → same q (target_of d (op_at n rd d s)) ≡ t → virtual n (upd rd (field Pc d) 0) D q ≡ virtual n rd D q
         by true e =
-            let g : Guarded d (locks d) q = subst (Guarded d (locks d)) (sym (same_place q (target_of d (opAt n rd d s)) e))
+            let g : Guarded d (locks d) q = subst (Guarded d (locks d)) (sym (same_place q (target_of d (op_at n rd d s)) e))
             (target-guarded n rd d (locks d) s B)
             in
             freed-guarded q f g ∙ sym (virtual-settled n D rd cursor locks jumps given L d s l B made q g)
@@ -134,16 +134,16 @@ module _ (n D : ℕ) (rd : Memory) (cursor : ℕ → Cursor) (locks jumps : ℕ 
 
     module _ (k : ℕ) (short : k < 64) where
       -- at the new target stands the value that was spare
-      pub virtual-new : Guarded d (locks d) (target_of d (opAt n rd d k))
-          → virtual n (after n rd d k) D (target_of d (opAt n rd d k)) ≡ rd (field (spareVal n rd d) d)
+      pub virtual-new : Guarded d (locks d) (target_of d (op_at n rd d k))
+          → virtual n (after n rd d k) D (target_of d (op_at n rd d k)) ≡ rd (field (spare_val n rd d) d)
       virtual-new g =
-          let p = target_of d (opAt n rd d k) in
-          virtual-due n (after n rd d k) D d p p (rd (field (spareVal n rd d) d)) l (switched-entry n rd d k short) (same_refl p)
+          let p = target_of d (op_at n rd d k) in
+          virtual-due n (after n rd d k) D d p p (rd (field (spare_val n rd d) d)) l (switched-entry n rd d k short) (same_refl p)
           (λ e m h. rw (entry-others n rd d (switched n rd d k) e h) (misses-guarded n D rd cursor locks jumps given L d e l m h p g))
 
       -- and everywhere else what stood there
       pub virtual-old :
-          Freed n D rd d → (q : Place) → same q (field Pc d) ≡ false → same q (target_of d (opAt n rd d k)) ≡ false
+          Freed n D rd d → (q : Place) → same q (field Pc d) ≡ false → same q (target_of d (op_at n rd d k)) ≡ false
           → virtual n (after n rd d k) D q ≡ virtual n rd D q
       virtual-old F q f h =
           virtual-cong n (upd rd (field Pc d) 0) (after n rd d k) D q

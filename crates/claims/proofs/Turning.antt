@@ -12,10 +12,10 @@ use Rattle.image.specs.Place.{Place}
 use Rattle.image.specs.Image.{index_of, at}
 use Rattle.image.proofs.Stores.{put-none}
 use Rattle.working.specs.Cursor.{Cursor, cursor_at}
-use Rattle.plan.specs.Turn.{Outcome, stored, passed, waiting, resting, refused, turnAt}
+use Rattle.plan.specs.Turn.{Outcome, stored, passed, waiting, resting, refused, turn_at}
 use Rattle.turn.specs.Call.{leaves, outcome_at}
 use Rattle.run.specs.Run.{any_open}
-use Rattle.claims.specs.Calls.{Traced, is_pc, turnTrace, turnBy, turnedAt, refuses, round, rounds}
+use Rattle.claims.specs.Calls.{Traced, is_pc, turn_trace, turn_by, turned_at, refuses, round, rounds}
 use Rattle.claims.proofs.LiveCrashed.{live-crashed}
 use Rattle.claims.proofs.Worlds.{Running, Frozen, running-turn}
 
@@ -27,13 +27,13 @@ module _ (mark n D : ℕ) (cells : List ℕ) where
 
   pub still :
       (w : Traced) (d : ℕ) (p : Place) (v : ℕ) (c : Cursor) → w.world.left ≡ 0
-      → ((turnTrace mark n w d (stored p v c)).begun ≡ w.trace.begun) × ((turnTrace mark n w d (stored p v c)).order ≡ w.trace.order) ×
+      → ((turn_trace mark n w d (stored p v c)).begun ≡ w.trace.begun) × ((turn_trace mark n w d (stored p v c)).order ≡ w.trace.order) ×
       ((leaves n w.world d (stored p v c)).image ≡ w.world.image)
   still w d p v c e =
       let none = eq-eqb w.world.left 0 e in
       (rw (none, and-false (is_pc p)), rw (none, and-false (is_pc p)), rw e (put-none w.world.image (index_of n p) v))
 
-  pub frozen-turn : (w : Traced) (d : ℕ) (o : Outcome) → Frozen mark n D cells w → Frozen mark n D cells (turnBy mark n w d o)
+  pub frozen-turn : (w : Traced) (d : ℕ) (o : Outcome) → Frozen mark n D cells w → Frozen mark n D cells (turn_by mark n w d o)
   frozen-turn w d (stored p v c) f =
       let s = still w d p v c f.spent in
       let z = f.spent in
@@ -53,13 +53,13 @@ module _ (mark n D : ℕ) (cells : List ℕ) where
   Cutting w = Running mark n D cells w ⊎ Frozen mark n D cells w
 
   pub cutting-turn : (w : Traced) (d : ℕ) → d < D → Cutting w
-      → Cutting (turnBy mark n w d (turnAt n (at n w.world.image) d (cursor_at w.world.cursors d)))
+      → Cutting (turn_by mark n w d (turn_at n (at n w.world.image) d (cursor_at w.world.cursors d)))
   cutting-turn w d l (inl r) = by (dec_lt 0 w.world.left)
     where
-      by : Dec (0 < w.world.left) → Cutting (turnBy mark n w d (turnAt n (at n w.world.image) d (cursor_at w.world.cursors d)))
+      by : Dec (0 < w.world.left) → Cutting (turn_by mark n w d (turn_at n (at n w.world.image) d (cursor_at w.world.cursors d)))
       by (yes h) = inl (running-turn mark n D cells w d r l h)
-      by (no h) = inr (frozen-turn w d (turnAt n (at n w.world.image) d (cursor_at w.world.cursors d)) (freezes w r (omega arith)))
-  cutting-turn w d l (inr f) = inr (frozen-turn w d (turnAt n (at n w.world.image) d (cursor_at w.world.cursors d)) f)
+      by (no h) = inr (frozen-turn w d (turn_at n (at n w.world.image) d (cursor_at w.world.cursors d)) (freezes w r (omega arith)))
+  cutting-turn w d l (inr f) = inr (frozen-turn w d (turn_at n (at n w.world.image) d (cursor_at w.world.cursors d)) f)
 
   -- ---- a run is its turns
 
@@ -69,15 +69,15 @@ module _ (mark n D : ℕ) (cells : List ℕ) where
   private-round P false w v h k = k refl
 
   round_keeps :
-      (P : Traced → Type 0) → ((w : Traced) (d : ℕ) → d < D → P w → P (turnedAt mark n w d)) → (rest : Traced → Traced) → ((w : Traced) → P w → P (rest w))
+      (P : Traced → Type 0) → ((w : Traced) (d : ℕ) → d < D → P w → P (turned_at mark n w d)) → (rest : Traced → Traced) → ((w : Traced) → P w → P (rest w))
       → (k d : ℕ) (w : Traced) → d + k ≤ D → P w → P (round mark n rest w d k)
   unfolding round
   round_keeps P step rest more zero d w l h = more w h
   round_keeps P step rest more (suc k) d w l h =
       private-round P (refuses mark n (outcome_at n w.world d)) w _ h
-      (λ e. round_keeps P step rest more k (d + 1) (turnedAt mark n w d) (omega arith) (step w d (omega arith) h))
+      (λ e. round_keeps P step rest more k (d + 1) (turned_at mark n w d) (omega arith) (step w d (omega arith) h))
 
-  pub rounds-keep : (P : Traced → Type 0) → ((w : Traced) (d : ℕ) → d < D → P w → P (turnedAt mark n w d)) → (r : ℕ) (w : Traced) → P w
+  pub rounds-keep : (P : Traced → Type 0) → ((w : Traced) (d : ℕ) → d < D → P w → P (turned_at mark n w d)) → (r : ℕ) (w : Traced) → P w
       → P (rounds mark n r D w)
   unfolding rounds
   rounds-keep P step zero w h = h
@@ -87,24 +87,24 @@ module _ (mark n D : ℕ) (cells : List ℕ) where
       by true x = x
       by false x = h
 
-  pub cutting-turned : (w : Traced) (d : ℕ) → d < D → Cutting w → Cutting (turnedAt mark n w d)
-  unfolding turnedAt outcome_at
+  pub cutting-turned : (w : Traced) (d : ℕ) → d < D → Cutting w → Cutting (turned_at mark n w d)
+  unfolding turned_at outcome_at
   cutting-turned w d l h = cutting-turn w d l h
 
   -- ---- with stores to spare
 
   -- a turn takes at most one store off
-  pub takes_one : (w : Traced) (d : ℕ) (o : Outcome) → w.world.left ≤ (turnBy mark n w d o).world.left + 1
+  pub takes_one : (w : Traced) (d : ℕ) (o : Outcome) → w.world.left ≤ (turn_by mark n w d o).world.left + 1
   takes_one w d (stored p v c) = omega arith
   takes_one w d (passed why c) = omega arith
   takes_one w d (waiting b) = omega arith
   takes_one w d resting = omega arith
   takes_one w d (refused r) = omega arith
 
-  pub running-turned : (w : Traced) (d : ℕ) → d < D → 0 < w.world.left → Running mark n D cells w → Running mark n D cells (turnedAt mark n w d)
-  unfolding turnedAt outcome_at
+  pub running-turned : (w : Traced) (d : ℕ) → d < D → 0 < w.world.left → Running mark n D cells w → Running mark n D cells (turned_at mark n w d)
+  unfolding turned_at outcome_at
   running-turned w d l h r = running-turn mark n D cells w d r l h
 
-  pub turned_left : (w : Traced) (d : ℕ) → w.world.left ≤ (turnedAt mark n w d).world.left + 1
-  unfolding turnedAt
+  pub turned_left : (w : Traced) (d : ℕ) → w.world.left ≤ (turned_at mark n w d).world.left + 1
+  unfolding turned_at
   turned_left w d = takes_one w d (outcome_at n w.world d)

@@ -11,8 +11,8 @@ use native.Mathlib.Decide.{ℕ_discrete}
 use Rattle.image.specs.declared.Field.TheVariants.{Pc}
 use Rattle.image.specs.Place.{Place, field, Memory}
 use Rattle.image.specs.Inner.Same.{same}
-use Rattle.worklog.specs.Log.{activeVal}
-use Rattle.owed.specs.Owed.{target_of, namedOp}
+use Rattle.worklog.specs.Log.{active_val}
+use Rattle.owed.specs.Owed.{target_of, named_op}
 
 -- what a worker's log has: nothing under way, or a value for a place
 pub data Entry : Type 0 where
@@ -31,7 +31,7 @@ misses (due p v) q = same q p ≡ false
 
 module _ (n : ℕ) where
   unfoldable pub entry_of : Memory → ℕ → Entry
-  entry_of rd d = cond (eqb (rd (field Pc d)) 0) none (due (target_of d (namedOp n rd d)) (rd (field (activeVal n rd d) d)))
+  entry_of rd d = cond (eqb (rd (field Pc d)) 0) none (due (target_of d (named_op n rd d)) (rd (field (active_val n rd d) d)))
 
   -- the memory once the stores due to the first k workers have been made
   unfoldable pub virtual : Memory → ℕ → Memory
@@ -62,7 +62,8 @@ module _ (n : ℕ) where
 
   -- two memories whose entries do the same at q, and which have the same there, look the same there
   pub virtual-cong :
-      (rd rd' : Memory) (k : ℕ) (q : Place) → rd' q ≡ rd q → ((d : ℕ) → d < k → (x : ℕ) → over (entry_of rd' d) q x ≡ over (entry_of rd d) q x) → virtual rd' k q
+      (rd rd' : Memory) (k : ℕ) (q : Place) → rd' q ≡ rd q → ((d : ℕ) → d < k → (x : ℕ) → over (entry_of rd' d) q x ≡ over (entry_of rd d) q x)
+      → virtual rd' k q
       ≡ virtual rd k q
   unfolding virtual
   virtual-cong rd rd' zero q e h = e

@@ -11,10 +11,10 @@ use borrow.Author.Tests.{ltb-true}
 use native.Mathlib.Omega.{arith}
 use Rattle.image.specs.Image.{at}
 use Rattle.working.specs.Cursor.{cursor_at}
-use Rattle.plan.specs.Turn.{turnAt}
+use Rattle.plan.specs.Turn.{turn_at}
 use Rattle.turn.specs.Call.{outcome_at, outcome}
 use Rattle.run.specs.Run.{any_open}
-use Rattle.claims.specs.Calls.{Traced, turnBy, turnedAt, rounds, submits, turns, runs, recovers, Move, whole, cut, call, lent, move, play}
+use Rattle.claims.specs.Calls.{Traced, turn_by, turned_at, rounds, submits, turns, runs, recovers, Move, whole, cut, call, lent, move, play}
 use Rattle.claims.specs.Claims.{working, rounds_in}
 use Rattle.claims.proofs.Progress.{rank_sum-most}
 use Rattle.claims.proofs.Worlds.{Running}
@@ -54,8 +54,8 @@ module _ (mark n D : ℕ) (cells : List ℕ) where
   -- ---- a turn
 
   -- of a worker of the image
-  turned-nearer : (w : Traced) (d : ℕ) → d < D → Spare mark n D cells w → Nearer 0 w (turnedAt mark n w d)
-  unfolding turnedAt outcome_at turnAt
+  turned-nearer : (w : Traced) (d : ℕ) → d < D → Spare mark n D cells w → Nearer 0 w (turned_at mark n w d)
+  unfolding turned_at outcome_at turn_at
   turned-nearer w d l s =
       let t = spare-turn mark n D cells w d s l in
       let less = sum-turn mark n D cells w d t in
@@ -65,11 +65,11 @@ module _ (mark n D : ℕ) (cells : List ℕ) where
         closed = λ e. rw (idle-all D 0 w.world.cursors e d (omega arith) (omega arith)) e;
       }
 
-  turn-nearer : (w : Traced) (d : ℕ) → Spare mark n D cells w → Nearer 0 w (turnBy mark n w d (outcome mark n w.world d))
-  unfolding turnedAt outcome_at
+  turn-nearer : (w : Traced) (d : ℕ) → Spare mark n D cells w → Nearer 0 w (turn_by mark n w d (outcome mark n w.world d))
+  unfolding turned_at outcome_at
   turn-nearer w d s = by (ltb d D) refl
     where
-      by : (b : Bool) → ltb d D ≡ b → Nearer 0 w (turnBy mark n w d (outcome mark n w.world d))
+      by : (b : Bool) → ltb d D ≡ b → Nearer 0 w (turn_by mark n w d (outcome mark n w.world d))
       by true h = rw (outcome-below mark n D cells w d s.running.reached (ltb-true d D h)) (turned-nearer w d (ltb-true d D h) s)
       by false h = rw (outcome-above mark n D cells w d s.running.reached h) (nearer-none w s.running)
 

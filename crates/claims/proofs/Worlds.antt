@@ -18,14 +18,14 @@ use Rattle.image.proofs.Stores.{header-store, workers-store}
 use Rattle.code.specs.declared.Op.{Op}
 use Rattle.code.specs.declared.Op.TheVariants.{Acquire, Release, Assign, Jump, Finish, Unknown}
 use Rattle.working.specs.Cursor.{Cursor, cursor_at, placed}
-use Rattle.plan.specs.Turn.{Outcome, stored, passed, waiting, resting as rests, refused, turnAt}
+use Rattle.plan.specs.Turn.{Outcome, stored, passed, waiting, resting as rests, refused, turn_at}
 use Rattle.turn.specs.Call.{leaves}
 use Rattle.working.proofs.Placed.{Full, sayable}
 use Rattle.resuming.specs.Resumed.{target_turn}
 use Rattle.claims.specs.Reference.{Given, State, follow, initial}
 use Rattle.claims.specs.Events.{but}
-use Rattle.claims.specs.Calls.{Traced, recording, is_pc, jumps_by, turnTrace, turnBy}
-use Rattle.claims.proofs.Invariant.{opAt, held_at, Nearing, Phase, resting, fresh, due, unlocking, unlocked, between, ended, Live, Crashed, Mirrors}
+use Rattle.claims.specs.Calls.{Traced, recording, is_pc, jumps_by, turn_trace, turn_by}
+use Rattle.claims.proofs.Invariant.{op_at, held_at, Nearing, Phase, resting, fresh, due, unlocking, unlocked, between, ended, Live, Crashed, Mirrors}
 use Rattle.claims.proofs.Turns.{Touches, in_record, own_word, own_cell, takes, frees, Stepped, Went}
 use Rattle.claims.proofs.LiveTurn.{live-turn, but_same, but-self, live-cursors}
 use Rattle.claims.proofs.AtStore.{memory-store}
@@ -90,11 +90,11 @@ target-early Unknown = omega arith
 
 pub phase-sayable : (n : ℕ) (rd : Memory) (d : ℕ) (g : Given) (c : Cursor) (locks j : ℕ) → Phase n rd d g c locks j → sayable c
 phase-sayable n rd d g c locks j (resting k p i o) = tt
-phase-sayable n rd d g c locks j (fresh t l s h p o m) = let e = nearing-early n rd d 0 t 0 l (opAt n rd d 0) m in λ q. omega arith
-phase-sayable n rd d g c locks j (due s l k m q) = let e = target-early (opAt n rd d s) in λ r. omega arith
+phase-sayable n rd d g c locks j (fresh t l s h p o m) = let e = nearing-early n rd d 0 t 0 l (op_at n rd d 0) m in λ q. omega arith
+phase-sayable n rd d g c locks j (due s l k m q) = let e = target-early (op_at n rd d s) in λ r. omega arith
 phase-sayable n rd d g c locks j (unlocking s a l k m o w i q) = λ r. omega arith
 phase-sayable n rd d g c locks j (unlocked s a l k m o w i q) = λ r. omega arith
-phase-sayable n rd d g c locks j (between s k t l jj q m f u z o h y) = let e = nearing-early n rd d k t (held_at n rd d k) l (opAt n rd d k) y in λ r. omega
+phase-sayable n rd d g c locks j (between s k t l jj q m f u z o h y) = let e = nearing-early n rd d k t (held_at n rd d k) l (op_at n rd d k) y in λ r. omega
     arith
 phase-sayable n rd d g c locks j (ended s k p o i b q) = λ r. omega arith
 
@@ -125,7 +125,7 @@ module _ (mark n D : ℕ) (cells : List ℕ) (w : Traced) (d : ℕ) (r : Running
   turn-reached :
       (o : Outcome) → Stepped n rd d (w.trace.last d) (r.locks d) (w.trace.jumps d) o
       → Mirrored n D rd r.reached.state (w.trace.jumps d) (w.trace.last d) d o
-      → Reached mark n D cells (leaves n w.world d o).image (turnTrace mark n w d o).begun (turnTrace mark n w d o).order
+      → Reached mark n D cells (leaves n w.world d o).image (turn_trace mark n w d o).begun (turn_trace mark n w d o).order
   turn-reached (stored p v c) (l, t, ph) mi = by (is_pc p) refl
     where
       by : (b : Bool) → is_pc p ≡ b
@@ -162,8 +162,8 @@ module _ (mark n D : ℕ) (cells : List ℕ) (w : Traced) (d : ℕ) (r : Running
   -- and what a turn leaves of them
   turn-live :
       (o : Outcome) → Went n D rd (cursor_at w.world.cursors) r.locks w.trace.jumps w.trace.last d o
-      → (locks' : ℕ → ℕ) × Live n D (at n (leaves n w.world d o).image) (cursor_at (leaves n w.world d o).cursors) locks' (turnTrace mark n w d o).jumps
-      (turnTrace mark n w d o).last
+      → (locks' : ℕ → ℕ) × Live n D (at n (leaves n w.world d o).image) (cursor_at (leaves n w.world d o).cursors) locks' (turn_trace mark n w d o).jumps
+      (turn_trace mark n w d o).last
   unfolding cursor_at
   turn-live (stored p v c) (l, t, L) =
       let e = memory-store n D w.world.image (running-sized mark n D cells w r.reached) w.world.left p v
@@ -201,9 +201,9 @@ module _ (mark n D : ℕ) (cells : List ℕ) (w : Traced) (d : ℕ) (r : Running
   turn-full (refused x) = r.full
 
   -- a turn for which a store is left keeps the world running
-  pub running-turn : Running mark n D cells (turnBy mark n w d (turnAt n rd d (cursor_at w.world.cursors d)))
+  pub running-turn : Running mark n D cells (turn_by mark n w d (turn_at n rd d (cursor_at w.world.cursors d)))
   running-turn =
-      let o = turnAt n rd d (cursor_at w.world.cursors d) in
+      let o = turn_at n rd d (cursor_at w.world.cursors d) in
       let st =
       own_turn n rd d (w.trace.last d) (cursor_at w.world.cursors d) (r.locks d) (w.trace.jumps d) (r.live.phase d dl)
       (λ b l h. r.live.locked b d l dl h)

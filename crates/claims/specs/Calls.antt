@@ -115,27 +115,27 @@ module _ (mark n : ℕ) where
   step_of w d = step_no (cursor_at w.world.cursors d)
 
   -- the events of a store by worker d's turn: the turn, and what it makes of the pc
-  abbrev pub storeEvents : Traced → ℕ → Place → ℕ → List Event
-  storeEvents w d p v =
+  abbrev pub store_events : Traced → ℕ → Place → ℕ → List Event
+  store_events w d p v =
       cond (eqb w.world.left 0) [] (moved d (step_of w d) ∷ cond (is_pc p) (cond (eqb v 0) (ended d) (recorded d (step_of w d)) ∷ []) [])
 
   -- the trace after worker d's turn with an outcome; a store that is not made leaves none
-  abbrev pub turnTrace : Traced → ℕ → Outcome → Trace
-  turnTrace w d (stored p v c) =
+  abbrev pub turn_trace : Traced → ℕ → Outcome → Trace
+  turn_trace w d (stored p v c) =
       noting
       (cond (is_pc p && not (eqb w.world.left 0)) (recording w.trace d (eqb (at n w.world.image (field Pc d)) 0)) w.trace)
-      (storeEvents w d p v)
-  turnTrace w d (passed why c) = noting (passing w.trace d why) (moved d (step_of w d) ∷ [])
-  turnTrace w d (waiting b) = noting w.trace (waited d b ∷ [])
-  turnTrace w d resting = w.trace
-  turnTrace w d (refused r) = w.trace
+      (store_events w d p v)
+  turn_trace w d (passed why c) = noting (passing w.trace d why) (moved d (step_of w d) ∷ [])
+  turn_trace w d (waiting b) = noting w.trace (waited d b ∷ [])
+  turn_trace w d resting = w.trace
+  turn_trace w d (refused r) = w.trace
 
-  abbrev pub turnBy : Traced → ℕ → Outcome → Traced
-  turnBy w d o = traced (leaves n w.world d o) (turnTrace w d o)
+  abbrev pub turn_by : Traced → ℕ → Outcome → Traced
+  turn_by w d o = traced (leaves n w.world d o) (turn_trace w d o)
 
   -- worker d's turn in a run, where the header is right
-  unfoldable pub turnedAt : Traced → ℕ → Traced
-  turnedAt w d = turnBy w d (outcome_at n w.world d)
+  unfoldable pub turned_at : Traced → ℕ → Traced
+  turned_at w d = turn_by w d (outcome_at n w.world d)
 
   abbrev pub refuses : Outcome → Bool
   refuses o = is_refused (answer_of n o)
@@ -143,42 +143,42 @@ module _ (mark n : ℕ) where
   -- a turn of each of k workers from d on, and then the rest; a refused turn ends the run
   unfoldable pub round : (Traced → Traced) → Traced → ℕ → ℕ → Traced
   round rest w d zero = rest w
-  round rest w d (suc k) = cond (refuses (outcome_at n w.world d)) w (round rest (turnedAt w d) (d + 1) k)
+  round rest w d (suc k) = cond (refuses (outcome_at n w.world d)) w (round rest (turned_at w d) (d + 1) k)
 
   unfoldable pub rounds : ℕ → ℕ → Traced → Traced
   rounds zero D w = w
   rounds (suc r) D w = cond (any_open D 0 w.world.cursors) (round (rounds r D) w 0 D) w
 
-  unfoldable pub ranBy : Traced → ℕ → Traced
-  ranBy w r = cond (header_ok mark n w.world.image) (rounds r (workers w.world.image) w) w
+  unfoldable pub ran_by : Traced → ℕ → Traced
+  ran_by w r = cond (header_ok mark n w.world.image) (rounds r (workers w.world.image) w) w
 
-  abbrev pub submitTrace : Trace → Given → Submitted → Trace
-  submitTrace g x Taken = taking g x
-  submitTrace g x (Refused r) = g
+  abbrev pub submit_trace : Trace → Given → Submitted → Trace
+  submit_trace g x Taken = taking g x
+  submit_trace g x (Refused r) = g
 
-  abbrev pub recoveredBy : Traced → Recovered → Traced
-  recoveredBy w r =
+  abbrev pub recovered_by : Traced → Recovered → Traced
+  recovered_by w r =
       traced (world (recovery_leaves n w.world.left w.world.image r) (cursors_of r) (recovery_left w.world.left r)) (forgetful w.trace)
 
   unfoldable pub call : Call → Traced → Traced
   call (submits d k args ws) w =
       let answer = submit_answer mark n w.world d k ws in
-      traced (submit_leaves n w.world d k args ws answer) (submitTrace w.trace (given d k args ws) answer)
-  call (turns d) w = turnBy w d (outcome mark n w.world d)
-  call (runs r) w = ranBy w r
-  call recovers w = recoveredBy w (recovery mark n w.world.image)
+      traced (submit_leaves n w.world d k args ws answer) (submit_trace w.trace (given d k args ws) answer)
+  call (turns d) w = turn_by w d (outcome mark n w.world d)
+  call (runs r) w = ran_by w r
+  call recovers w = recovered_by w (recovery mark n w.world.image)
 
   abbrev pub lent : ℕ → Traced → Traced
   lent k w = traced (world w.world.image w.world.cursors k) w.trace
 
   -- what a cut leaves: the image; the working record is lost
-  abbrev pub afterCut : Traced → Traced
-  afterCut w = traced (world w.world.image all_idle 0) (forgetful w.trace)
+  abbrev pub after_cut : Traced → Traced
+  after_cut w = traced (world w.world.image all_idle 0) (forgetful w.trace)
 
   -- an uncut call is given more stores than any call makes
   unfoldable pub move : Move → Traced → Traced
   move (whole c) w = call c (lent (2 ^ 64 - 1) w)
-  move (cut k c) w = afterCut (call c (lent k w))
+  move (cut k c) w = after_cut (call c (lent k w))
 
   unfoldable pub play : List Move → Traced → Traced
   play [] w = w

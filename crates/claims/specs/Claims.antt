@@ -116,8 +116,8 @@ module _ (mark n : ℕ) where
   mended xs = cond (ends_cut false xs) (xs ++ (whole recovers ∷ [])) xs
 
   -- what a run of r rounds made now, and lent enough, answers
-  abbrev pub runEnd : Traced → ℕ → End
-  runEnd w r = (run_of mark n (lent mark n (2 ^ 64 - 1) w).world r).end
+  abbrev pub run_end : Traced → ℕ → End
+  run_end w r = (run_of mark n (lent mark n (2 ^ 64 - 1) w).world r).end
 
   pub record Durable (m : Image) (xs : List Move) : Type 0 where
     -- a recovery made now would be accepted
@@ -125,10 +125,10 @@ module _ (mark n : ℕ) where
     -- the image has as many workers as before; unless a cut has just come, no turn of one of them and no run would be refused
     pub as_many : workers (after m xs).world.image ≡ workers m
     pub turn-made : ends_cut false xs ≡ false → (d : ℕ) → d < workers m → refuses mark n (outcome mark n (after m xs).world d) ≡ false
-    pub run-made : ends_cut false xs ≡ false → (r : ℕ) → is_halted (runEnd (after m xs) r) ≡ false
+    pub run-made : ends_cut false xs ≡ false → (r : ℕ) → is_halted (run_end (after m xs) r) ≡ false
     -- 384 rounds for each worker, in one run or several, with any turns among them, settle it, and the last run says so
     pub settles : (ys : List Move) → working ys ≡ true → 384 * workers m ≤ rounds_in ys → Settled m (after m (mended xs ++ ys))
-    pub says-idle : (ys : List Move) (r : ℕ) → working ys ≡ true → 384 * workers m ≤ rounds_in ys + r → runEnd (after m (mended xs ++ ys)) r ≡ AllIdle
+    pub says-idle : (ys : List Move) (r : ℕ) → working ys ≡ true → 384 * workers m ≤ rounds_in ys + r → run_end (after m (mended xs ++ ys)) r ≡ AllIdle
 
   -- from any image at rest, after any list of calls and cuts with a recovery after each cut
   abbrev pub Always : (Image → List Move → Type 0) → Type 0
@@ -145,13 +145,13 @@ module _ (mark n : ℕ) where
       → Gives n (workers m) (cells_of m) (after m xs).trace.taken (after m xs).trace.order (cells_of (after m xs).world.image)
 
   -- a turn call after the other
-  unfoldable pub turnsBy : List ℕ → Traced → Traced
-  turnsBy [] w = w
-  turnsBy (d ∷ ds) w = turnsBy ds (call mark n (turns d) w)
+  unfoldable pub turns_by : List ℕ → Traced → Traced
+  turns_by [] w = w
+  turns_by (d ∷ ds) w = turns_by ds (call mark n (turns d) w)
 
   -- a run is turns, each the one that a turn call makes, in any world
   unfoldable pub RunsAreTurns : Type 0
-  RunsAreTurns = (r : ℕ) (w : Traced) → (ds : List ℕ) × (call mark n (runs r) w ≡ turnsBy ds w)
+  RunsAreTurns = (r : ℕ) (w : Traced) → (ds : List ℕ) × (call mark n (runs r) w ≡ turns_by ds w)
 
   -- demand 2, second half: for each entry of the order a block of that worker's turns, after a submit where it was idle;
   -- after each block the cells are the reference machine's, and every worker stands before the machine's next step of its section;

@@ -13,13 +13,13 @@ ghost use Rattle.intake.specs.Submit.{submit_answer, submit_leaves};
 ghost use Rattle.asking.specs.Asking.{standing_of, ask_code, finished_of};
 ghost use Rattle.turn.specs.Call.{answer_of, leaves, outcome};
 ghost use Rattle.run.specs.Run.{counting, ran, run_of};
-ghost use Rattle.run.specs.Round.{nextWorker, nextOutcome};
+ghost use Rattle.run.specs.Round.{next_worker, next_outcome};
 ghost use Rattle.needs.specs.Path.{along_of};
 ghost use Rattle.needs.specs.From.{needs_of};
 ghost use Rattle.needs.specs.Left.{left_of};
 ghost use Rattle.repair.specs.Repair.{slot_at, slot_of};
 ghost use Rattle.recovery.specs.Recovery.{recovery};
-ghost use Rattle.recovery.specs.Recover.{answer_of as recoveryAnswer, cursors_of, recovery_leaves, recovery_left};
+ghost use Rattle.recovery.specs.Recover.{answer_of as recovery_answer, cursors_of, recovery_leaves, recovery_left};
 ghost use Rattle.recovery.specs.Repairs.{repair_by};
 ghost use Rattle.edition.specs.Edition.{mark, own_words};
 
@@ -158,11 +158,11 @@ pub fn line_turn(image: &mut [u64], c: Cursors, d: usize, left: &mut u64) -> Tur
 
 // The next turn of a round, from worker d on.
 pub fn round_turn(image: &mut [u64], c: Cursors, d: usize, left: &mut u64) -> NextTurn
-    ensures worker { result.worker ≡ nextWorker mark own_words (world image.old c left.old) d }
-    ensures answer { result.answer ≡ answer_of own_words (nextOutcome mark own_words (world image.old c left.old) d) }
+    ensures worker { result.worker ≡ next_worker mark own_words (world image.old c left.old) d }
+    ensures answer { result.answer ≡ answer_of own_words (next_outcome mark own_words (world image.old c left.old) d) }
     ensures after { world image.new result.cursors left.new
         ≡ leaves own_words (world image.old c left.old) result.worker
-        (nextOutcome mark own_words (world image.old c left.old) d) }
+        (next_outcome mark own_words (world image.old c left.old) d) }
 {
     run::round::next(image, c, d, MARK, OWN, left)
 }
@@ -177,7 +177,7 @@ pub fn run(image: &mut [u64], c: Cursors, rounds: u16, left: &mut u64) -> Ran
 
 // Recovers an image after a cut.
 pub fn recover(image: &mut [u64], left: &mut u64) -> Restored
-    ensures answer { result.answer ≡ recoveryAnswer (recovery mark own_words image.old) }
+    ensures answer { result.answer ≡ recovery_answer (recovery mark own_words image.old) }
     ensures cursors { result.cursors ≡ cursors_of (recovery mark own_words image.old) }
     ensures repair { result.repair ≡ repair_by own_words image.old (recovery mark own_words image.old) }
     ensures image { image.new

@@ -99,19 +99,19 @@ module _ (n d k : ℕ) (args ws : List ℕ) where
   abbrev pub own_row : List Store
   own_row = assigns (own d) 0 (args ++ replicate (n - 8) 0)
 
-  abbrev pub stepRow : List Store
-  stepRow = assigns (step d) 0 ws
+  abbrev pub step_row : List Store
+  step_row = assigns (step d) 0 ws
 
   pub submission-stores : (left : ℕ) (m : Image)
       → put_all n left m (submission n d k args ws)
-      ≡ put (left - 1 - length own_row - length stepRow)
-      (put_all n (left - 1 - length own_row) (put_all n (left - 1) (put left m (index_of n (field Number d)) k) own_row) stepRow)
+      ≡ put (left - 1 - length own_row - length step_row)
+      (put_all n (left - 1 - length own_row) (put_all n (left - 1) (put left m (index_of n (field Number d)) k) own_row) step_row)
       (index_of n (field Count d))
       (length ws)
   unfolding submission
   submission-stores left m = simp (put_all-cons, put_all-append, put_all-nil)
 
-  pub submission-left : (left : ℕ) → left - 1 - length own_row - length stepRow - 1 ≡ left - length (submission n d k args ws)
+  pub submission-left : (left : ℕ) → left - 1 - length own_row - length step_row - 1 ≡ left - length (submission n d k args ws)
   unfolding submission
   submission-left left = simp (length-append) (omega arith)
 

@@ -20,7 +20,7 @@ use Rattle.working.specs.Cursor.{Cursor, idle, on, is_idle, cursor_at}
 use Rattle.working.specs.World.{World}
 use Rattle.working.specs.Refusal.{cause_of}
 use Rattle.edition.specs.Edition.{mark, own_words}
-use Rattle.plan.specs.Turn.{Outcome, stored, passed, waiting, resting, refused, ready, turnAt}
+use Rattle.plan.specs.Turn.{Outcome, stored, passed, waiting, resting, refused, ready, turn_at}
 use Rattle.turn.specs.Call.{outcome_at, answer_of, leaves}
 use Rattle.turn.proofs.Turns.{Made as MadeTurn, made-ready}
 use Rattle.repair.specs.declared.Repair.{Repair}
@@ -52,13 +52,13 @@ private-made (waiting b) h = tt
 private-made resting h = absurd h
 private-made (refused r) h = tt
 
-private-turn-open : (rd : Memory) (d : ℕ) (x : Cursor) → is_idle x ≡ false → private-Open (turnAt own_words rd d x)
-unfolding turnAt
+private-turn-open : (rd : Memory) (d : ℕ) (x : Cursor) → is_idle x ≡ false → private-Open (turn_at own_words rd d x)
+unfolding turn_at
 private-turn-open rd d idle e = absurd (true≢false e)
 private-turn-open rd d (on s t) e = by (ready own_words rd d s t) refl
   where
-    by : (b : Bool) → ready own_words rd d s t ≡ b → private-Open (turnAt own_words rd d (on s t))
-    by true q = private-made (turnAt own_words rd d (on s t)) (made-ready own_words rd d s t q)
+    by : (b : Bool) → ready own_words rd d s t ≡ b → private-Open (turn_at own_words rd d (on s t))
+    by true q = private-made (turn_at own_words rd d (on s t)) (made-ready own_words rd d s t q)
     by false q = rw q tt
 
 private-opens : (w : World) (d : ℕ) → is_idle (cursor_at w.cursors d) ≡ false → private-Open (outcome_at own_words w d)
@@ -71,7 +71,8 @@ module _ (more : Image → Cursors → Output) (m : Image) (c : Cursors) where
   -- is what it is from the first open one on
   private-found : (k d : ℕ) → next_open k d c < d + k
       → round_line more k d m c
-      ≡ turn_then (round_line more (d + k - (next_open k d c + 1)) (next_open k d c + 1)) m c (next_open k d c) (outcome_at own_words (uncut m c) (next_open k d c))
+      ≡ turn_then (round_line more (d + k - (next_open k d c + 1)) (next_open k d c + 1)) m c (next_open k d c)
+      (outcome_at own_words (uncut m c) (next_open k d c))
   unfolding round_line next_open
   private-found zero d h = absurd (omega arith)
   private-found (suc k) d h = by (is_idle (cursor_at c d)) refl (λ g. private-found k (d + 1) g)

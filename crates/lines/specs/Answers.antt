@@ -13,7 +13,7 @@ use Rattle.soundness.specs.declared.Answer.{Answer as Recovery}
 use Rattle.soundness.specs.declared.Answer.TheVariants.{Done, Refused as RecoveryRefused}
 use Rattle.repair.specs.declared.Slot.{Slot}
 use Rattle.repair.specs.declared.Slot.TheVariants.{Empty, Store}
-use Rattle.soundness.specs.Codes.{cause_of as recoveryCause}
+use Rattle.soundness.specs.Codes.{cause_of as recovery_cause}
 use Rattle.frames.specs.declared.Printed.{Printed}
 use Rattle.frames.specs.declared.Printed.TheVariants.{Nothing, Line}
 use Rattle.frames.specs.Print.{refusal, report}
@@ -39,7 +39,7 @@ turn_prints m (TurnRefused r) = refusal (cause_of r)
 
 abbrev pub recover_prints : Recovery → Printed
 recover_prints Done = Nothing
-recover_prints (RecoveryRefused r) = refusal (recoveryCause r)
+recover_prints (RecoveryRefused r) = refusal (recovery_cause r)
 
 abbrev pub slot_prints : Slot → Printed
 slot_prints Empty = Nothing

@@ -10,14 +10,14 @@ use Rattle.edition.specs.Edition.{mark, own_words}
 use Rattle.plan.specs.Turn.{Outcome}
 use Rattle.working.specs.World.{World, world}
 use Rattle.turn.specs.Call.{outcome, answer_of, leaves}
-use Rattle.run.specs.Round.{nextWorker, nextOutcome}
+use Rattle.run.specs.Round.{next_worker, next_outcome}
 use Rattle.intake.specs.Submit.{submit_answer, submit_leaves}
 use Rattle.repair.specs.declared.Repair.{Repair}
 use Rattle.soundness.specs.declared.Answer.{Answer as Recovery}
 use Rattle.soundness.specs.declared.Answer.TheVariants.{Done, Refused as RecoveryRefused}
 use Rattle.repair.specs.Repair.{no_repair, slot_at, slot_of}
 use Rattle.recovery.specs.Recovery.{Recovered, recovery}
-use Rattle.recovery.specs.Recover.{answer_of as recoveryAnswer, cursors_of, recovery_leaves}
+use Rattle.recovery.specs.Recover.{answer_of as recovery_answer, cursors_of, recovery_leaves}
 use Rattle.recovery.specs.Repairs.{repair_by}
 use Rattle.frames.specs.declared.Frame.{Frame}
 use Rattle.frames.specs.declared.Frame.TheVariants.{Submit, Turns, Recover, Rounds, Malformed}
@@ -103,7 +103,7 @@ print_job (RecoveryRefused r) = Next
 abbrev pub recovered : Image → Recovered → Stage
 recovered m g =
     stage (recovery_leaves own_words 18446744073709551615 m g)
-    (played (cursors_of g) (recover_prints (recoveryAnswer g)) (print_job (recoveryAnswer g)) (repair_by own_words m g) no_turn)
+    (played (cursors_of g) (recover_prints (recovery_answer g)) (print_job (recovery_answer g)) (repair_by own_words m g) no_turn)
 
 -- the store of a slot is printed; a repair has 592 slots
 unfoldable pub slot_stage : Image → Played → ℕ → Stage
@@ -145,7 +145,7 @@ unfoldable pub round_stage : Image → Played → ℕ → ℕ → Stage
 round_stage m p from zero = stage m (played p.cursors Nothing Next p.repair no_turn)
 round_stage m p from (suc r) =
     let w = uncut m p.cursors in
-    lapped_by m p.cursors from (nextWorker mark own_words w from) (suc r) p.repair (nextOutcome mark own_words w from)
+    lapped_by m p.cursors from (next_worker mark own_words w from) (suc r) p.repair (next_outcome mark own_words w from)
 
 -- ---- a line
 

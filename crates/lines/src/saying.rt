@@ -4,9 +4,9 @@ ghost use Rattle.lines.specs.Answers.{submit_prints, pass_prints, turn_prints, r
 
 use frames::Printed;
 use intake::Submitted;
-use worklog::Passing;
 use repair::Slot;
 use turn::Answer;
+use worklog::Passing;
 
 pub fn submitted(a: Submitted) -> Printed
     ensures { result ≡ submit_prints a }

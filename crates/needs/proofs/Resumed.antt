@@ -20,14 +20,14 @@ use Rattle.section.specs.declared.Verdict.TheVariants.{Pass}
 use Rattle.section.specs.Check.{Code, code_of, check, passes}
 use Rattle.section.proofs.Passing.{passed_is}
 use Rattle.worklog.specs.Log.{code_in}
-use Rattle.owed.specs.Owed.{namedStep, namedOp, owed, entryOk, covers}
-use Rattle.soundness.specs.Sound.{sectionOk, pcOk, sound}
+use Rattle.owed.specs.Owed.{named_step, named_op, owed, entry_ok, covers}
+use Rattle.soundness.specs.Sound.{section_ok, pc_ok, sound}
 use Rattle.soundness.specs.Inner.Reading.{loaded}
 use Rattle.soundness.proofs.Loaded.{first-length, first-at, first-checks}
 use Rattle.soundness.proofs.Legible.{section-passes, sound-legible}
 use Rattle.needs.specs.declared.Left.TheVariants.{Turns, Image as ImageRefused, Worker, Record}
 use Rattle.needs.specs.From.{lesser, larger, needs_by}
-use Rattle.needs.specs.Left.{resumed_turns, leftBy, left_of}
+use Rattle.needs.specs.Left.{resumed_turns, left_by, left_of}
 use Rattle.needs.specs.Inner.Pass.{Passable}
 use Rattle.needs.proofs.Unrolled.{needs-cong}
 use Rattle.needs.proofs.Pass.{passed-placed, passed-passable}
@@ -63,7 +63,7 @@ private-third : (a b c f : Bool) → (a && b && c && f) ≡ true → c ≡ true
 private-third a b c f e = and_right (a && b) c (and_left (a && b && c) f e)
 
 module _ (n : ℕ) (rd : Memory) (d : ℕ) where
-  private-inner : (i k : ℕ) (x : Op) → entryOk n rd d x ≡ true → in_place k i x ≡ true → i + 1 < k
+  private-inner : (i k : ℕ) (x : Op) → entry_ok n rd d x ≡ true → in_place k i x ≡ true → i + 1 < k
   private-inner i k (Acquire a) e p = ltb-true (i + 1) k p
   private-inner i k (Release a) e p = ltb-true (i + 1) k p
   private-inner i k (Assign a x) e p = ltb-true (i + 1) k p
@@ -71,34 +71,34 @@ module _ (n : ℕ) (rd : Memory) (d : ℕ) where
   private-inner i k Finish e p = absurd (false≢true e)
   private-inner i k Unknown e p = absurd (false≢true e)
 
-  private-parts : sound n rd d ≡ true → (sectionOk n rd d ≡ true) × (pcOk n rd d ≡ true)
+  private-parts : sound n rd d ≡ true → (section_ok n rd d ≡ true) × (pc_ok n rd d ≡ true)
   unfolding sound
   private-parts e =
-      let p = and_left (sectionOk n rd d && pcOk n rd d) (covers (rd (field Intent d)) (owed n rd d) 64) e in
-      (and_left (sectionOk n rd d) (pcOk n rd d) p, and_right (sectionOk n rd d) (pcOk n rd d) p)
+      let p = and_left (section_ok n rd d && pc_ok n rd d) (covers (rd (field Intent d)) (owed n rd d) 64) e in
+      (and_left (section_ok n rd d) (pc_ok n rd d) p, and_right (section_ok n rd d) (pc_ok n rd d) p)
 
-  private-entry : pcOk n rd d ≡ true → (rd (field Pc d) ≡ 0 → ⊥) → entryOk n rd d (namedOp n rd d) ≡ true
-  unfolding pcOk
+  private-entry : pc_ok n rd d ≡ true → (rd (field Pc d) ≡ 0 → ⊥) → entry_ok n rd d (named_op n rd d) ≡ true
+  unfolding pc_ok
   private-entry p h =
       let q = private-not (eqb (rd (field Pc d)) 0) _ _ p (ne_eqb _ 0 h) in
-      private-third (leb 1 (rd (field Pc d) % 2 ^ 63)) (ltb (namedStep n rd d) (rd (field Count d))) (entryOk n rd d (namedOp n rd d)) _ q
+      private-third (leb 1 (rd (field Pc d) % 2 ^ 63)) (ltb (named_step n rd d) (rd (field Count d))) (entry_ok n rd d (named_op n rd d)) _ q
 
   -- the section that is begun passes the check, and the step named is before its last
   pub sound-begun : sound n rd d ≡ true → (rd (field Pc d) ≡ 0 → ⊥)
-      → (check n (rd (field Count d)) (code_in n rd d) ≡ Pass) × (namedStep n rd d + 1 < rd (field Count d))
-  unfolding namedOp
+      → (check n (rd (field Count d)) (code_in n rd d) ≡ Pass) × (named_step n rd d + 1 < rd (field Count d))
+  unfolding named_op
   sound-begun e h =
       let (s, p) = private-parts e in
       let b = sound-legible n rd d e h in
-      let i = namedStep n rd d in
+      let i = named_step n rd d in
       let l : i < rd (field Count d) = b.named in
       let c = section-passes n rd d s (λ z. omega arith) in
-      (c, private-inner i (rd (field Count d)) (namedOp n rd d) (private-entry p h) (passed-placed n (rd (field Count d)) (code_in n rd d) c i l))
+      (c, private-inner i (rd (field Count d)) (named_op n rd d) (private-entry p h) (passed-placed n (rd (field Count d)) (code_in n rd d) c i l))
 
   -- the same as the code has it: `next`, the step behind the one named
   pub sound-next : (pc next : ℕ) → pc ≡ rd (field Pc d) → (pc ≡ 0 → ⊥) → next ≡ pc % 9223372036854775808 → sound n rd d ≡ true
       → (1 ≤ next) × (next < rd (field Count d)) × (rd (field Count d) ≤ 64) × (passes (check n (rd (field Count d)) (code_in n rd d)) ≡ true)
-  unfolding namedStep
+  unfolding named_step
   sound-next pc next e h after s =
       let h' : rd (field Pc d) ≡ 0 → ⊥ = λ z. h (e ∙ z) in
       let b = sound-legible n rd d s h' in
@@ -109,15 +109,15 @@ module _ (n : ℕ) (rd : Memory) (d : ℕ) where
 
   -- ---- what is left, by the pc
 
-  pub left-none : (pc : ℕ) → pc ≡ rd (field Pc d) → pc ≡ 0 → (pick : ℕ → ℕ → ℕ) → 0 ≡ leftBy n rd d pick
-  unfolding leftBy
+  pub left-none : (pc : ℕ) → pc ≡ rd (field Pc d) → pc ≡ 0 → (pick : ℕ → ℕ → ℕ) → 0 ≡ left_by n rd d pick
+  unfolding left_by
   left-none pc e z pick = rw (← e, eq-eqb pc 0 z)
 
   -- as the code works it out: `next` is the step behind the one named
   pub left-begun : (pick : ℕ → ℕ → ℕ) (pc next k w t s : ℕ) (x : Op) → pc ≡ rd (field Pc d) → (pc ≡ 0 → ⊥) → next ≡ pc % 9223372036854775808 → 1 ≤ next
       → k ≡ rd (field Count d) → w ≡ code_in n rd d (next - 1) → x ≡ op_of w → t ≡ resumed_turns x → s ≡ needs_by pick k (code_in n rd d) next
-      → t + s ≡ leftBy n rd d pick
-  unfolding leftBy namedOp namedStep
+      → t + s ≡ left_by n rd d pick
+  unfolding left_by named_op named_step
   left-begun pick pc next k w t s x e h after some count word op turns rest =
       let f : next - 1 ≡ rd (field Pc d) % 9223372036854775808 - 1 = rw (after, e) in
       let g : suc (next - 1) ≡ next = omega arith in
@@ -139,7 +139,7 @@ module _ (mark n : ℕ) (m : Image) (d : ℕ) where
     unfolding left_of
     left-record w h = rw (image, w, h)
 
-    pub left-given : ltb d (workers m) ≡ true → sound n (at n m) d ≡ true → (f t : ℕ) → f ≡ leftBy n (at n m) d lesser → t ≡ leftBy n (at n m) d larger
+    pub left-given : ltb d (workers m) ≡ true → sound n (at n m) d ≡ true → (f t : ℕ) → f ≡ left_by n (at n m) d lesser → t ≡ left_by n (at n m) d larger
         → Turns f t ≡ left_of mark n m d
     unfolding left_of
     left-given w h f t least largest = rw (image, w, h, least, largest)

@@ -20,22 +20,22 @@ use Rattle.needs.specs.Path.{turns_along, step_ok, bad_step, by_step, along_of}
 
 module _ (own n : ℕ) (code : Code) where
   -- what is answered with these turns before the steps that are left
-  abbrev pub alongFrom : ℕ → List ℕ → Along
-  alongFrom turns p = by_step (turns + turns_along code p) (bad_step own n code p)
+  abbrev pub along_from : ℕ → List ℕ → Along
+  along_from turns p = by_step (turns + turns_along code p) (bad_step own n code p)
 
-  pub along-all : (p : List ℕ) → alongFrom 0 p ≡ along_of own n code p
+  pub along-all : (p : List ℕ) → along_from 0 p ≡ along_of own n code p
   unfolding along_of
   along-all p = let e : 0 + turns_along code p ≡ turns_along code p = omega arith in rw e
 
-  private-none : (turns : ℕ) → alongFrom turns [] ≡ Turns turns
+  private-none : (turns : ℕ) → along_from turns [] ≡ Turns turns
   unfolding turns_along bad_step
   private-none turns = let e : turns + 0 ≡ turns = omega arith in rw e
 
-  private-bad : (turns i : ℕ) (p : List ℕ) → step_ok own n code i ≡ false → alongFrom turns (i ∷ p) ≡ Malformed i
+  private-bad : (turns i : ℕ) (p : List ℕ) → step_ok own n code i ≡ false → along_from turns (i ∷ p) ≡ Malformed i
   unfolding bad_step
   private-bad turns i p h = rw h
 
-  private-on : (turns i : ℕ) (p : List ℕ) → step_ok own n code i ≡ true → alongFrom turns (i ∷ p) ≡ alongFrom (turns + turns_of (code i)) p
+  private-on : (turns i : ℕ) (p : List ℕ) → step_ok own n code i ≡ true → along_from turns (i ∷ p) ≡ along_from (turns + turns_of (code i)) p
   unfolding turns_along bad_step
   private-on turns i p h =
       let e : turns + (turns_of (code i) + turns_along code p) ≡ turns + turns_of (code i) + turns_along code p = omega arith in
@@ -43,14 +43,14 @@ module _ (own n : ℕ) (code : Code) where
 
   -- step k of a path
   pub along-stops : (path : List ℕ) (turns k : ℕ) → k < length path → step_ok own n code (get_or path k 0) ≡ false
-      → alongFrom turns (drop k path) ≡ Malformed (get_or path k 0)
+      → along_from turns (drop k path) ≡ Malformed (get_or path k 0)
   along-stops path turns k l h = rw (drop-cons path k 0 l) (private-bad turns (get_or path k 0) (drop (suc k) path) h)
 
   pub along-goes : (path : List ℕ) (turns k t : ℕ) → k < length path → step_ok own n code (get_or path k 0) ≡ true → t ≡ turns_of (code (get_or path k 0))
-      → alongFrom turns (drop k path) ≡ alongFrom (turns + t) (drop (k + 1) path)
+      → along_from turns (drop k path) ≡ along_from (turns + t) (drop (k + 1) path)
   along-goes path turns k t l h e = rw (drop-cons path k 0 l, add-one k, e) (private-on turns (get_or path k 0) (drop (suc k) path) h)
 
-  pub along-ends : (path : List ℕ) (turns k : ℕ) → k ≡ length path → alongFrom turns (drop k path) ≡ Turns turns
+  pub along-ends : (path : List ℕ) (turns k : ℕ) → k ≡ length path → along_from turns (drop k path) ≡ Turns turns
   along-ends path turns k e = rw (e, drop-length path) (private-none turns)
 
   -- ---- one step

@@ -8,7 +8,7 @@ use Rattle.code.specs.declared.Op.{Op}
 use Rattle.code.specs.declared.Op.TheVariants.{Acquire, Release, Assign, Jump, Finish, Unknown}
 use Rattle.section.specs.Check.{Code}
 use Rattle.worklog.specs.Log.{code_in}
-use Rattle.owed.specs.Owed.{namedStep, namedOp}
+use Rattle.owed.specs.Owed.{named_step, named_op}
 use Rattle.soundness.specs.Sound.{sound}
 use Rattle.needs.specs.declared.Left.{Left}
 use Rattle.needs.specs.declared.Left.TheVariants.{Turns, Image as ImageRefused, Worker, Record}
@@ -30,12 +30,12 @@ needs_behind pick n code s x = resumed_turns x + needs_by pick n code (suc s)
 -- n: own words in a record
 module _ (n : ℕ) (rd : Memory) (d : ℕ) where
   -- 0 where nothing is begun
-  unfoldable pub leftBy : (ℕ → ℕ → ℕ) → ℕ
-  leftBy pick = cond (eqb (rd (field Pc d)) 0) 0 (needs_behind pick (rd (field Count d)) (code_in n rd d) (namedStep n rd d) (namedOp n rd d))
+  unfoldable pub left_by : (ℕ → ℕ → ℕ) → ℕ
+  left_by pick = cond (eqb (rd (field Pc d)) 0) 0 (needs_behind pick (rd (field Count d)) (code_in n rd d) (named_step n rd d) (named_op n rd d))
 
 -- what a question about worker d is answered: causes 10, 1, and 12 for its own record
 unfoldable pub left_of : ℕ → ℕ → Image → ℕ → Left
 left_of mark n m d =
     cond (header_ok mark n m)
-    (cond (ltb d (workers m)) (cond (sound n (at n m) d) (Turns (leftBy n (at n m) d lesser) (leftBy n (at n m) d larger)) Record) Worker)
+    (cond (ltb d (workers m)) (cond (sound n (at n m) d) (Turns (left_by n (at n m) d lesser) (left_by n (at n m) d larger)) Record) Worker)
     ImageRefused

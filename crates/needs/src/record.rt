@@ -6,7 +6,7 @@ ghost use Rattle.section.specs.Check.{check, passes};
 ghost use Rattle.worklog.specs.Log.{code_in};
 ghost use Rattle.soundness.specs.Sound.{sound};
 ghost use Rattle.needs.specs.From.{lesser, larger, fewest, most};
-ghost use Rattle.needs.specs.Left.{resumed_turns, leftBy, left_of};
+ghost use Rattle.needs.specs.Left.{resumed_turns, left_by, left_of};
 
 use crate::ahead::Span;
 use crate::{Left, ahead};
@@ -41,8 +41,8 @@ fn span_in(image: &[u64], d: usize, k: usize, from: usize, own: usize) -> Span
 // What worker d's section still needs, where its record is sound; nothing where none is begun.
 fn span_left(image: &[u64], d: usize, own: usize) -> Span
     requires { (Inside own image.now d) × (sound own (at own image.now) d ≡ true) }
-    ensures fewest { result.fewest ≡ leftBy own (at own image.now) d lesser }
-    ensures most { result.most ≡ leftBy own (at own image.now) d larger }
+    ensures fewest { result.fewest ≡ left_by own (at own image.now) d lesser }
+    ensures most { result.most ≡ left_by own (at own image.now) d larger }
 {
     let pc = image::read_field(image, Field::Pc, d, own);
     if pc == 0 {

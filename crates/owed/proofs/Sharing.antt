@@ -13,7 +13,7 @@ use Rattle.mask.specs.Mask.{has}
 use Rattle.mask.proofs.Laws.{has-none}
 use Rattle.image.specs.declared.Field.TheVariants.{Intent}
 use Rattle.image.specs.Place.{field, Memory}
-use Rattle.owed.specs.Owed.{claimants, ownerOk}
+use Rattle.owed.specs.Owed.{claimants, owner_ok}
 use Rattle.owed.specs.Inner.Shared.{shared_from}
 use Rattle.mask.proofs.Members.{has-and, has-or}
 
@@ -90,6 +90,6 @@ module _ (sets : ℕ → ℕ) (n : ℕ) where
   shared-told r e = rw e (shared-from 64 0)
 
 module _ (n : ℕ) (rd : Memory) (D : ℕ) where
-  pub owner-named : (b w : ℕ) → (w ≡ 0 → ⊥) → ownerOk n rd D b w ≡ (ltb (w - 1) D && has (rd (field Intent (w - 1))) b)
+  pub owner-named : (b w : ℕ) → (w ≡ 0 → ⊥) → owner_ok n rd D b w ≡ (ltb (w - 1) D && has (rd (field Intent (w - 1))) b)
   owner-named b zero h = absurd (h refl)
   owner-named b (suc d) h = let e : suc d - 1 ≡ d = omega arith in rw e

@@ -9,7 +9,7 @@ use Rattle.code.specs.declared.Op.{Op}
 use Rattle.code.specs.declared.Op.TheVariants.{Acquire, Release, Assign, Jump, Finish, Unknown}
 use Rattle.code.specs.Op.{op_of}
 use Rattle.section.specs.Check.{held_before}
-use Rattle.worklog.specs.Log.{operand, code_in, activeAddr, activeVal}
+use Rattle.worklog.specs.Log.{operand, code_in, active_addr, active_val}
 
 -- every lock of `small`, below b, is in `big`
 unfoldable pub covers : ℕ → ℕ → ℕ → Bool
@@ -43,38 +43,38 @@ claimants sets b (suc k) = cond (has (sets k) b) 1 0 + claimants sets b k
 module _ (n : ℕ) (rd : Memory) where
   module _ (d : ℕ) where
     -- the step that the pc names, its instruction, and the held sets before and after it
-    unfoldable pub namedStep : ℕ
-    namedStep = rd (field Pc d) % 2 ^ 63 - 1
+    unfoldable pub named_step : ℕ
+    named_step = rd (field Pc d) % 2 ^ 63 - 1
 
-    unfoldable pub namedOp : Op
-    namedOp = op_of (code_in n rd d namedStep)
+    unfoldable pub named_op : Op
+    named_op = op_of (code_in n rd d named_step)
 
-    abbrev pub heldHere : ℕ
-    heldHere = held_before (code_in n rd d) namedStep
+    abbrev pub held_here : ℕ
+    held_here = held_before (code_in n rd d) named_step
 
-    abbrev pub heldNext : ℕ
-    heldNext = held_before (code_in n rd d) (suc namedStep)
+    abbrev pub held_next : ℕ
+    held_next = held_before (code_in n rd d) (suc named_step)
 
     -- the locks that worker d is to have (document 01: the owed set)
     unfoldable pub owed : ℕ
-    owed = cond (eqb (rd (field Pc d)) 0) 0 (owed_of namedOp heldNext (rd (field Owned d)))
+    owed = cond (eqb (rd (field Pc d)) 0) 0 (owed_of named_op held_next (rd (field Owned d)))
 
     -- the active log entry is for the owned word, with this set
-    abbrev pub setLogged : ℕ → Bool
-    setLogged set = eqb (rd (field (activeAddr n rd d) d)) (index_of n (field Owned d)) && eqb (rd (field (activeVal n rd d) d)) set
+    abbrev pub set_logged : ℕ → Bool
+    set_logged set = eqb (rd (field (active_addr n rd d) d)) (index_of n (field Owned d)) && eqb (rd (field (active_val n rd d) d)) set
 
     -- the named instruction is logged, at the active entry's address; of an acquire or a release its value is the held set after it
-    abbrev pub entryOk : Op → Bool
-    entryOk (Acquire a) = setLogged heldNext
-    entryOk (Release a) = setLogged heldNext
-    entryOk (Assign a e) = eqb (rd (field (activeAddr n rd d) d)) (index_of n (operand d a))
-    entryOk (Jump a b) = false
-    entryOk Finish = false
-    entryOk Unknown = false
+    abbrev pub entry_ok : Op → Bool
+    entry_ok (Acquire a) = set_logged held_next
+    entry_ok (Release a) = set_logged held_next
+    entry_ok (Assign a e) = eqb (rd (field (active_addr n rd d) d)) (index_of n (operand d a))
+    entry_ok (Jump a b) = false
+    entry_ok Finish = false
+    entry_ok Unknown = false
 
   -- D: the number of workers
   module _ (D : ℕ) where
     -- an owner word that is not 0 names a worker that intends the lock
-    abbrev pub ownerOk : ℕ → ℕ → Bool
-    ownerOk b zero = true
-    ownerOk b (suc d) = ltb d D && has (rd (field Intent d)) b
+    abbrev pub owner_ok : ℕ → ℕ → Bool
+    owner_ok b zero = true
+    owner_ok b (suc d) = ltb d D && has (rd (field Intent d)) b

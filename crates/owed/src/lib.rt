@@ -8,7 +8,7 @@ ghost use Rattle.image.specs.Place.{lock};
 ghost use Rattle.image.specs.Image.{at, workers, length_of};
 ghost use Rattle.image.specs.Inner.Inside.{Inside};
 ghost use Rattle.code.specs.Inner.Fits.{fits};
-ghost use Rattle.owed.specs.Owed.{owed_of, covers, heldNext, setLogged, entryOk, ownerOk};
+ghost use Rattle.owed.specs.Owed.{owed_of, covers, held_next, set_logged, entry_ok, owner_ok};
 ghost use Rattle.owed.specs.Inner.Shared.{sets_in, shared_from};
 
 use code::Op;
@@ -17,7 +17,7 @@ use image::Field;
 // Whether the active entry logs a store of a set in worker d's owned word.
 fn set_logged(image: &[u64], d: usize, set: u64, own: usize) -> bool
     requires { Inside own image.now d }
-    ensures { result ≡ setLogged own (at own image.now) d set }
+    ensures { result ≡ set_logged own (at own image.now) d set }
 {
     if worklog::logged_addr(image, d, own) != image::field_index(Field::Owned, d, own) as u64 {
         return false;
@@ -27,8 +27,8 @@ fn set_logged(image: &[u64], d: usize, set: u64, own: usize) -> bool
 
 // Whether the active entry logs the store of an instruction, after which `next` is held.
 pub fn entry_ok(image: &[u64], d: usize, x: Op, next: u64, own: usize) -> bool
-    requires { (Inside own image.now d) × (fits own x) × (next ≡ heldNext own (at own image.now) d) }
-    ensures { result ≡ entryOk own (at own image.now) d x }
+    requires { (Inside own image.now d) × (fits own x) × (next ≡ held_next own (at own image.now) d) }
+    ensures { result ≡ entry_ok own (at own image.now) d x }
 {
     match x {
         Op::Acquire(_) => set_logged(image, d, next, own),
@@ -106,7 +106,7 @@ pub fn union(sets: &[u64], n: usize) -> u64
 // Whether lock b's owner word is 0 or names a worker that intends it.
 pub fn owner_ok(image: &[u64], b: u64, own: usize) -> bool
     requires { (own ≤ 64) × (workers image.now ≤ 8) × (b < 64) × (length image.now ≡ length_of own (workers image.now)) }
-    ensures { result ≡ ownerOk own (at own image.now) (workers image.now) b (at own image.now (lock b)) }
+    ensures { result ≡ owner_ok own (at own image.now) (workers image.now) b (at own image.now (lock b)) }
 {
     let w = image::read_lock(image, b);
     if w == 0 {

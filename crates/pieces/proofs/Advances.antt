@@ -54,7 +54,8 @@ settled (suc f) (suc g) more room q h k =
     by false e same = rests (suc f) more room q e ∙ sym (rests (suc g) more room q e)
 
 module _ (more : Bool) (room : ℕ) (q : Point) where
-  pub whole-goes : 22 ≤ room → ready more q ≡ true → whole more room q ≡ after (printed_by more q) (whole more (room - length (printed_by more q)) (piece more q))
+  pub whole-goes : 22 ≤ room → ready more q ≡ true
+      → whole more room q ≡ after (printed_by more q) (whole more (room - length (printed_by more q)) (piece more q))
   whole-goes h r =
       let e : (leb 22 room && ready more q) ≡ true = rw (le-leb 22 room h, r) in
       let less = piece-less more q r in

@@ -8,7 +8,7 @@ use Rattle.image.specs.Image.{Image}
 use Rattle.turn.specs.declared.Answer.{Answer}
 use Rattle.turn.specs.declared.Answer.TheVariants.{Stored, Passed, Waiting, Idle, Refused}
 use Rattle.turn.specs.Call.{outcome, answer_of}
-use Rattle.run.specs.Round.{nextOutcome}
+use Rattle.run.specs.Round.{next_outcome}
 use Rattle.edition.specs.Edition.{mark, own_words}
 use Rattle.frames.specs.declared.Printed.{Printed}
 use Rattle.lines.specs.declared.Job.{Job}
@@ -48,7 +48,7 @@ round-job-on (Refused e) from d r = refl
 round-on : (m : Image) (p : Played) (d r : ℕ) → is_stop (round_stage m p d r).played.job ≡ false
 unfolding round_stage
 round-on m p d zero = refl
-round-on m p d (suc r) = round-job-on (answer_of own_words (nextOutcome mark own_words (uncut m p.cursors) d)) d _ (suc r)
+round-on m p d (suc r) = round-job-on (answer_of own_words (next_outcome mark own_words (uncut m p.cursors) d)) d _ (suc r)
 
 slot-on : (m : Image) (p : Played) (i : ℕ) → is_stop (slot_stage m p i).played.job ≡ false
 unfolding slot_stage

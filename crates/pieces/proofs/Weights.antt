@@ -13,12 +13,12 @@ use Rattle.working.specs.declared.Cursors.{Cursors}
 use Rattle.turn.specs.Call.{outcome, answer_of}
 use Rattle.turn.specs.declared.Answer.{Answer as TurnAnswer}
 use Rattle.turn.specs.declared.Answer.TheVariants.{Stored, Passed, Waiting, Idle, Refused as TurnRefused}
-use Rattle.run.specs.Round.{nextWorker, nextOutcome}
+use Rattle.run.specs.Round.{next_worker, next_outcome}
 use Rattle.run.proofs.Next.{next-above}
 use Rattle.soundness.specs.declared.Answer.{Answer}
 use Rattle.soundness.specs.declared.Answer.TheVariants.{Done, Refused}
 use Rattle.recovery.specs.Recovery.{recovery}
-use Rattle.recovery.specs.Recover.{answer_of as recoveryAnswer}
+use Rattle.recovery.specs.Recover.{answer_of as recovery_answer}
 use Rattle.edition.specs.Edition.{mark, own_words}
 use Rattle.frames.specs.declared.Opening.{Opening}
 use Rattle.frames.specs.declared.Opening.TheVariants.{Workers, Malformed as OpeningMalformed}
@@ -45,7 +45,7 @@ print-most (Refused r) = omega arith
 begin-most : (m : Image) (c : Cursors) (l : List ℕ) (f : Frame) → times_in f ≤ 65535 → job_pieces (begin_frame m c l f).played.job ≤ 655360
 begin-most m c l (Submit d k) h = omega arith
 begin-most m c l (TurnsFrame d k) h = omega arith
-begin-most m c l Recover h = print-most (recoveryAnswer (recovery mark own_words m))
+begin-most m c l Recover h = print-most (recovery_answer (recovery mark own_words m))
 begin-most m c l (RoundsFrame r) h = omega arith
 begin-most m c l Malformed h = omega arith
 
@@ -94,7 +94,7 @@ unfolding round_stage
 round-less m p d zero = omega arith
 round-less m p d (suc r) =
     let w = uncut m p.cursors in
-    round-job-less (answer_of own_words (nextOutcome mark own_words w d)) d (nextWorker mark own_words w d) r (next-above mark own_words w d)
+    round-job-less (answer_of own_words (next_outcome mark own_words w d)) d (next_worker mark own_words w d) r (next-above mark own_words w d)
     (next-few mark own_words w d)
 
 slot-less : (m : Image) (p : Played) (i : ℕ) → job_pieces (slot_stage m p i).played.job < 592 - i + 1

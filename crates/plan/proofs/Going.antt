@@ -17,8 +17,8 @@ use Rattle.code.proofs.Ranges.{op_turns, turns-op}
 use Rattle.working.specs.Cursor.{Cursor, idle, on}
 use Rattle.worklog.specs.declared.Passing.{Passing}
 use Rattle.worklog.specs.declared.Passing.TheVariants.{Jump as PassedJump}
-use Rattle.worklog.specs.Log.{operand, code_in, second, spareAddr, spareVal}
-use Rattle.plan.specs.Turn.{Outcome, stored, passed, waiting, logged, acquireTurn, finishTurn, opTurn, ready, turnAt}
+use Rattle.worklog.specs.Log.{operand, code_in, second, spare_addr, spare_val}
+use Rattle.plan.specs.Turn.{Outcome, stored, passed, waiting, logged, acquire_turn, finish_turn, op_turn, ready, turn_at}
 use Rattle.plan.proofs.Planned.{ready-says}
 use Rattle.plan.proofs.Outcomes.{either, unlock-either}
 use Rattle.plan.proofs.Quiet.{Spares, quiet-field, quiet-lock, quiet-operand, other-field}
@@ -48,7 +48,7 @@ turns-cond s k false x y p q = q
 module _ (D n : ℕ) (rd : Memory) (d : ℕ) (h : d < D) (s : ℕ) where
   goes-logged : (k t : ℕ) (p : Place) (v : ℕ) (next : Cursor) (j : ℕ) → Spares D n p → Onward s k next → (j < 3 → t + 1 < k)
       → Goes D n d s k (logged n rd d s t p v next j)
-  unfolding spareAddr spareVal
+  unfolding spare_addr spare_val
   goes-logged k t p v next zero q u l =
       stores _ _ _ (quiet-field D n _ d h (other-field Count (second n rd d) Addr0 Addr1 refl refl)) (same_turn s k (t + 1) (l (omega arith)))
   goes-logged k t p v next (suc zero) q u l =
@@ -56,13 +56,13 @@ module _ (D n : ℕ) (rd : Memory) (d : ℕ) (h : d < D) (s : ℕ) where
   goes-logged k t p v next (suc (suc zero)) q u l = stores _ _ _ (quiet-field D n Pc d h refl) (same_turn s k (t + 1) (l (omega arith)))
   goes-logged k t p v next (suc (suc (suc j))) q u l = stores _ _ _ q u
 
-  goes-acquire : (a t : ℕ) → a < 64 → t < 6 → Goes D n d s 6 (acquireTurn n rd d a s t)
+  goes-acquire : (a t : ℕ) → a < 64 → t < 6 → Goes D n d s 6 (acquire_turn n rd d a s t)
   goes-acquire a zero f l = stores _ _ _ (quiet-field D n Intent d h refl) (same_turn s 6 1 (omega arith))
   goes-acquire a (suc zero) f l =
       either (Goes D n d s 6) (eqb (rd (lock a)) 0) _ _ (λ e. stores _ _ _ (quiet-lock D n a f) (same_turn s 6 2 (omega arith))) (λ e. waits a)
   goes-acquire a (suc (suc j)) f l = goes-logged 6 (suc (suc j)) _ _ _ j (quiet-field D n Owned d h refl) (first-turn s 6 (s + 1)) (λ m. omega arith)
 
-  goes-release : (a t : ℕ) → a < 64 → t < 6 → Goes D n d s 6 (opTurn n rd d s t (Release a))
+  goes-release : (a t : ℕ) → a < 64 → t < 6 → Goes D n d s 6 (op_turn n rd d s t (Release a))
   goes-release a t f l =
       either (Goes D n d s 6) (ltb t 4) _ _
       (λ e. goes-logged 6 t _ _ _ t (quiet-field D n Owned d h refl) (same_turn s 6 4 (omega arith)) (λ m. omega arith))
@@ -71,12 +71,12 @@ module _ (D n : ℕ) (rd : Memory) (d : ℕ) (h : d < D) (s : ℕ) where
       (λ why. passes why _ (same_turn s 6 5 (omega arith))))
       (λ g. stores _ _ _ (quiet-field D n Intent d h refl) (first-turn s 6 (s + 1))))
 
-  goes-finish : (t : ℕ) → t < 3 → Goes D n d s 3 (finishTurn n rd d s t)
+  goes-finish : (t : ℕ) → t < 3 → Goes D n d s 3 (finish_turn n rd d s t)
   goes-finish zero l = stores _ _ _ (quiet-field D n Finished d h refl) (same_turn s 3 1 (omega arith))
   goes-finish (suc zero) l = stores _ _ _ (quiet-field D n Pc d h refl) (same_turn s 3 2 (omega arith))
   goes-finish (suc (suc t)) l = ends 0
 
-  goes-op : (x : Op) (t : ℕ) → fits n x → t < op_turns x → Goes D n d s (op_turns x) (opTurn n rd d s t x)
+  goes-op : (x : Op) (t : ℕ) → fits n x → t < op_turns x → Goes D n d s (op_turns x) (op_turn n rd d s t x)
   goes-op (Acquire a) t f l = goes-acquire a t f l
   goes-op (Release a) t f l = goes-release a t f l
   goes-op (Assign a e) t f l = goes-logged 4 t _ _ _ t (quiet-operand D n d a h f.0) (first-turn s 4 (s + 1)) (λ m. omega arith)
@@ -85,8 +85,8 @@ module _ (D n : ℕ) (rd : Memory) (d : ℕ) (h : d < D) (s : ℕ) where
   goes-op Unknown t f l = absurd f
 
   -- a turn that is ready
-  pub goes-ready : (t : ℕ) → ready n rd d s t ≡ true → Goes D n d s (turns_of (code_in n rd d s)) (turnAt n rd d (on s t))
-  unfolding turnAt
+  pub goes-ready : (t : ℕ) → ready n rd d s t ≡ true → Goes D n d s (turns_of (code_in n rd d s)) (turn_at n rd d (on s t))
+  unfolding turn_at
   goes-ready t e =
       let x = op_of (code_in n rd d s) in
       let k = turns-op (code_in n rd d s) x refl in

@@ -12,7 +12,7 @@ use Rattle.working.specs.Cursor.{on}
 use Rattle.plan.specs.declared.Report.{Report}
 use Rattle.plan.specs.declared.Report.TheVariants.{Freed, AlreadyFree, Others}
 use Rattle.plan.specs.Report.{report_of}
-use Rattle.plan.specs.Turn.{Outcome, stored, passed, unlockBy, unlockTurn}
+use Rattle.plan.specs.Turn.{Outcome, stored, passed, unlock_by, unlock_turn}
 
 pub either : (P : Outcome → Type 0) (b : Bool) (x y : Outcome) → (b ≡ true → P x) → (b ≡ false → P y) → P (cond b x y)
 either P true x y p q = p refl
@@ -38,10 +38,10 @@ module _ (d word : ℕ) where
 
 pub unlock-either :
     (n : ℕ) (rd : Memory) (d a s : ℕ) (P : Outcome → Type 0) → P (stored (lock a) 0 (on s 5)) → ((why : Passing) → P (passed why (on s 5)))
-    → P (unlockTurn n rd d a s)
+    → P (unlock_turn n rd d a s)
 unlock-either n rd d a s P frees passes = by (report_of d (rd (lock a)))
   where
-    by : (r : Report) → P (unlockBy n rd d a s r)
+    by : (r : Report) → P (unlock_by n rd d a s r)
     by Freed = frees
     by AlreadyFree = passes _
     by Others = passes _

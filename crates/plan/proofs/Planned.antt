@@ -21,7 +21,7 @@ use Rattle.code.proofs.Ranges.{formed-range, in-range, turns-most}
 use Rattle.working.specs.Cursor.{idle, on}
 use Rattle.worklog.specs.Log.{operand, code_in}
 use Rattle.worklog.specs.declared.Plan.TheVariants.{Store}
-use Rattle.plan.specs.Turn.{stored, logged, acquireTurn, finishTurn, opTurn, ready, turnAt}
+use Rattle.plan.specs.Turn.{stored, logged, acquire_turn, finish_turn, op_turn, ready, turn_at}
 use Rattle.worklog.specs.Inner.Logged.{logged_plan}
 use Rattle.plan.specs.Inner.Plan.{store_plan, plan_of}
 
@@ -63,13 +63,13 @@ module _ (n : ℕ) (rd : Memory) (d s t : ℕ) where
 module _ (n : ℕ) (rd : Memory) (d s : ℕ) where
   -- an acquire from turn 2 on
   pub acquire-plan : (a t : ℕ) → t ≢ 0 → t ≢ 1
-      → plan_of n (acquireTurn n rd d a s t) ≡ logged_plan n rd d s t (index_of n (field Owned d)) (with (rd (field Owned d)) a) (s + 1) 0 (t - 2)
+      → plan_of n (acquire_turn n rd d a s t) ≡ logged_plan n rd d s t (index_of n (field Owned d)) (with (rd (field Owned d)) a) (s + 1) 0 (t - 2)
   acquire-plan a zero x y = absurd (x refl)
   acquire-plan a (suc zero) x y = absurd (y refl)
   acquire-plan a (suc (suc t)) x y = let e : suc (suc t) - 2 ≡ t = omega arith in rw e (logged-plan n rd d s _ _ _ _ _ t (field-indexed n Owned d))
 
   -- a finish from turn 2 on
-  pub finish-last : (t : ℕ) → t ≢ 0 → t ≢ 1 → finishTurn n rd d s t ≡ stored (field Count d) 0 idle
+  pub finish-last : (t : ℕ) → t ≢ 0 → t ≢ 1 → finish_turn n rd d s t ≡ stored (field Count d) 0 idle
   finish-last zero x y = absurd (x refl)
   finish-last (suc zero) x y = absurd (y refl)
   finish-last (suc (suc t)) x y = refl
@@ -119,6 +119,6 @@ module _ (n : ℕ) (rd : Memory) (d s t w : ℕ) (x : Op) (e : ready n rd d s t 
   ready-fits = let r = ready-says n rd d s t e in (rw (← g, f) r.form, r.step, r.turn)
 
   -- its turn is the instruction's
-  pub ready-op : turnAt n rd d (on s t) ≡ opTurn n rd d s t x
-  unfolding turnAt
+  pub ready-op : turn_at n rd d (on s t) ≡ op_turn n rd d s t x
+  unfolding turn_at
   ready-op = rw (e, ← f, g)

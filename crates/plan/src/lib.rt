@@ -8,7 +8,7 @@ ghost use Rattle.std.specs.Prelude.{◌≡◌, true};
 ghost use Rattle.image.specs.Image.{at};
 ghost use Rattle.image.specs.Inner.Inside.{Inside};
 ghost use Rattle.working.specs.Cursor.{on};
-ghost use Rattle.plan.specs.Turn.{ready, turnAt};
+ghost use Rattle.plan.specs.Turn.{ready, turn_at};
 ghost use Rattle.plan.specs.Inner.Plan.{plan_of};
 
 use image::Field;
@@ -47,7 +47,7 @@ pub fn ready(image: &[u64], d: usize, own: usize, s: u8, t: u8) -> bool
 // What worker d's turn is to do at step s, turn t, which is ready.
 pub fn next(image: &[u64], d: usize, own: usize, s: u8, t: u8) -> Plan
     requires { (Inside own image.now d) × (ready own (at own image.now) d s t ≡ true) }
-    ensures { result ≡ plan_of own (turnAt own (at own image.now) d (on s t)) }
+    ensures { result ≡ plan_of own (turn_at own (at own image.now) d (on s t)) }
 {
     let w = image::read_step(image, d, s as usize, own);
     steps::op_turn(image, d, own, s, t, code::op_of(w))

@@ -3,7 +3,7 @@ ghost use Rattle.std.specs.Prelude.{◌≡◌, ℕ, ◌+◌, ◌<◌, ◌≤◌}
 ghost use Rattle.image.specs.Image.{at};
 ghost use Rattle.image.specs.Inner.Inside.{Inside};
 ghost use Rattle.code.specs.Inner.Fits.{ranged, fits};
-ghost use Rattle.plan.specs.Turn.{lockTurn, acquireTurn, unlockTurn, releaseTurn, finishTurn, opTurn};
+ghost use Rattle.plan.specs.Turn.{lock_turn, acquire_turn, unlock_turn, release_turn, finish_turn, op_turn};
 ghost use Rattle.plan.specs.Report.{report_of};
 ghost use Rattle.plan.specs.Inner.Plan.{plan_of};
 
@@ -15,7 +15,7 @@ use worklog::{Passing, Plan, words};
 // An acquire's turn 1: the lock is taken where it is free.
 fn lock_turn(image: &[u64], d: usize, own: usize, a: u64, s: u8) -> Plan
     requires { (Inside own image.now d) × (a < 64) }
-    ensures { result ≡ plan_of own (lockTurn own (at own image.now) d a s) }
+    ensures { result ≡ plan_of own (lock_turn own (at own image.now) d a s) }
 {
     if image::read_lock(image, a) != 0 {
         return Plan::Wait(a);
@@ -30,7 +30,7 @@ fn lock_turn(image: &[u64], d: usize, own: usize, a: u64, s: u8) -> Plan
 
 pub fn acquire_turn(image: &[u64], d: usize, own: usize, a: u64, s: u8, t: u8) -> Plan
     requires { (Inside own image.now d) × (a < 64) × (s < 64) × (t < 6) }
-    ensures { result ≡ plan_of own (acquireTurn own (at own image.now) d a s t) }
+    ensures { result ≡ plan_of own (acquire_turn own (at own image.now) d a s t) }
 {
     if t == 0 {
         return Plan::Store {
@@ -64,7 +64,7 @@ pub fn report(word: u64, d: usize) -> Report
 // A release's turn 4, by the report.
 fn unlock_turn(image: &[u64], d: usize, own: usize, a: u64, s: u8) -> Plan
     requires { (Inside own image.now d) × (a < 64) }
-    ensures { result ≡ plan_of own (unlockTurn own (at own image.now) d a s) }
+    ensures { result ≡ plan_of own (unlock_turn own (at own image.now) d a s) }
 {
     match report(image::read_lock(image, a), d) {
         Report::Freed => Plan::Free {
@@ -88,7 +88,7 @@ fn unlock_turn(image: &[u64], d: usize, own: usize, a: u64, s: u8) -> Plan
 // A release's turns 0 to 3: the owned mask without the lock, in a logged store.
 pub fn disown_turn(image: &[u64], d: usize, own: usize, a: u64, s: u8, t: u8) -> Plan
     requires { (Inside own image.now d) × (a < 64) × (s < 64) × (t < 4) }
-    ensures { result ≡ plan_of own (releaseTurn own (at own image.now) d a s t) }
+    ensures { result ≡ plan_of own (release_turn own (at own image.now) d a s t) }
 {
     let at = image::field_index(Field::Owned, d, own);
     let v = mask::without(image::read_field(image, Field::Owned, d, own), a);
@@ -98,7 +98,7 @@ pub fn disown_turn(image: &[u64], d: usize, own: usize, a: u64, s: u8, t: u8) ->
 // A release's turns 4 and 5: the lock's owner word, then the intent.
 pub fn give_turn(image: &[u64], d: usize, own: usize, a: u64, s: u8, t: u8) -> Plan
     requires { (Inside own image.now d) × (a < 64) × (s < 64) × (4 ≤ t) × (t < 6) }
-    ensures { result ≡ plan_of own (releaseTurn own (at own image.now) d a s t) }
+    ensures { result ≡ plan_of own (release_turn own (at own image.now) d a s t) }
 {
     if t == 4 {
         return unlock_turn(image, d, own, a, s);
@@ -114,7 +114,7 @@ pub fn give_turn(image: &[u64], d: usize, own: usize, a: u64, s: u8, t: u8) -> P
 // The expression is worked out in the turn that stores its value, and in no other.
 pub fn assign_turn(image: &[u64], d: usize, own: usize, a: u64, e: Expr, s: u8, t: u8) -> Plan
     requires { (Inside own image.now d) × (a < 512 + own) × ranged own e × (s < 64) × (t < 6) }
-    ensures { result ≡ plan_of own (opTurn own (at own image.now) d s t (Op.Assign a e)) }
+    ensures { result ≡ plan_of own (op_turn own (at own image.now) d s t (Op.Assign a e)) }
 {
     let target = words::operand_index(d, a, own);
     if t == 1 {
@@ -126,7 +126,7 @@ pub fn assign_turn(image: &[u64], d: usize, own: usize, a: u64, e: Expr, s: u8, 
 
 pub fn jump_turn(image: &[u64], d: usize, own: usize, a: u64, b: u64, s: u8) -> Plan
     requires { (Inside own image.now d) × (a < 512 + own) × (b < 64) × (s < 64) }
-    ensures { (t : ℕ) → result ≡ plan_of own (opTurn own (at own image.now) d s t (Op.Jump a b)) }
+    ensures { (t : ℕ) → result ≡ plan_of own (op_turn own (at own image.now) d s t (Op.Jump a b)) }
 {
     if words::word(image, d, a, own) == 0 {
         return Plan::Pass {
@@ -144,7 +144,7 @@ pub fn jump_turn(image: &[u64], d: usize, own: usize, a: u64, b: u64, s: u8) -> 
 
 pub fn finish_turn(image: &[u64], d: usize, own: usize, s: u8, t: u8) -> Plan
     requires { Inside own image.now d }
-    ensures { result ≡ plan_of own (finishTurn own (at own image.now) d s t) }
+    ensures { result ≡ plan_of own (finish_turn own (at own image.now) d s t) }
 {
     if t == 0 {
         return Plan::Store {
@@ -173,7 +173,7 @@ pub fn finish_turn(image: &[u64], d: usize, own: usize, s: u8, t: u8) -> Plan
 // The turn of an instruction whose operands are in their ranges.
 pub fn op_turn(image: &[u64], d: usize, own: usize, s: u8, t: u8, x: Op) -> Plan
     requires { (Inside own image.now d) × fits own x × (s < 64) × (t < 6) }
-    ensures { result ≡ plan_of own (opTurn own (at own image.now) d s t x) }
+    ensures { result ≡ plan_of own (op_turn own (at own image.now) d s t x) }
 {
     match x {
         Op::Acquire(a) => acquire_turn(image, d, own, a, s, t),

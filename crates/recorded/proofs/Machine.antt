@@ -125,7 +125,8 @@ legal-both b (cut k c ∷ xs) ys h i =
 -- ---- of all lines
 
 -- what holds of no calls, and of a frame's before others of which it holds
-by_lines : (P : List Move → Type 0) → P [] → ((l : List ℕ) (xs : List Move) → P xs → P (frame_moves l (frame_of l) ++ xs)) → (ls : List (List ℕ)) → P (moves_of ls)
+by_lines : (P : List Move → Type 0) → P [] → ((l : List ℕ) (xs : List Move) → P xs → P (frame_moves l (frame_of l) ++ xs))
+    → (ls : List (List ℕ)) → P (moves_of ls)
 unfolding moves_of
 by_lines P none more [] = none
 by_lines P none more (l ∷ ls) = by (is_malformed (frame_of l)) (more l (moves_of ls) (by_lines P none more ls))

@@ -13,7 +13,7 @@ use Rattle.recovery.specs.Recovery.{Recovered, accepted, rejected, recovery}
 use Rattle.recovery.specs.Recover.{recovery_leaves}
 use Rattle.frames.specs.Line.{arguments_of, steps_part, words_of}
 use Rattle.claims.specs.Reference.{given}
-use Rattle.claims.specs.Calls.{Traced, traced, submitTrace, submits, recovers, whole, cut, call, move, play}
+use Rattle.claims.specs.Calls.{Traced, traced, submit_trace, submits, recovers, whole, cut, call, move, play}
 use Rattle.lines.specs.Play.{uncut, submitted, submit_stage}
 use Rattle.lines.specs.Whole.{Took}
 use Rattle.stages.specs.Lines.{submit_whole, recover_whole}
@@ -51,7 +51,7 @@ module _ (w : Traced) (ts : List Took) (g : Good ts w) where
 module _ (w : Traced) (ts : List Took) (d k : ℕ) (args ws : List ℕ) (g : Good ts w) where
   answer-played : (a : Submitted)
       → Ends ts (submit_whole (submitted (submit_leaves own_words (uncut w.world.image w.world.cursors) d k args ws a) a))
-      (traced (submit_leaves own_words (all-lent w).world d k args ws a) (submitTrace mark own_words w.trace (given d k args ws) a))
+      (traced (submit_leaves own_words (all-lent w).world d k args ws a) (submit_trace mark own_words w.trace (given d k args ws) a))
   answer-played Taken =
       record {
         image = refl;

@@ -19,7 +19,7 @@ use Rattle.turn.specs.declared.Answer.TheVariants.{Stored, Passed, Waiting, Idle
 use Rattle.turn.specs.Call.{answer_of}
 use Rattle.claims.specs.Reference.{Given}
 use Rattle.claims.specs.Events.{Event, taken, moved, waited, recorded, ended, lost}
-use Rattle.claims.specs.Calls.{Traced, Trace, recording, is_pc, step_of, turnTrace}
+use Rattle.claims.specs.Calls.{Traced, Trace, recording, is_pc, step_of, turn_trace}
 use Rattle.lines.specs.Whole.{Took, took}
 use Rattle.sums.specs.Sums.{wait_on, wait_of, move_of, count}
 use Rattle.sums.proofs.Numbers.{count-append}
@@ -107,7 +107,7 @@ recording-events false starts g d = refl
 
 -- behind other turns
 module _ (w : Traced) (d : ℕ) (ts : List Took) (some_left : 0 < w.world.left) (t : Told ts w.trace.events) where
-  pub told-turn : (o : Outcome) → Told (ts ++ (took d (answer_of own_words o) ∷ [])) (turnTrace mark own_words w d o).events
+  pub told-turn : (o : Outcome) → Told (ts ++ (took d (answer_of own_words o) ∷ [])) (turn_trace mark own_words w d o).events
   told-turn (stored p v c) =
       let starts = eqb (at own_words w.world.image (field Pc d)) 0 in
       let none : eqb w.world.left 0 ≡ false = ne_eqb w.world.left 0 (λ q. omega arith) in

@@ -13,7 +13,7 @@ use Rattle.working.specs.declared.Cursors.{Cursors}
 use Rattle.edition.specs.Edition.{mark, own_words}
 use Rattle.plan.specs.Turn.{Outcome, stored, passed, waiting, resting, refused}
 use Rattle.turn.specs.Call.{answer_of, leaves, outcome, outcome_at}
-use Rattle.claims.specs.Calls.{Traced, turnBy, refuses, turns, whole, call, lent, move, play}
+use Rattle.claims.specs.Calls.{Traced, turn_by, refuses, turns, whole, call, lent, move, play}
 use Rattle.frames.specs.declared.Printed.{Printed}
 use Rattle.lines.specs.Answers.{turn_prints}
 use Rattle.lines.specs.Play.{uncut}
@@ -47,7 +47,7 @@ module _ (w : Traced) (d : ℕ) (some_left : 0 < w.world.left) where
   turn-header resting h = h
   turn-header (refused r) h = h
 
-  turn-good : (ts : List Took) (o : Outcome) → Good ts w → Good (ts ++ (took d (answer_of own_words o) ∷ [])) (turnBy mark own_words w d o)
+  turn-good : (ts : List Took) (o : Outcome) → Good ts w → Good (ts ++ (took d (answer_of own_words o) ∷ [])) (turn_by mark own_words w d o)
   turn-good ts o g = record { header = turn-header o g.header; told = told-turn w d ts some_left g.told o }
 
   pub same-image : (o : Outcome) → (leaves own_words (uncut w.world.image w.world.cursors) d o).image ≡ (leaves own_words w.world d o).image
@@ -69,8 +69,8 @@ module _ (w : Traced) (d : ℕ) (some_left : 0 < w.world.left) where
   -- a turn and what follows it, or where it is refused what stands there
   pub turn-then : (ts : List Took) (more : Image → Cursors → Output) (stop next : Traced) (o : Outcome) → Good ts w
       → (refuses mark own_words o ≡ true → (ps : List Printed) → Ends ts (output ps [] w.world.image w.world.cursors) stop)
-      → ((us : List Took) → Good us (turnBy mark own_words w d o)
-      → Ends us (more (turnBy mark own_words w d o).world.image (turnBy mark own_words w d o).world.cursors) next)
+      → ((us : List Took) → Good us (turn_by mark own_words w d o)
+      → Ends us (more (turn_by mark own_words w d o).world.image (turn_by mark own_words w d o).world.cursors) next)
       → Ends ts (turn_then more w.world.image w.world.cursors d o) (cond (refuses mark own_words o) stop next)
   turn-then ts more stop next o g stops goes = by (refuses mark own_words o) refl
     where
@@ -86,7 +86,7 @@ module _ (w : Traced) (d : ℕ) (some_left : 0 < w.world.left) where
 -- ---- turns of worker d
 
 -- a refused turn leaves everything
-refused-still : (w : Traced) (d : ℕ) (o : Outcome) → refuses mark own_words o ≡ true → turnBy mark own_words w d o ≡ w
+refused-still : (w : Traced) (d : ℕ) (o : Outcome) → refuses mark own_words o ≡ true → turn_by mark own_words w d o ≡ w
 refused-still w d (stored p v c) e = absurd (false≢true e)
 refused-still w d (passed why c) e = absurd (false≢true e)
 refused-still w d (waiting b) e = absurd (false≢true e)
@@ -120,7 +120,7 @@ module _ (d : ℕ) where
   turns-played zero w ts g = ends-here ts [] w g
   turns-played (suc k) w ts g =
       let o = outcome mark own_words (all-lent w).world d in
-      let v = turnBy mark own_words (all-lent w) d o in
+      let v = turn_by mark own_words (all-lent w) d o in
       let next = play mark own_words (replicate k (whole (turns d))) v in
       subst (λ (x : Traced). Ends ts (turns_line (suc k) w.world.image w.world.cursors d) x) (either (refuses mark own_words o) next)
       (turn-then (all-lent w) d (omega arith) ts (λ m' c'. turns_line k m' c' d) next next o (good-lent ts w g)

@@ -30,7 +30,7 @@ use Rattle.working.specs.declared.Refusal.TheVariants.{Worker, Busy, Number as N
 use Rattle.intake.specs.Submit.{verdict_answer, free, submit_answer}
 use Rattle.worklog.specs.declared.Passing.{Passing}
 use Rattle.worklog.specs.declared.Passing.TheVariants.{Jump, AlreadyFree, Others}
-use Rattle.plan.specs.Turn.{Outcome, stored, passed, waiting, resting, refused, turnAt}
+use Rattle.plan.specs.Turn.{Outcome, stored, passed, waiting, resting, refused, turn_at}
 use Rattle.turn.specs.declared.Answer.TheVariants.{Passed}
 use Rattle.turn.specs.Call.{answer_of, is_refused, leaves, outcome, outcome_at}
 use Rattle.run.specs.Run.{any_open}
@@ -47,7 +47,7 @@ use Rattle.frames.specs.Line.{first_of, frame_of, steps_part, words_of}
 use Rattle.frames.specs.Print.{refusal}
 use Rattle.frames.proofs.Frames.{times_in, times-most}
 use Rattle.buffers.specs.Input.{lines_of}
-use Rattle.claims.specs.Calls.{Traced, turnBy, turnedAt, play, from}
+use Rattle.claims.specs.Calls.{Traced, turn_by, turned_at, play, from}
 use Rattle.claims.proofs.Turns.{Stepped}
 use Rattle.claims.proofs.Worlds.{Running, running-turn, few, touches-valid}
 use Rattle.claims.proofs.Settling.{steps}
@@ -167,7 +167,7 @@ module _ (D : ℕ) (cells : List ℕ) where
   turned_clear : (w : Traced) (d : ℕ) → Runs w → d < D → (m : Image) → Clear (turn_prints m (answer_of own_words (outcome_at own_words w.world d)))
   unfolding outcome_at
   turned_clear w d r dl m =
-      by (turnAt own_words (at own_words w.world.image) d (cursor_at w.world.cursors d)) (steps mark own_words D cells w d r dl)
+      by (turn_at own_words (at own_words w.world.image) d (cursor_at w.world.cursors d)) (steps mark own_words D cells w d r dl)
     where
       by : (o : Outcome) → Stepped own_words (at own_words w.world.image) d (w.trace.last d) (r.locks d) (w.trace.jumps d) o
           → Clear (turn_prints m (answer_of own_words o))
@@ -198,7 +198,7 @@ module _ (D : ℕ) (cells : List ℕ) where
       let o = outcome mark own_words v.world d in
       let x = running-lent mark own_words D cells _ w r in
       then-clear (λ m c. turns_line k m c d) w.world.image w.world.cursors d o (any-clear v d x)
-      (turns-clear k d (turnBy mark own_words v d o) (turn-whole mark own_words D cells v d x (omega arith)))
+      (turns-clear k d (turn_by mark own_words v d o) (turn-whole mark own_words D cells v d x (omega arith)))
 
   -- ---- 04
 
@@ -207,11 +207,11 @@ module _ (D : ℕ) (cells : List ℕ) where
       (goes : (w : Traced) → need ≤ w.world.left → Runs w → AllClear (more w.world.image w.world.cursors)) where
     round-clear : (k d : ℕ) → d + k ≤ D → (w : Traced) → need + k ≤ w.world.left → Runs w
         → AllClear (round_line more k d w.world.image w.world.cursors)
-    unfolding round_line turnedAt outcome_at
+    unfolding round_line turned_at outcome_at
     round-clear zero d l w h r = goes w (omega arith) r
     round-clear (suc k) d l w h r =
         let o = outcome_at own_words w.world d in
-        let v = turnedAt mark own_words w d in
+        let v = turned_at mark own_words w d in
         either-clear (is_idle (cursor_at w.world.cursors d)) _ _
         (round-clear k (d + 1) (omega arith) w (omega arith) r)
         (then-clear (round_line more k (d + 1)) w.world.image w.world.cursors d o (turned_clear w d r (omega arith))

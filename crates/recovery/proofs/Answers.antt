@@ -15,9 +15,9 @@ use Rattle.working.specs.declared.Cursors.{Cursors}
 use Rattle.working.specs.Cursor.{all_idle}
 use Rattle.soundness.specs.declared.Refusal.TheVariants.{Image as ImageRefused, Record, Lock}
 use Rattle.soundness.specs.declared.Answer.TheVariants.{Refused}
-use Rattle.resuming.specs.Resumed.{resumedAll}
+use Rattle.resuming.specs.Resumed.{resumed_all}
 use Rattle.repair.specs.Plan.{rows, plan}
-use Rattle.soundness.specs.Sound.{eight, unsound, badLock, owed_at}
+use Rattle.soundness.specs.Sound.{eight, unsound, bad_lock, owed_at}
 use Rattle.recovery.specs.Recovery.{Recovered, accepted, rejected, by_first, recovery}
 use Rattle.soundness.specs.Inner.Reading.{Restorable}
 use Rattle.repair.specs.Repair.{no_repair, slot_at}
@@ -48,10 +48,10 @@ module _ (mark n : ℕ) (m : Image) where
   Unsound = unsound n (at n m) (workers m) 0 (workers m)
 
   abbrev Bad : List ℕ
-  Bad = badLock n (at n m) (workers m) 0 64
+  Bad = bad_lock n (at n m) (workers m) 0 64
 
   abbrev Good : Recovered
-  Good = accepted (plan n (at n m) (workers m)) (resumedAll n (at n m) (workers m))
+  Good = accepted (plan n (at n m) (workers m)) (resumed_all n (at n m) (workers m))
 
   pub by-header : header_ok mark n m ≡ false → Refused ImageRefused ≡ answer_of (recovery mark n m)
   unfolding recovery
@@ -63,7 +63,7 @@ module _ (mark n : ℕ) (m : Image) where
 
   pub by-lock : header_ok mark n m ≡ true → Unsound ≡ [] → by_lock Bad ≡ answer_of (recovery mark n m)
   unfolding recovery
-  by-lock h e = rw (h, e) (lock-found (plan n (at n m) (workers m)) (resumedAll n (at n m) (workers m)) Bad)
+  by-lock h e = rw (h, e) (lock-found (plan n (at n m) (workers m)) (resumed_all n (at n m) (workers m)) Bad)
 
   -- ---- what an answer says
 

@@ -5,8 +5,8 @@ use Rattle.image.specs.Image.{Image, at, workers, header_ok}
 use Rattle.working.specs.declared.Cursors.{Cursors}
 use Rattle.soundness.specs.declared.Refusal.{Refusal}
 use Rattle.soundness.specs.declared.Refusal.TheVariants.{Image as ImageRefused, Record, Lock}
-use Rattle.soundness.specs.Sound.{unsound, badLock}
-use Rattle.resuming.specs.Resumed.{resumedAll}
+use Rattle.soundness.specs.Sound.{unsound, bad_lock}
+use Rattle.resuming.specs.Resumed.{resumed_all}
 use Rattle.repair.specs.Plan.{plan}
 
 -- what a recovery answers: its stores and cursors, or the refusal (10; 12 by worker; 13 by lowest lock)
@@ -23,6 +23,6 @@ unfoldable pub recovery : ℕ → ℕ → Image → Recovered
 recovery mark n m =
     cond (header_ok mark n m)
     (by_first Record
-    (by_first Lock (accepted (plan n (at n m) (workers m)) (resumedAll n (at n m) (workers m))) (badLock n (at n m) (workers m) 0 64))
+    (by_first Lock (accepted (plan n (at n m) (workers m)) (resumed_all n (at n m) (workers m))) (bad_lock n (at n m) (workers m) 0 64))
     (unsound n (at n m) (workers m) 0 (workers m)))
     (rejected ImageRefused)

@@ -7,7 +7,7 @@ use Rattle.code.specs.declared.Op.{Op}
 use Rattle.code.specs.declared.Op.TheVariants.{Acquire, Release, Assign, Jump, Finish, Unknown}
 use Rattle.working.specs.declared.Cursors.{Cursors}
 use Rattle.working.specs.Cursor.{Cursor, idle, on, step_no, turn_no}
-use Rattle.owed.specs.Owed.{namedStep, namedOp, owed}
+use Rattle.owed.specs.Owed.{named_step, named_op, owed}
 use Rattle.soundness.specs.Sound.{eight}
 
 -- the turn of an instruction's logged store; of the others the first is named
@@ -23,12 +23,12 @@ target_turn Unknown = 0
 module _ (n : ℕ) (rd : Memory) where
   -- where worker d goes on
   unfoldable pub resumed : ℕ → Cursor
-  resumed d = cond (eqb (rd (field Pc d)) 0) idle (on (namedStep n rd d) (target_turn (namedOp n rd d)))
+  resumed d = cond (eqb (rd (field Pc d)) 0) idle (on (named_step n rd d) (target_turn (named_op n rd d)))
 
   -- the cursors after it: the begun go on, all others are idle
-  abbrev pub resumedAt : ℕ → ℕ → Cursor
-  resumedAt D d = cond (ltb d D) (resumed d) idle
+  abbrev pub resumed_at : ℕ → ℕ → Cursor
+  resumed_at D d = cond (ltb d D) (resumed d) idle
 
   -- with the locks held that they are owed
-  unfoldable pub resumedAll : ℕ → Cursors
-  resumedAll D = record { step = eight (λ d. step_no (resumedAt D d)); turn = eight (λ d. turn_no (resumedAt D d)); held = union (owed n rd) D }
+  unfoldable pub resumed_all : ℕ → Cursors
+  resumed_all D = record { step = eight (λ d. step_no (resumed_at D d)); turn = eight (λ d. turn_no (resumed_at D d)); held = union (owed n rd) D }

@@ -5,7 +5,7 @@ ghost use Rattle.std.specs.Prelude.{◌≡◌};
 ghost use Rattle.image.specs.Image.{at, workers};
 ghost use Rattle.image.specs.Inner.Inside.{Inside};
 ghost use Rattle.working.specs.Cursor.{step_no, turn_no};
-ghost use Rattle.resuming.specs.Resumed.{target_turn, resumed, resumedAt, resumedAll};
+ghost use Rattle.resuming.specs.Resumed.{target_turn, resumed, resumed_at, resumed_all};
 ghost use Rattle.soundness.specs.Sound.{eight, owed_at};
 ghost use Rattle.soundness.specs.Inner.Reading.{Legible, Restorable};
 
@@ -55,7 +55,7 @@ fn resumed_turn(image: &[u64], d: usize, own: usize) -> u8
 // The step at which worker d goes on; 0 for one that the image has not.
 fn step_at(image: &[u64], d: usize, own: usize) -> u8
     requires { Restorable own image.now }
-    ensures { result ≡ step_no (resumedAt own (at own image.now) (workers image.now) d) }
+    ensures { result ≡ step_no (resumed_at own (at own image.now) (workers image.now) d) }
 {
     if image::workers(image) <= d as u64 {
         return 0;
@@ -66,7 +66,7 @@ fn step_at(image: &[u64], d: usize, own: usize) -> u8
 // The turn; 255, idle, for one that the image has not.
 fn turn_at(image: &[u64], d: usize, own: usize) -> u8
     requires { Restorable own image.now }
-    ensures { result ≡ turn_no (resumedAt own (at own image.now) (workers image.now) d) }
+    ensures { result ≡ turn_no (resumed_at own (at own image.now) (workers image.now) d) }
 {
     if image::workers(image) <= d as u64 {
         return 255;
@@ -77,7 +77,7 @@ fn turn_at(image: &[u64], d: usize, own: usize) -> u8
 // Where all workers go on, with the locks held that they are owed.
 pub fn resumed_all(image: &[u64], sets: [u64; 8], own: usize) -> Cursors
     requires { (Restorable own image.now) × (sets ≡ eight (owed_at own (at own image.now) (workers image.now))) }
-    ensures { result ≡ resumedAll own (at own image.now) (workers image.now) }
+    ensures { result ≡ resumed_all own (at own image.now) (workers image.now) }
 {
     let mut step = [0u8; 8];
     let mut turn = [255u8; 8];

@@ -22,7 +22,7 @@ use Rattle.turn.specs.Call.{answer_of, leaves, outcome_at}
 use Rattle.turn.specs.Counted.{counted}
 use Rattle.plan.specs.Inner.Plan.{plan_of}
 use Rattle.turn.specs.Inner.Acting.{tested, plan_did, did_answer}
-use Rattle.run.specs.Run.{open_to, Counting, counting, ran, through, halted, sweep, roundsOf}
+use Rattle.run.specs.Run.{open_to, Counting, counting, ran, through, halted, sweep, rounds_of}
 use Rattle.working.proofs.Placed.{Full, idle-says}
 use Rattle.run.proofs.Staying.{Known, known-turn, sized-leaves}
 use Rattle.turn.proofs.Turns.{made_at, refused-at, made-goes, did-answers, leaves-other}
@@ -138,7 +138,7 @@ pub record Laps (own n rounds : ℕ) (s₀ s : Counting) (round to : ℕ) : Type
   pub most : Most (8 * round) s.tally
   pub last : to ≡ open_to n s.world.cursors
   pub known : (e : ℕ) → e < n → round ≢ 0 → Known own s.world e
-  pub same : roundsOf own (rounds - round) n s ≡ roundsOf own rounds n s₀
+  pub same : rounds_of own (rounds - round) n s ≡ rounds_of own rounds n s₀
 
 module _ (own n rounds : ℕ) (s₀ s : Counting) (round to : ℕ) (l : Laps own n rounds s₀ s round to) where
   -- a round begins
@@ -184,12 +184,12 @@ module _ (own n rounds : ℕ) (s₀ s : Counting) (round to : ℕ) (l : Laps own
       ap (λ (x : Counting). open_to (next - 1) x.world.cursors) e ∙ rw q o
 
   -- all are idle, the rounds are spent, or a turn is refused
-  pub laps-idle : to ≡ 0 → ran AllIdle s ≡ roundsOf own rounds n s₀
+  pub laps-idle : to ≡ 0 → ran AllIdle s ≡ rounds_of own rounds n s₀
   laps-idle o = rw (rounds-idle own n (rounds - round) s (to_none s.world.cursors n (sym l.last ∙ o))) at l.same
 
-  pub laps-spent : rounds ≤ round → to ≢ 0 → ran Spent s ≡ roundsOf own rounds n s₀
+  pub laps-spent : rounds ≤ round → to ≢ 0 → ran Spent s ≡ rounds_of own rounds n s₀
   laps-spent h o = rw (rounds-spent own n rounds round s h (to_some s.world.cursors n (λ q. o (l.last ∙ q)))) at l.same
 
   pub laps-halts : (v : Counting) (d : ℕ) → to ≢ 0 → round < rounds → sweep own n 0 s ≡ halted (CursorRefused d) v
-      → ran (Halted (CursorRefused d)) v ≡ roundsOf own rounds n s₀
+      → ran (Halted (CursorRefused d)) v ≡ rounds_of own rounds n s₀
   laps-halts v d o r e = rw (rounds-on own n rounds round s r (to_some s.world.cursors n (λ q. o (l.last ∙ q))), e, after-halted) at l.same

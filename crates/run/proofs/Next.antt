@@ -13,7 +13,7 @@ use Rattle.working.specs.Cursor.{is_idle, cursor_at}
 use Rattle.working.specs.World.{World}
 use Rattle.plan.specs.Turn.{Outcome, resting, refused}
 use Rattle.turn.specs.Call.{outcome_at}
-use Rattle.run.specs.Round.{next_open, next_in, nextWorker, nextOutcome}
+use Rattle.run.specs.Round.{next_open, next_in, next_worker, next_outcome}
 
 module _ (c : Cursors) where
   pub next_here : (n d : ℕ) → d < n → is_idle (cursor_at c d) ≡ false → next_open (n - d) d c ≡ d
@@ -51,25 +51,25 @@ module _ (c : Cursors) where
 
 -- whose turn is next, and its outcome
 pub record Comes (mark n : ℕ) (w : World) (d k : ℕ) (o : Outcome) : Type 0 where
-  pub worker : nextWorker mark n w d ≡ k
-  pub outcome : nextOutcome mark n w d ≡ o
+  pub worker : next_worker mark n w d ≡ k
+  pub outcome : next_outcome mark n w d ≡ o
 
 module _ (mark n : ℕ) (w : World) (d : ℕ) where
   pub next-refused : header_ok mark n w.image ≡ false → Comes mark n w d d (refused ImageRefused)
-  unfolding nextWorker nextOutcome
+  unfolding next_worker next_outcome
   next-refused e = record { worker = rw e; outcome = rw e }
 
   pub next-over : header_ok mark n w.image ≡ true → workers w.image ≤ next_in w d → Comes mark n w d (next_in w d) resting
-  unfolding nextWorker nextOutcome
+  unfolding next_worker next_outcome
   next-over e h = record { worker = rw e; outcome = rw (e, le-ltb _ _ h) }
 
   pub next-turn : header_ok mark n w.image ≡ true → next_in w d < workers w.image → Comes mark n w d (next_in w d) (outcome_at n w (next_in w d))
-  unfolding nextWorker nextOutcome
+  unfolding next_worker next_outcome
   next-turn e h = record { worker = rw e; outcome = rw (e, lt-ltb _ _ h) }
 
   -- it is not below the worker asked from
-  pub next-above : d ≤ nextWorker mark n w d
-  unfolding nextWorker
+  pub next-above : d ≤ next_worker mark n w d
+  unfolding next_worker
   next-above = by (header_ok mark n w.image) (next-from w.cursors (workers w.image - d) d)
     where
       by : (b : Bool) → d ≤ next_in w d → d ≤ cond b (next_in w d) d

@@ -18,7 +18,7 @@ use Rattle.working.specs.World.{World}
 use Rattle.turn.specs.Call.{answer_of, leaves, outcome_at}
 use Rattle.turn.specs.Counted.{counted}
 use Rattle.turn.proofs.Counting.{counted-most}
-use Rattle.run.specs.Run.{any_open, Counting, counting, Course, ran, Sweep, through, halted, turned, swept, sweep, afterSweep, roundsOf, run_of}
+use Rattle.run.specs.Run.{any_open, Counting, counting, Course, ran, Sweep, through, halted, turned, swept, sweep, after_sweep, rounds_of, run_of}
 
 -- ---- a turn by its answer
 
@@ -76,26 +76,26 @@ module _ (k d : ℕ) (h : d < k) where
 -- ---- the rounds from i on, of k
 
 module _ (n D : ℕ) where
-  pub rounds-idle : (k : ℕ) (s : Counting) → any_open D 0 s.world.cursors ≡ false → roundsOf n k D s ≡ ran AllIdle s
-  unfolding roundsOf
+  pub rounds-idle : (k : ℕ) (s : Counting) → any_open D 0 s.world.cursors ≡ false → rounds_of n k D s ≡ ran AllIdle s
+  unfolding rounds_of
   rounds-idle zero s e = rw e
   rounds-idle (suc k) s e = rw e
 
-  pub rounds-spent : (k i : ℕ) (s : Counting) → k ≤ i → any_open D 0 s.world.cursors ≡ true → roundsOf n (k - i) D s ≡ ran Spent s
-  unfolding roundsOf
+  pub rounds-spent : (k i : ℕ) (s : Counting) → k ≤ i → any_open D 0 s.world.cursors ≡ true → rounds_of n (k - i) D s ≡ ran Spent s
+  unfolding rounds_of
   rounds-spent k i s h e = rw (left-none k i h, e)
 
   pub rounds-on : (k i : ℕ) (s : Counting) → i < k → any_open D 0 s.world.cursors ≡ true
-      → roundsOf n (k - i) D s ≡ afterSweep n (roundsOf n (k - (i + 1)) D) (sweep n D 0 s)
-  unfolding roundsOf
+      → rounds_of n (k - i) D s ≡ after_sweep n (rounds_of n (k - (i + 1)) D) (sweep n D 0 s)
+  unfolding rounds_of
   rounds-on k i s h e = rw (left_step k i h, e)
 
-pub after-through : (n : ℕ) (more : Counting → Course) (s : Counting) → afterSweep n more (through s) ≡ more s
-unfolding afterSweep
+pub after-through : (n : ℕ) (more : Counting → Course) (s : Counting) → after_sweep n more (through s) ≡ more s
+unfolding after_sweep
 after-through n more s = refl
 
-pub after-halted : (n : ℕ) (more : Counting → Course) (r : Refusal) (s : Counting) → afterSweep n more (halted r s) ≡ ran (Halted r) s
-unfolding afterSweep
+pub after-halted : (n : ℕ) (more : Counting → Course) (r : Refusal) (s : Counting) → after_sweep n more (halted r s) ≡ ran (Halted r) s
+unfolding after_sweep
 after-halted n more r s = refl
 
 -- ---- cause 10, or the rounds
@@ -105,6 +105,6 @@ module _ (mark n : ℕ) (w : World) (rounds : ℕ) where
   unfolding run_of
   run-refused e = rw e
 
-  pub run-rounds : header_ok mark n w.image ≡ true → run_of mark n w rounds ≡ roundsOf n rounds (workers w.image) (counting w none)
+  pub run-rounds : header_ok mark n w.image ≡ true → run_of mark n w rounds ≡ rounds_of n rounds (workers w.image) (counting w none)
   unfolding run_of
   run-rounds e = rw e

@@ -19,7 +19,7 @@ use Rattle.working.specs.declared.Cursors.{Cursors}
 use Rattle.working.specs.Cursor.{on, is_idle, cursor_at, set_at, holding}
 use Rattle.working.specs.World.{world}
 use Rattle.working.proofs.Placed.{Full, idle-says, open_turn, on-is, held-cursor, placed-other}
-use Rattle.plan.specs.Turn.{Outcome, stored, passed, waiting, resting, refused, ready, turnAt}
+use Rattle.plan.specs.Turn.{Outcome, stored, passed, waiting, resting, refused, ready, turn_at}
 use Rattle.plan.proofs.Planned.{ready-says}
 use Rattle.turn.specs.declared.Answer.TheVariants.{Stored, Passed, Waiting}
 use Rattle.turn.specs.Call.{answer_of, leaves, outcome_at}
@@ -28,7 +28,7 @@ use Rattle.turn.specs.Inner.Acting.{tested}
 use Rattle.turn.proofs.Turns.{made-ready, made-goes}
 use Rattle.stretch.specs.Inner.Single.{Single, single, after, Turns, none, then}
 use Rattle.stretch.proofs.Sequence.{turns-sized}
-use Rattle.run.specs.Run.{any_open, open_to, Counting, counting, through, turned, sweep, roundsOf}
+use Rattle.run.specs.Run.{any_open, open_to, Counting, counting, through, turned, sweep, rounds_of}
 use Rattle.run.specs.Inner.Alone.{Alone}
 use Rattle.run.proofs.Idling.{sweep-idle, sweep-rest, any_some, to-zero, to-most, to-idle, to-alone, to-cut, to-with}
 use Rattle.run.proofs.Rounds.{Most, most-more, most-counted, sweep-on, rounds-on, after-through}
@@ -80,7 +80,7 @@ module _ (n : ℕ) (c : Cursors) (d : ℕ) (f : Full c) (few : d < 8) (a : Singl
   spread-on : a.turn ≢ 255 → cursor_at (spread c d a).world.cursors d ≡ on a.step a.turn
   spread-on o = on-is (spread c d a).world.cursors d (rw spread-full.turns few) (spread-open o) ∙ rw (spread-step, spread-turn)
 
-  outcome-spread : a.turn ≢ 255 → outcome_at n (spread c d a).world d ≡ turnAt n (at n a.image) d (on a.step a.turn)
+  outcome-spread : a.turn ≢ 255 → outcome_at n (spread c d a).world d ≡ turn_at n (at n a.image) d (on a.step a.turn)
   unfolding outcome_at
   outcome-spread o = rw (spread-on o)
 
@@ -89,9 +89,9 @@ module _ (n : ℕ) (c : Cursors) (d : ℕ) (f : Full c) (few : d < 8) (a : Singl
   ready-open e q = omega (arith, (ready-says n (at n a.image) d a.step a.turn e).turn)
 
   turned-alone : ready n (at n a.image) d a.step a.turn ≡ true
-      → turned n (spread c d a) d ≡ spread c d (after n a (turnAt n (at n a.image) d (on a.step a.turn)))
+      → turned n (spread c d a) d ≡ spread c d (after n a (turn_at n (at n a.image) d (on a.step a.turn)))
   unfolding turned
-  turned-alone e = rw (outcome-spread (ready-open e)) (leaves-spread n c d a (turnAt n (at n a.image) d (on a.step a.turn)))
+  turned-alone e = rw (outcome-spread (ready-open e)) (leaves-spread n c d a (turn_at n (at n a.image) d (on a.step a.turn)))
 
 -- ---- a round, with each worker but d idle
 
@@ -112,10 +112,10 @@ module _ (n D : ℕ) (c : Cursors) (d : ℕ) (f : Full c) (few : D ≤ 8) (h : d
 
     -- nor have those above it
     sweep-ready : ready n (at n a.image) d a.step a.turn ≡ true
-        → sweep n D 0 (spread c d a) ≡ through (spread c d (after n a (turnAt n (at n a.image) d (on a.step a.turn))))
+        → sweep n D 0 (spread c d a) ≡ through (spread c d (after n a (turn_at n (at n a.image) d (on a.step a.turn))))
     sweep-ready e =
-        let b = after n a (turnAt n (at n a.image) d (on a.step a.turn)) in
-        let goes = made-goes n (turnAt n (at n a.image) d (on a.step a.turn)) (made-ready n (at n a.image) d a.step a.turn e) in
+        let b = after n a (turn_at n (at n a.image) d (on a.step a.turn)) in
+        let goes = made-goes n (turn_at n (at n a.image) d (on a.step a.turn)) (made-ready n (at n a.image) d a.step a.turn e) in
         let o = outcome-spread n c d f (omega arith) a (ready-open n c d f (omega arith) a e) in
         sweep-to d (omega arith)
         ∙ sweep-on D d h n (spread c d a) (rw o goes)
@@ -123,14 +123,14 @@ module _ (n D : ℕ) (c : Cursors) (d : ℕ) (f : Full c) (few : D ≤ 8) (h : d
 
     -- a round is worker d's turn
     round-alone : (r : ℕ) → ready n (at n a.image) d a.step a.turn ≡ true → 0 < r
-        → roundsOf n r D (spread c d a) ≡ roundsOf n (r - 1) D (spread c d (after n a (turnAt n (at n a.image) d (on a.step a.turn))))
+        → rounds_of n r D (spread c d a) ≡ rounds_of n (r - 1) D (spread c d (after n a (turn_at n (at n a.image) d (on a.step a.turn))))
     round-alone r e l =
-        sym (ap (λ (k : ℕ). roundsOf n k D (spread c d a)) (left-all r))
+        sym (ap (λ (k : ℕ). rounds_of n k D (spread c d a)) (left-all r))
         ∙ rounds-on n D r 0 (spread c d a) l (some-open (ready-open n c d f (omega arith) a e))
-        ∙ rw (sweep-ready e) (after-through n (roundsOf n (r - 1) D) (spread c d (after n a (turnAt n (at n a.image) d (on a.step a.turn)))))
+        ∙ rw (sweep-ready e) (after-through n (rounds_of n (r - 1) D) (spread c d (after n a (turn_at n (at n a.image) d (on a.step a.turn)))))
 
   -- turns one after another are as many rounds
-  rounds-alone : {k : ℕ} {a b : Single} → Turns n d k a b → (r : ℕ) → k ≤ r → roundsOf n r D (spread c d a) ≡ roundsOf n (r - k) D (spread c d b)
+  rounds-alone : {k : ℕ} {a b : Single} → Turns n d k a b → (r : ℕ) → k ≤ r → rounds_of n r D (spread c d a) ≡ rounds_of n (r - k) D (spread c d b)
   rounds-alone (none a) r l = rw left-all
   rounds-alone (then k a b e t) r l =
       let q : r - 1 - k ≡ r - suc k = omega arith in
@@ -139,7 +139,7 @@ module _ (n D : ℕ) (c : Cursors) (d : ℕ) (f : Full c) (few : D ≤ 8) (h : d
   -- ---- what is known after them
 
   turned-known : (a : Single) → ready n (at n a.image) d a.step a.turn ≡ true → Sized n D a.image
-      → Known n (spread c d (after n a (turnAt n (at n a.image) d (on a.step a.turn)))).world d
+      → Known n (spread c d (after n a (turn_at n (at n a.image) d (on a.step a.turn)))).world d
   unfolding turned
   turned-known a e z =
       let l : d < 8 = omega arith in
@@ -147,8 +147,8 @@ module _ (n D : ℕ) (c : Cursors) (d : ℕ) (f : Full c) (few : D ≤ 8) (h : d
       (known-turn D n (spread c d a).world d (spread-full n c d f l a) z h l (spread-tested n c d f l a ∙ e) d (λ q. absurd (q refl)))
 
   turned-sized : (a : Single) → ready n (at n a.image) d a.step a.turn ≡ true → Sized n D a.image
-      → Sized n D (after n a (turnAt n (at n a.image) d (on a.step a.turn))).image
-  turned-sized a e z = turns-sized n d D (then 0 a (after n a (turnAt n (at n a.image) d (on a.step a.turn))) e (none _)) z
+      → Sized n D (after n a (turn_at n (at n a.image) d (on a.step a.turn))).image
+  turned-sized a e z = turns-sized n d D (then 0 a (after n a (turn_at n (at n a.image) d (on a.step a.turn))) e (none _)) z
 
   known_through : {k : ℕ} {a b : Single} → Turns n d k a b → Sized n D a.image → Known n (spread c d a).world d → Known n (spread c d b).world d
   known_through (none a) z k = k
@@ -162,7 +162,7 @@ module _ (n D : ℕ) (c : Cursors) (d : ℕ) (f : Full c) (few : D ≤ 8) (h : d
 turns-most : (n d : ℕ) {k : ℕ} {a b : Single} → Turns n d k a b → (j : ℕ) → Most j a.tally → Most (j + k) b.tally
 turns-most n d (none a) j g = most-more j (j + 0) g (omega arith)
 turns-most n d (then k a b e t) j g =
-    most-more (j + 1 + k) (j + suc k) (turns-most n d t (j + 1) (by (turnAt n (at n a.image) d (on a.step a.turn)))) (omega arith)
+    most-more (j + 1 + k) (j + suc k) (turns-most n d t (j + 1) (by (turn_at n (at n a.image) d (on a.step a.turn)))) (omega arith)
   where
     by : (o : Outcome) → Most (j + 1) (after n a o).tally
     by (stored p v x) = most-counted j (Stored (index_of n p)) g
@@ -241,7 +241,7 @@ module _ (own n rounds : ℕ) {s₀ r : Counting} {round to : ℕ} (l : Laps own
           known =
               λ x a g. by-worker (Known own (spread c d b).world) x d knows
               (λ o p w. absurd (w (idle-says (spread c d b).world.cursors x (rw full.turns (omega (arith, l.few))) (others x a o))));
-          same = rw q (sym turns ∙ ap (roundsOf own (rounds - round) n) (spread_none c d m left y) ∙ laps-here.same);
+          same = rw q (sym turns ∙ ap (rounds_of own (rounds - round) n) (spread_none c d m left y) ∙ laps-here.same);
         }
 
     pub laps-alone : (e : Cursors) → e ≡ holding b.held (set_at c d b.step b.turn)

@@ -19,10 +19,10 @@ next_in w d = next_open (workers w.image - d) d w.cursors
 
 -- mark: word 0 of an image; n: own words in a record
 module _ (mark n : ℕ) where
-  unfoldable pub nextWorker : World → ℕ → ℕ
-  nextWorker w d = cond (header_ok mark n w.image) (next_in w d) d
+  unfoldable pub next_worker : World → ℕ → ℕ
+  next_worker w d = cond (header_ok mark n w.image) (next_in w d) d
 
   -- what its turn does: cause 10; nothing where the round has no more; cause 11 as in any turn
-  unfoldable pub nextOutcome : World → ℕ → Outcome
-  nextOutcome w d =
+  unfoldable pub next_outcome : World → ℕ → Outcome
+  next_outcome w d =
       cond (header_ok mark n w.image) (cond (ltb (next_in w d) (workers w.image)) (outcome_at n w (next_in w d)) resting) (refused ImageRefused)

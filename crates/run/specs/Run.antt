@@ -64,16 +64,16 @@ module _ (n : ℕ) where
   sweep zero d s = through s
   sweep (suc k) d s = swept (outcome_at n s.world d) s (sweep k (d + 1) (turned s d))
 
-  unfoldable pub afterSweep : (Counting → Course) → Sweep → Course
-  afterSweep more (through s) = more s
-  afterSweep more (halted r s) = ran (Halted r) s
+  unfoldable pub after_sweep : (Counting → Course) → Sweep → Course
+  after_sweep more (through s) = more s
+  after_sweep more (halted r s) = ran (Halted r) s
 
   -- so many rounds of D workers
-  unfoldable pub roundsOf : ℕ → ℕ → Counting → Course
-  roundsOf zero D s = cond (any_open D 0 s.world.cursors) (ran Spent s) (ran AllIdle s)
-  roundsOf (suc r) D s = cond (any_open D 0 s.world.cursors) (afterSweep (roundsOf r D) (sweep D 0 s)) (ran AllIdle s)
+  unfoldable pub rounds_of : ℕ → ℕ → Counting → Course
+  rounds_of zero D s = cond (any_open D 0 s.world.cursors) (ran Spent s) (ran AllIdle s)
+  rounds_of (suc r) D s = cond (any_open D 0 s.world.cursors) (after_sweep (rounds_of r D) (sweep D 0 s)) (ran AllIdle s)
 
 -- a run: cause 10, then the rounds; the tally starts at 0
 unfoldable pub run_of : ℕ → ℕ → World → ℕ → Course
 run_of mark n w rounds =
-    cond (header_ok mark n w.image) (roundsOf n rounds (workers w.image) (counting w none)) (ran (Halted ImageRefused) (counting w none))
+    cond (header_ok mark n w.image) (rounds_of n rounds (workers w.image) (counting w none)) (ran (Halted ImageRefused) (counting w none))

@@ -12,7 +12,7 @@ ghost use Rattle.std.specs.Prelude.{◌≡◌, ◌+◌, ◌-◌, ◌<◌, ◌≤
 ghost use Rattle.image.specs.Image.{workers, length_of};
 ghost use Rattle.tally.specs.Tally.{none};
 ghost use Rattle.working.specs.World.{world};
-ghost use Rattle.run.specs.Run.{counting, open_to, ran, roundsOf, run_of};
+ghost use Rattle.run.specs.Run.{counting, open_to, ran, rounds_of, run_of};
 
 // How a run ends.
 #[derive(Clone, Copy)]
@@ -81,7 +81,7 @@ fn rounds_of(
 ) -> Ran
     requires { (own ≤ 64) × (n ≡ workers image.old) × (n ≤ 8) × (length image.old ≡ length_of own n) }
     ensures { ran result.end (counting (world image.new result.cursors left.new) result.tally)
-        ≡ roundsOf own rounds n (counting (world image.old cursors left.old) none) }
+        ≡ rounds_of own rounds n (counting (world image.old cursors left.old) none) }
 {
     let mut c = cursors;
     let mut held = cursors.held;

@@ -6,7 +6,7 @@ ghost use Rattle.plan.specs.Turn.{ready};
 ghost use Rattle.working.specs.World.{world};
 ghost use Rattle.working.specs.Cursor.{is_idle, cursor_at};
 ghost use Rattle.turn.specs.Call.{answer_of, leaves, outcome_at, outcome};
-ghost use Rattle.run.specs.Round.{next_open, nextWorker, nextOutcome};
+ghost use Rattle.run.specs.Round.{next_open, next_worker, next_outcome};
 ghost use Rattle.run.specs.Inner.Lap.{no_lap, Lapped};
 
 use turn::{Acted, Answer, Did, Turned};
@@ -174,11 +174,11 @@ pub fn next(
     left: &mut u64,
 ) -> NextTurn
     requires { own ≤ 64 }
-    ensures worker { result.worker ≡ nextWorker mark own (world image.old c left.old) d }
-    ensures answer { result.answer ≡ answer_of own (nextOutcome mark own (world image.old c left.old) d) }
+    ensures worker { result.worker ≡ next_worker mark own (world image.old c left.old) d }
+    ensures answer { result.answer ≡ answer_of own (next_outcome mark own (world image.old c left.old) d) }
     ensures after { world image.new result.cursors left.new
         ≡ leaves own (world image.old c left.old) result.worker
-        (nextOutcome mark own (world image.old c left.old) d) }
+        (next_outcome mark own (world image.old c left.old) d) }
 {
     if !image::header_ok(image, mark, own) {
         return NextTurn {

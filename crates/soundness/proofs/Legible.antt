@@ -27,8 +27,8 @@ use Rattle.section.proofs.Held.{held-step}
 use Rattle.section.proofs.Passing.{passed_is}
 use Rattle.code.proofs.Ranges.{formed-range}
 use Rattle.worklog.specs.Log.{code_in}
-use Rattle.owed.specs.Owed.{namedStep, namedOp, heldNext, owed_of, owed, entryOk, covers}
-use Rattle.soundness.specs.Sound.{sectionOk, pcOk, sound, unsound}
+use Rattle.owed.specs.Owed.{named_step, named_op, held_next, owed_of, owed, entry_ok, covers}
+use Rattle.soundness.specs.Sound.{section_ok, pc_ok, sound, unsound}
 use Rattle.soundness.specs.Inner.Reading.{Legible, Restorable}
 
 private-not : (b x y : Bool) → cond b x y ≡ true → b ≡ false → y ≡ true
@@ -40,8 +40,8 @@ module _ (n : ℕ) (rd : Memory) (d : ℕ) where
   -- ---- the section
 
   -- a section that is there passes the check
-  pub section-passes : sectionOk n rd d ≡ true → (rd (field Count d) ≡ 0 → ⊥) → check n (rd (field Count d)) (code_in n rd d) ≡ Pass
-  unfolding sectionOk
+  pub section-passes : section_ok n rd d ≡ true → (rd (field Count d) ≡ 0 → ⊥) → check n (rd (field Count d)) (code_in n rd d) ≡ Pass
+  unfolding section_ok
   section-passes e h =
       let k = rd (field Count d) in
       let t = private-not (eqb k 0) _ _ e (ne_eqb k 0 h) in
@@ -49,7 +49,7 @@ module _ (n : ℕ) (rd : Memory) (d : ℕ) where
       passed_is (check n k (code_in n rd d)) (and_left _ _ (and_left (passes (check n k (code_in n rd d)) && leb 1 (rd (field Number d))) numbered t))
 
   -- so it has at most 64 steps, each in its ranges
-  pub section-reads : sectionOk n rd d ≡ true → (s : ℕ) → s < rd (field Count d)
+  pub section-reads : section_ok n rd d ≡ true → (s : ℕ) → s < rd (field Count d)
       → (rd (field Count d) ≤ 64) × ((j : ℕ) → j < rd (field Count d) → in_range n (code_in n rd d j) ≡ true)
   section-reads e s h =
       let k = rd (field Count d) in
@@ -61,25 +61,25 @@ module _ (n : ℕ) (rd : Memory) (d : ℕ) where
   private-named : (a b c f : Bool) → (a && b && c && f) ≡ true → (a ≡ true) × (b ≡ true)
   private-named a b c f e = let p = and_left (a && b) c (and_left (a && b && c) f e) in (and_left a b p, and_right a b p)
 
-  pub legible : sectionOk n rd d ≡ true → pcOk n rd d ≡ true → Legible n rd d
-  unfolding pcOk
+  pub legible : section_ok n rd d ≡ true → pc_ok n rd d ≡ true → Legible n rd d
+  unfolding pc_ok
   legible s p = λ h.
       let q = private-not (eqb (rd (field Pc d)) 0) _ _ p (ne_eqb _ 0 h) in
-      let t = private-named (leb 1 (rd (field Pc d) % 2 ^ 63)) (ltb (namedStep n rd d) (rd (field Count d))) _ _ q in
-      let l = ltb-true (namedStep n rd d) (rd (field Count d)) t.1 in
-      let r = section-reads s (namedStep n rd d) l in
+      let t = private-named (leb 1 (rd (field Pc d) % 2 ^ 63)) (ltb (named_step n rd d) (rd (field Count d))) _ _ q in
+      let l = ltb-true (named_step n rd d) (rd (field Count d)) t.1 in
+      let r = section-reads s (named_step n rd d) l in
       record { some = leb-true 1 _ t.0; named = l; most = r.0; ranges = r.1 }
 
   pub sound-legible : sound n rd d ≡ true → Legible n rd d
   unfolding sound
   sound-legible e =
-      let p = and_left (sectionOk n rd d && pcOk n rd d) (covers (rd (field Intent d)) (owed n rd d) 64) e in
-      legible (and_left (sectionOk n rd d) (pcOk n rd d) p) (and_right (sectionOk n rd d) (pcOk n rd d) p)
+      let p = and_left (section_ok n rd d && pc_ok n rd d) (covers (rd (field Intent d)) (owed n rd d) 64) e in
+      legible (and_left (section_ok n rd d) (pc_ok n rd d) p) (and_right (section_ok n rd d) (pc_ok n rd d) p)
 
   -- the step that the pc names, as the code works it out
   pub pc-low : (pc : ℕ) → pc ≡ rd (field Pc d) → Legible n rd d → (pc ≡ 0 → ⊥)
       → (1 ≤ pc % 9223372036854775808) × (pc % 9223372036854775808 - 1 < rd (field Count d)) × (rd (field Count d) ≤ 64)
-  unfolding namedStep
+  unfolding named_step
   pc-low pc e l h =
       let b = l (λ z. h (e ∙ z)) in
       rw e (b.some, b.named, b.most)
@@ -87,36 +87,36 @@ module _ (n : ℕ) (rd : Memory) (d : ℕ) where
   -- ---- the tests and the owed set at a step that the code has worked out from the pc
 
   module _ (pc : ℕ) (e : pc ≡ rd (field Pc d)) (h : pc ≡ 0 → ⊥) where
-    abbrev stepAt : ℕ
-    stepAt = pc % 9223372036854775808 - 1
+    abbrev step_at : ℕ
+    step_at = pc % 9223372036854775808 - 1
 
     pub owed-begun : (w next : ℕ) (x : Op)
-        → w ≡ code_in n rd d stepAt → x ≡ op_of w → next ≡ heldNext n rd d → owed n rd d ≡ owed_of x next (rd (field Owned d))
-    unfolding owed namedOp namedStep
+        → w ≡ code_in n rd d step_at → x ≡ op_of w → next ≡ held_next n rd d → owed n rd d ≡ owed_of x next (rd (field Owned d))
+    unfolding owed named_op named_step
     owed-begun w next x word op held =
         rw (held, op, word, e, ne_eqb (rd (field Pc d)) 0 (λ z. h (e ∙ z)))
 
-    held-begun : heldNext n rd d ≡ held_after (held_before (code_in n rd d) stepAt) (op_of (code_in n rd d stepAt))
-    unfolding namedStep
+    held-begun : held_next n rd d ≡ held_after (held_before (code_in n rd d) step_at) (op_of (code_in n rd d step_at))
+    unfolding named_step
     held-begun = rw e (held-step (code_in n rd d) (rd (field Pc d) % 9223372036854775808 - 1))
 
-    pub pc-tests : pcOk n rd d ≡
+    pub pc-tests : pc_ok n rd d ≡
         (leb 1 (pc % 9223372036854775808)
-        && ltb stepAt (rd (field Count d))
-        && entryOk n rd d (op_of (code_in n rd d stepAt))
-        && (eqb (rd (field Owned d)) (held_before (code_in n rd d) stepAt) || eqb (rd (field Owned d)) (heldNext n rd d)))
-    unfolding pcOk namedOp namedStep
+        && ltb step_at (rd (field Count d))
+        && entry_ok n rd d (op_of (code_in n rd d step_at))
+        && (eqb (rd (field Owned d)) (held_before (code_in n rd d) step_at) || eqb (rd (field Owned d)) (held_next n rd d)))
+    unfolding pc_ok named_op named_step
     pc-tests = rw (e, ne_eqb (rd (field Pc d)) 0 (λ z. h (e ∙ z)))
 
     -- past the first two tests, with the instruction and the held sets that the code has worked out
-    pub pc-rest : 1 ≤ pc % 9223372036854775808 → (k : ℕ) → k ≡ rd (field Count d) → stepAt < k
-        → (w here next : ℕ) (x : Op) → w ≡ code_in n rd d stepAt → x ≡ op_of w → here ≡ held_before (code_in n rd d) stepAt → next ≡ held_after here x
-        → (next ≡ heldNext n rd d) × (pcOk n rd d ≡ (entryOk n rd d x && (eqb (rd (field Owned d)) here || eqb (rd (field Owned d)) next)))
+    pub pc-rest : 1 ≤ pc % 9223372036854775808 → (k : ℕ) → k ≡ rd (field Count d) → step_at < k
+        → (w here next : ℕ) (x : Op) → w ≡ code_in n rd d step_at → x ≡ op_of w → here ≡ held_before (code_in n rd d) step_at → next ≡ held_after here x
+        → (next ≡ held_next n rd d) × (pc_ok n rd d ≡ (entry_ok n rd d x && (eqb (rd (field Owned d)) here || eqb (rd (field Owned d)) next)))
     pc-rest some k count below w here next x word op held after =
-        let o : op_of (code_in n rd d stepAt) ≡ x = sym (op ∙ ap op_of word) in
-        let q : next ≡ heldNext n rd d = rw (held-begun, o, ← held) after in
-        let l : stepAt < rd (field Count d) = rw (← count) below in
-        (q, rw (pc-tests, le-leb 1 (pc % 9223372036854775808) some, lt-ltb stepAt (rd (field Count d)) l, o, ← held, ← q))
+        let o : op_of (code_in n rd d step_at) ≡ x = sym (op ∙ ap op_of word) in
+        let q : next ≡ held_next n rd d = rw (held-begun, o, ← held) after in
+        let l : step_at < rd (field Count d) = rw (← count) below in
+        (q, rw (pc-tests, le-leb 1 (pc % 9223372036854775808) some, lt-ltb step_at (rd (field Count d)) l, o, ← held, ← q))
 
 -- a section of more than 64 steps does not pass
 pub check-long : (n k : ℕ) (code : Code) → 64 < k → passes (check n k code) ≡ false

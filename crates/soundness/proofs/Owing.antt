@@ -13,8 +13,8 @@ use Rattle.code.specs.declared.Op.{Op}
 use Rattle.code.specs.declared.Op.TheVariants.{Acquire, Release, Assign, Jump, Finish, Unknown}
 use Rattle.section.proofs.Held.{held_small}
 use Rattle.worklog.specs.Log.{code_in}
-use Rattle.owed.specs.Owed.{namedStep, namedOp, heldHere, heldNext, owed_of, owed, entryOk}
-use Rattle.soundness.specs.Sound.{sectionOk, pcOk}
+use Rattle.owed.specs.Owed.{named_step, named_op, held_here, held_next, owed_of, owed, entry_ok}
+use Rattle.soundness.specs.Sound.{section_ok, pc_ok}
 use Rattle.soundness.proofs.Legible.{legible}
 
 owed-by : (x : Op) (next owned : ℕ) → next < 2 ^ 64 → owned < 2 ^ 64 → owed_of x next owned < 2 ^ 64
@@ -36,27 +36,27 @@ last_of b x a c e h = and_right a c (sym (ap (λ (t : Bool). cond t x (a && c)) 
 module _ (n : ℕ) (rd : Memory) (d : ℕ) where
   -- the last of the pc's tests
   owned-ok :
-      pcOk n rd d ≡ true → eqb (rd (field Pc d)) 0 ≡ false
-      → (eqb (rd (field Owned d)) (heldHere n rd d) || eqb (rd (field Owned d)) (heldNext n rd d)) ≡ true
-  unfolding pcOk
+      pc_ok n rd d ≡ true → eqb (rd (field Pc d)) 0 ≡ false
+      → (eqb (rd (field Owned d)) (held_here n rd d) || eqb (rd (field Owned d)) (held_next n rd d)) ≡ true
+  unfolding pc_ok
   owned-ok p e =
       last_of (eqb (rd (field Pc d)) 0) _
-      (leb 1 (rd (field Pc d) % 2 ^ 63) && ltb (namedStep n rd d) (rd (field Count d)) && entryOk n rd d (namedOp n rd d)) _ p e
+      (leb 1 (rd (field Pc d) % 2 ^ 63) && ltb (named_step n rd d) (rd (field Count d)) && entry_ok n rd d (named_op n rd d)) _ p e
 
   begun-small :
-      sectionOk n rd d ≡ true → pcOk n rd d ≡ true → eqb (rd (field Pc d)) 0 ≡ false
-      → owed_of (namedOp n rd d) (heldNext n rd d) (rd (field Owned d)) < 2 ^ 64
+      section_ok n rd d ≡ true → pc_ok n rd d ≡ true → eqb (rd (field Pc d)) 0 ≡ false
+      → owed_of (named_op n rd d) (held_next n rd d) (rd (field Owned d)) < 2 ^ 64
   begun-small s p e =
       let r = legible n rd d s p (eqb-false _ 0 e) in
       let l = r.named in
-      let here = held_small n (code_in n rd d) (namedStep n rd d) (λ j m. r.ranges j (omega arith)) in
-      let next = held_small n (code_in n rd d) (suc (namedStep n rd d)) (λ j m. r.ranges j (omega arith)) in
-      owed-by (namedOp n rd d) (heldNext n rd d) (rd (field Owned d)) next (one_of _ (heldHere n rd d) (heldNext n rd d) _ refl (owned-ok p e) here next)
+      let here = held_small n (code_in n rd d) (named_step n rd d) (λ j m. r.ranges j (omega arith)) in
+      let next = held_small n (code_in n rd d) (suc (named_step n rd d)) (λ j m. r.ranges j (omega arith)) in
+      owed-by (named_op n rd d) (held_next n rd d) (rd (field Owned d)) next (one_of _ (held_here n rd d) (held_next n rd d) _ refl (owned-ok p e) here next)
 
-  pub owed_small : sectionOk n rd d ≡ true → pcOk n rd d ≡ true → owed n rd d < 2 ^ 64
+  pub owed_small : section_ok n rd d ≡ true → pc_ok n rd d ≡ true → owed n rd d < 2 ^ 64
   unfolding owed
   owed_small s p = by (eqb (rd (field Pc d)) 0) refl
     where
-      by : (t : Bool) → eqb (rd (field Pc d)) 0 ≡ t → cond t 0 (owed_of (namedOp n rd d) (heldNext n rd d) (rd (field Owned d))) < 2 ^ 64
+      by : (t : Bool) → eqb (rd (field Pc d)) 0 ≡ t → cond t 0 (owed_of (named_op n rd d) (held_next n rd d) (rd (field Owned d))) < 2 ^ 64
       by true e = omega arith
       by false e = begun-small s p e

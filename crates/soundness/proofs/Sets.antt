@@ -13,8 +13,8 @@ use Rattle.base.proofs.Counting.{left_step, left-none}
 use Rattle.mask.specs.Mask.{union}
 use Rattle.mask.proofs.Members.{union-same}
 use Rattle.image.specs.Place.{lock, Memory}
-use Rattle.owed.specs.Owed.{owed, claimants, ownerOk}
-use Rattle.soundness.specs.Sound.{eight, lock_ok, badLock, owed_at}
+use Rattle.owed.specs.Owed.{owed, claimants, owner_ok}
+use Rattle.soundness.specs.Sound.{eight, lock_ok, bad_lock, owed_at}
 use Rattle.owed.specs.Inner.Shared.{sets_in}
 
 -- ---- lists of eight
@@ -68,7 +68,7 @@ module _ (n : ℕ) (rd : Memory) (D : ℕ) where
       by j l (no p) = get_or-set_other sets d j v 0 p ∙ (ap (λ (s : List ℕ). get_or s j 0) e ∙ (eight-at (owed_at n rd d) 0 j l ∙ private-wider d j p))
 
   -- a lock that one worker at most is owed, and one that two are owed
-  pub lock-single : (b : ℕ) → D ≤ 8 → claimants (sets_in (eight (owed_at n rd D))) b D ≤ 1 → lock_ok n rd D b ≡ ownerOk n rd D b (rd (lock b))
+  pub lock-single : (b : ℕ) → D ≤ 8 → claimants (sets_in (eight (owed_at n rd D))) b D ≤ 1 → lock_ok n rd D b ≡ owner_ok n rd D b (rd (lock b))
   unfolding lock_ok
   lock-single b few h = rw (← claimants-are b D (omega arith) few, le-leb (claimants (sets_in (eight (owed_at n rd D))) b D) 1 h)
 
@@ -77,14 +77,14 @@ module _ (n : ℕ) (rd : Memory) (D : ℕ) where
   lock-shared b few h = rw (← claimants-are b D (omega arith) few, lt-leb (claimants (sets_in (eight (owed_at n rd D))) b D) 1 h)
 
   -- an owner word that is not 0 names the worker below it
-  pub bad-on : (b : ℕ) → b < 64 → lock_ok n rd D b ≡ true → badLock n rd D b (64 - b) ≡ badLock n rd D (b + 1) (64 - (b + 1))
-  unfolding badLock
+  pub bad-on : (b : ℕ) → b < 64 → lock_ok n rd D b ≡ true → bad_lock n rd D b (64 - b) ≡ bad_lock n rd D (b + 1) (64 - (b + 1))
+  unfolding bad_lock
   bad-on b h e = rw (left_step 64 b h, e)
 
-  pub bad-here : (b : ℕ) → b < 64 → lock_ok n rd D b ≡ false → badLock n rd D b (64 - b) ≡ b ∷ []
-  unfolding badLock
+  pub bad-here : (b : ℕ) → b < 64 → lock_ok n rd D b ≡ false → bad_lock n rd D b (64 - b) ≡ b ∷ []
+  unfolding bad_lock
   bad-here b h e = rw (left_step 64 b h, e)
 
-  pub bad-none : (b : ℕ) → 64 ≤ b → badLock n rd D b (64 - b) ≡ []
-  unfolding badLock
+  pub bad-none : (b : ℕ) → 64 ≤ b → bad_lock n rd D b (64 - b) ≡ []
+  unfolding bad_lock
   bad-none b h = rw (left-none 64 b h)

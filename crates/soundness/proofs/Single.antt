@@ -12,7 +12,7 @@ use Rattle.mask.proofs.Laws.{has-none}
 use Rattle.image.specs.declared.Field.TheVariants.{Count, Pc, Owned}
 use Rattle.image.specs.Place.{field, Memory}
 use Rattle.owed.specs.Owed.{covers, owed}
-use Rattle.soundness.specs.Sound.{sectionOk, pcOk, sound, unsound}
+use Rattle.soundness.specs.Sound.{section_ok, pc_ok, sound, unsound}
 use Rattle.soundness.specs.Inner.Tests.{is_done, by_record}
 
 pub unsound-one : (n : ℕ) (rd : Memory) (d : ℕ) → is_done (by_record (unsound n rd (d + 1) d (d + 1 - d))) ≡ sound n rd d
@@ -31,11 +31,11 @@ covers-none big (suc k) = rw (has-none k, covers-none big k)
 
 module _ (n : ℕ) (rd : Memory) (d : ℕ) (none : rd (field Count d) ≡ 0) where
   pub empty-named : rd (field Pc d) ≢ 0 → sound n rd d ≡ false
-  unfolding sound sectionOk
+  unfolding sound section_ok
   empty-named h = rw (none, ne_eqb (rd (field Pc d)) 0 h)
 
   pub empty-free : rd (field Pc d) ≡ 0 → sound n rd d ≡ eqb (rd (field Owned d)) 0
-  unfolding sound sectionOk pcOk owed
+  unfolding sound section_ok pc_ok owed
   empty-free z = rw (none, z, covers-none) (by (eqb (rd (field Owned d)) 0))
     where
       by : (b : Bool) → (b && true) ≡ b

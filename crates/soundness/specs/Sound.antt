@@ -4,7 +4,7 @@ use Rattle.image.specs.declared.Field.TheVariants.{Count, Pc, Intent, Owned, Num
 use Rattle.image.specs.Place.{lock, field, Memory}
 use Rattle.section.specs.Check.{check, passes}
 use Rattle.worklog.specs.Log.{code_in}
-use Rattle.owed.specs.Owed.{covers, claimants, namedStep, namedOp, heldHere, heldNext, owed, entryOk, ownerOk}
+use Rattle.owed.specs.Owed.{covers, claimants, named_step, named_op, held_here, held_next, owed, entry_ok, owner_ok}
 
 -- what f gives for the numbers 0 to 7
 abbrev pub eight : (ℕ → ℕ) → List ℕ
@@ -14,21 +14,21 @@ eight f = f 0 ∷ f 1 ∷ f 2 ∷ f 3 ∷ f 4 ∷ f 5 ∷ f 6 ∷ f 7 ∷ []
 module _ (n : ℕ) (rd : Memory) where
   module _ (d : ℕ) where
     -- no section, or one that passes the check, with a number that may be under way
-    unfoldable pub sectionOk : Bool
-    sectionOk =
+    unfoldable pub section_ok : Bool
+    section_ok =
         cond (eqb (rd (field Count d)) 0) (eqb (rd (field Pc d)) 0)
         (passes (check n (rd (field Count d)) (code_in n rd d)) && leb 1 (rd (field Number d)) && leb (rd (field Finished d)) (rd (field Number d)))
 
     -- the pc names no step, with nothing owned, or one whose entry is right, with the set before or after it owned
-    unfoldable pub pcOk : Bool
-    pcOk =
+    unfoldable pub pc_ok : Bool
+    pc_ok =
         cond (eqb (rd (field Pc d)) 0) (eqb (rd (field Owned d)) 0)
-        (leb 1 (rd (field Pc d) % 2 ^ 63) && ltb (namedStep n rd d) (rd (field Count d)) && entryOk n rd d (namedOp n rd d)
-        && (eqb (rd (field Owned d)) (heldHere n rd d) || eqb (rd (field Owned d)) (heldNext n rd d)))
+        (leb 1 (rd (field Pc d) % 2 ^ 63) && ltb (named_step n rd d) (rd (field Count d)) && entry_ok n rd d (named_op n rd d)
+        && (eqb (rd (field Owned d)) (held_here n rd d) || eqb (rd (field Owned d)) (held_next n rd d)))
 
     -- the record is sound (else cause 12)
     unfoldable pub sound : Bool
-    sound = sectionOk && pcOk && covers (rd (field Intent d)) (owed n rd d) 64
+    sound = section_ok && pc_ok && covers (rd (field Intent d)) (owed n rd d) 64
 
   -- D: the number of workers
   module _ (D : ℕ) where
@@ -39,12 +39,12 @@ module _ (n : ℕ) (rd : Memory) where
 
     -- no two workers are owed lock b, and its owner word is right (else cause 13)
     unfoldable pub lock_ok : ℕ → Bool
-    lock_ok b = leb (claimants (owed n rd) b D) 1 && ownerOk n rd D b (rd (lock b))
+    lock_ok b = leb (claimants (owed n rd) b D) 1 && owner_ok n rd D b (rd (lock b))
 
     -- the first lock, of k from b on, that is not
-    unfoldable pub badLock : ℕ → ℕ → List ℕ
-    badLock b zero = []
-    badLock b (suc k) = cond (lock_ok b) (badLock (b + 1) k) (b ∷ [])
+    unfoldable pub bad_lock : ℕ → ℕ → List ℕ
+    bad_lock b zero = []
+    bad_lock b (suc k) = cond (lock_ok b) (bad_lock (b + 1) k) (b ∷ [])
 
 -- worker d's owed set, of D; empty for one that the image has not
 abbrev pub owed_at : ℕ → Memory → ℕ → ℕ → ℕ

@@ -6,7 +6,7 @@ ghost use Rattle.image.specs.Inner.Inside.{Inside};
 ghost use Rattle.section.specs.Check.{check, passes};
 ghost use Rattle.worklog.specs.Log.{code_in};
 ghost use Rattle.owed.specs.Owed.{covers, owed};
-ghost use Rattle.soundness.specs.Sound.{sectionOk, pcOk, sound, unsound};
+ghost use Rattle.soundness.specs.Sound.{section_ok, pc_ok, sound, unsound};
 ghost use Rattle.soundness.specs.Inner.Reading.{Helds, loaded, owed_by};
 ghost use Rattle.soundness.specs.Inner.Tests.{by_record};
 
@@ -40,7 +40,7 @@ fn section_passes(image: &[u64], d: usize, k: usize, own: usize, held: &mut [u64
 // Whether worker d has no section, or one that passes the check, with a number that may be under way. The held sets are left.
 fn section_ok(image: &[u64], d: usize, own: usize, held: &mut [u64]) -> bool
     requires { (Inside own image.now d) × (64 ≤ length held.old) }
-    ensures ok { result ≡ sectionOk own (at own image.now) d }
+    ensures ok { result ≡ section_ok own (at own image.now) d }
     ensures sets { result ≡ true → Helds own (at own image.now) d (at own image.now (field Field.Count d)) held.new }
 {
     let k = image::read_field(image, Field::Count, d, own);
@@ -76,9 +76,9 @@ fn refused() -> Found
 
 // Whether the pc names no step, with nothing owned, or one whose entry is right, with the set before or after it owned.
 fn pc_ok(image: &[u64], d: usize, own: usize, held: &[u64]) -> Found
-    requires { (Inside own image.now d) × (sectionOk own (at own image.now) d ≡ true) × (64 ≤ length held.now)
+    requires { (Inside own image.now d) × (section_ok own (at own image.now) d ≡ true) × (64 ≤ length held.now)
         × Helds own (at own image.now) d (at own image.now (field Field.Count d)) held.now }
-    ensures ok { result.ok ≡ pcOk own (at own image.now) d }
+    ensures ok { result.ok ≡ pc_ok own (at own image.now) d }
     ensures owed { result.ok ≡ true → result.owed ≡ owed own (at own image.now) d }
 {
     let owned = image::read_field(image, Field::Owned, d, own);

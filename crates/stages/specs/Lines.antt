@@ -8,7 +8,7 @@ use Rattle.working.specs.Refusal.{cause_of}
 use Rattle.working.specs.declared.Refusal.TheVariants.{Image as ImageRefused}
 use Rattle.formatting.specs.Format.{formatted}
 use Rattle.recovery.specs.Recovery.{Recovered, recovery}
-use Rattle.recovery.specs.Recover.{answer_of as recoveryAnswer, cursors_of, recovery_leaves, stores_of}
+use Rattle.recovery.specs.Recover.{answer_of as recovery_answer, cursors_of, recovery_leaves, stores_of}
 use Rattle.edition.specs.Edition.{mark, own_words}
 use Rattle.frames.specs.declared.Opening.{Opening}
 use Rattle.frames.specs.declared.Opening.TheVariants.{Workers, Malformed as OpeningMalformed}
@@ -39,7 +39,7 @@ submit_whole s = output (shown s.played.printed) [] s.image s.played.cursors
 
 abbrev pub recover_whole : Image → Recovered → Output
 recover_whole m g =
-    output (shown (recover_prints (recoveryAnswer g)) ++ stores_line (stores_of g)) [] (recovery_leaves own_words 18446744073709551615 m g) (cursors_of g)
+    output (shown (recover_prints (recovery_answer g)) ++ stores_line (stores_of g)) [] (recovery_leaves own_words 18446744073709551615 m g) (cursors_of g)
 
 abbrev pub line_whole : Image → Cursors → List ℕ → Frame → Line
 line_whole m c l (Submit d k) = goes_on (submit_whole (submit_stage m c l d k))

@@ -16,7 +16,7 @@ use Rattle.working.specs.Inner.At.{At}
 use Rattle.working.specs.Cursor.{on, step_no, turn_no, set_at, holding}
 use Rattle.working.specs.World.{World, world}
 use Rattle.working.proofs.Placed.{on-is, open_turn}
-use Rattle.plan.specs.Turn.{Outcome, stored, passed, waiting, resting, refused, ready, turnAt}
+use Rattle.plan.specs.Turn.{Outcome, stored, passed, waiting, resting, refused, ready, turn_at}
 use Rattle.worklog.specs.declared.Plan.TheVariants.{Take, Free}
 use Rattle.plan.specs.Inner.Plan.{store_plan, plan_of}
 use Rattle.plan.proofs.Planned.{ready-says}
@@ -119,7 +119,7 @@ waits-is n b (refused r) m e = absurd m
 
 module _ (n d s t : ℕ) (m : Image) (left : ℕ) (e : ready n (at n m) d s t ≡ true) where
   -- the turn waits, and so do as many as there are
-  made-waits : (b : ℕ) → turnAt n (at n m) d (on s t) ≡ waiting b → (h k : ℕ) (y : Tally)
+  made-waits : (b : ℕ) → turn_at n (at n m) d (on s t) ≡ waiting b → (h k : ℕ) (y : Tally)
       → Turns n d k (single m left s t h y) (single m left s t h (with_waits k y))
   made-waits b o h zero y = rw (no-waits y) (none _)
   made-waits b o h (suc k) y =
@@ -129,7 +129,7 @@ module _ (n d s t : ℕ) (m : Image) (left : ℕ) (e : ready n (at n m) d s t �
   module _ (v : Image) (rest : ℕ) (x : Did) (i j : ℕ) (acts : (c : Cursors) → At c d s t
       → Acts n (world m c left) d x (world v (holding (did_held x c.held) (set_at c d i j)) rest)) where
     -- the worker is open there
-    private-on : (h : ℕ) → outcome_at n (world m (alone d s t h) left) d ≡ turnAt n (at n m) d (on s t)
+    private-on : (h : ℕ) → outcome_at n (world m (alone d s t h) left) d ≡ turn_at n (at n m) d (on s t)
     unfolding outcome_at
     private-on h =
         let c = alone d s t h in
@@ -138,13 +138,13 @@ module _ (n d s t : ℕ) (m : Image) (left : ℕ) (e : ready n (at n m) d s t �
         rw (on-is c d a.inside (open_turn c d a.inside (λ q. omega (arith, z.turn, a.turn, q))), a.step, a.turn)
 
     -- what the turn did, and what it left, is its outcome's
-    one-did : x ≡ plan_did (plan_of n (turnAt n (at n m) d (on s t)))
+    one-did : x ≡ plan_did (plan_of n (turn_at n (at n m) d (on s t)))
     one-did = (acts (alone d s t 0) (alone_at d s t 0)).did ∙ ap (λ (o : Outcome). plan_did (plan_of n o)) (private-on 0)
 
     one-after : (h : ℕ) (y : Tally)
-        → single v rest i j (did_held x h) (counted (did_answer n x) y) ≡ after n (single m left s t h y) (turnAt n (at n m) d (on s t))
+        → single v rest i j (did_held x h) (counted (did_answer n x) y) ≡ after n (single m left s t h y) (turn_at n (at n m) d (on s t))
     one-after h y =
-        let o = turnAt n (at n m) d (on s t) in
+        let o = turn_at n (at n m) d (on s t) in
         let w = world m (alone d s t h) left in
         let made = made-ready n (at n m) d s t e in
         let told : did_answer n x ≡ answer_of n o = ap (did_answer n) one-did ∙ did-answers n o made in
@@ -170,7 +170,7 @@ module _ (n d s t : ℕ) (m : Image) (left : ℕ) (e : ready n (at n m) d s t �
   made_one v rest (Freed b) i j acts r h y = made-single v rest (Freed b) i j acts h y
   made_one v rest (Passed why) i j acts r h y = made-single v rest (Passed why) i j acts h y
   made_one v rest (Waiting b) i j acts r h y =
-      let o = waits-is n b (turnAt n (at n m) d (on s t)) (made-ready n (at n m) d s t e) (one-did v rest (Waiting b) i j acts) in
+      let o = waits-is n b (turn_at n (at n m) d (on s t)) (made-ready n (at n m) d s t e) (one-did v rest (Waiting b) i j acts) in
       let q = one-after v rest (Waiting b) i j acts h y ∙ ap (after n (single m left s t h y)) o in
       let same = ap (λ (z : Single). single z.image z.left z.step z.turn h (with_waits (r + 1) y)) q in
       let turns : y.turns + r + 1 ≡ y.turns + (r + 1) = omega arith in

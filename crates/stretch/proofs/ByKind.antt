@@ -22,15 +22,15 @@ use Rattle.tally.specs.declared.Tally.{Tally}
 use Rattle.tally.specs.Tally.{with_jump, with_already_free, with_others}
 use Rattle.working.specs.Cursor.{on, step_no, turn_no}
 use Rattle.worklog.specs.declared.Passing.TheVariants.{AlreadyFree as PassedFree, Others as PassedOthers}
-use Rattle.worklog.specs.Log.{operand, word_in, spareAddr}
+use Rattle.worklog.specs.Log.{operand, word_in, spare_addr}
 use Rattle.plan.specs.declared.Report.TheVariants.{Freed, AlreadyFree, Others}
 use Rattle.plan.specs.Report.{report_of}
 use Rattle.plan.specs.Turn.{stored, passed}
 use Rattle.plan.proofs.Quiet.{Spares, quiet-field, quiet-lock, quiet-operand, at_other}
 use Rattle.turn.specs.Call.{held_by}
 use Rattle.stretch.specs.Inner.Single.{Single, single, Turns, none}
-use Rattle.stretch.specs.Inner.Logged.{withAddress, withTarget}
-use Rattle.stretch.specs.Inner.Locks.{withOwner, tookImage, disownedImage, unwanted_image}
+use Rattle.stretch.specs.Inner.Logged.{with_address, with_target}
+use Rattle.stretch.specs.Inner.Locks.{with_owner, took_image, disowned_image, unwanted_image}
 use Rattle.stretch.specs.Inner.Whole.{closed_image, Fetched}
 use Rattle.stretch.proofs.Running.{with_stores, Running, running, running-store, fetched-fits, fetched-step, makes, inside-store, stores-more, counts}
 use Rattle.stretch.proofs.LogTurns.{other-addr, spares-addr, logged-running, logged-turns}
@@ -92,7 +92,7 @@ module _ (D n d s a : ℕ) (l : d < D) (ok : a < 64) (m : Image) (r : Running D 
       (intent-turn m left h _ r _ (ap with_others (stores-more 4 1 y)))
 
 -- the image keeps its size through a release's logged store
-pub disowned-inside : (n d s a : ℕ) (m : Image) (left : ℕ) → Inside n m d → Inside n (disownedImage n d s a m left) d
+pub disowned-inside : (n d s a : ℕ) (m : Image) (left : ℕ) → Inside n m d → Inside n (disowned_image n d s a m left) d
 disowned-inside n d s a m left w =
     inside-store n d _ (left - 1 - 1 - 1) (field Owned d) _ (inside-store n d _ (left - 1 - 1) (field Pc d) _
     (inside-store n d _ (left - 1) _ _ (inside-store n d m left _ _ w)))
@@ -103,17 +103,17 @@ module _ (n d s : ℕ) (m : Image) (left h : ℕ) (y : Tally) where
   -- an assignment
   pub assign-turns : (a : ℕ) (e : Expr) → Fetched n d s m (Assign a e)
       → Turns n d 4 (single m left s 0 h y)
-      (single (withTarget n d s (index_of n (operand d a)) (eval (word_in n (at n m) d) e) m left) (left - 1 - 1 - 1 - 1) (s + 1) 0 h (with_stores 4 y))
+      (single (with_target n d s (index_of n (operand d a)) (eval (word_in n (at n m) d) e) m left) (left - 1 - 1 - 1 - 1) (s + 1) 0 h (with_stores 4 y))
   assign-turns a e f =
       let D = workers m in
       let l = f.inside.below in
       let r = running n d s m (Assign a e) f in
       let p = operand d a in
       let v = eval (word_in n (at n m) d) e in
-      let sa = field (spareAddr n (at n m) d) d in
-      let kept = eval-same (word_in n (at n m) d) (word_in n (at n (withAddress n d s (index_of n p) v m left)) d)
+      let sa = field (spare_addr n (at n m) d) d in
+      let kept = eval-same (word_in n (at n m) d) (word_in n (at n (with_address n d s (index_of n p) v m left)) d)
       (λ x. at_other D n left m r.size sa (operand d x) (index_of n p) (spares-addr n (at n m) d D l).there
-      (operand-apart d x d (spareAddr n (at n m) d))) e in
+      (operand-apart d x d (spare_addr n (at n m) d))) e in
       logged-turns D n d s l (fetched-step n d s m _ f) (Assign a e) m r 0 0 left h y p (λ (rd : Memory). eval (word_in n rd d) e) (on (s + 1) 0)
       (quiet-operand D n d a l (fetched-fits n d s m _ f).0) (λ w. operand-held d a w h)
       (record { address = λ rd. refl; value = λ rd. refl; pc = λ rd. refl; target = λ rd. refl; has = omega arith }) kept (none _)
@@ -127,16 +127,16 @@ module _ (n d s : ℕ) (m : Image) (left h : ℕ) (y : Tally) where
   -- one whose lock is free: the intent, the owner word, and a logged store of the owned mask
   pub acquire-turns : (a : ℕ) → Fetched n d s m (Acquire a)
       → (v : Image) → v ≡ put left m (index_of n (field Intent d)) (with (at n m (field Intent d)) a) → at n v (lock a) ≡ 0
-      → Turns n d 6 (single m left s 0 h y) (single (tookImage n d s a v (left - 1)) (left - 1 - 1 - 1 - 1 - 1 - 1) (s + 1) 0 (with h a) (with_stores 6 y))
+      → Turns n d 6 (single m left s 0 h y) (single (took_image n d s a v (left - 1)) (left - 1 - 1 - 1 - 1 - 1 - 1) (s + 1) 0 (with h a) (with_stores 6 y))
   acquire-turns a f v first free =
       let D = workers m in
       let l = f.inside.below in
       let x = Acquire a in
       let r = running n d s m x f in
       let r1 : Running D n d s x v = rw first (running-store D n d s x m r left (field Intent d) _ (quiet-field D n Intent d l refl)) in
-      let w = withOwner n d s a v (left - 1) in
+      let w = with_owner n d s a v (left - 1) in
       let r2 : Running D n d s x w = running-store D n d s x v r1 (left - 1) (lock a) (d + 1) (quiet-lock D n a (fetched-fits n d s m x f)) in
-      let kept = at_other D n (left - 1 - 1) w r2.size (field (spareAddr n (at n w) d) d) (field Owned d) (index_of n (field Owned d))
+      let kept = at_other D n (left - 1 - 1) w r2.size (field (spare_addr n (at n w) d) d) (field Owned d) (index_of n (field Owned d))
       (spares-addr n (at n w) d D l).there (other-addr n (at n w) d Owned refl refl) in
       let took : held_by (lock a) (d + 1) h ≡ with h a = rw (ne_eqb (d + 1) 0 (λ e. omega arith)) in
       let count : with_stores 4 (with_stores 1 (with_stores 1 y)) ≡ with_stores 6 y = ap (with_stores 4) (stores-more 1 1 y) ∙ stores-more 2 4 y in
@@ -150,7 +150,7 @@ module _ (n d s : ℕ) (m : Image) (left h : ℕ) (y : Tally) where
       (counts n d _ _ (s + 1) 0 (with h a) count)))))
 
   -- a release: a logged store of the owned mask, and two turns by what it finds
-  module _ (a : ℕ) (f : Fetched n d s m (Release a)) (v : Image) (first : v ≡ disownedImage n d s a m left) where
+  module _ (a : ℕ) (f : Fetched n d s m (Release a)) (v : Image) (first : v ≡ disowned_image n d s a m left) where
     released-running : Running (workers m) n d s (Release a) v
     released-running =
         rw first (logged-running (workers m) n d s f.inside.below (Release a) m (running n d s m (Release a) f) left (field Owned d)
@@ -162,7 +162,7 @@ module _ (n d s : ℕ) (m : Image) (left h : ℕ) (y : Tally) where
         let l = f.inside.below in
         let x = Release a in
         let r = running n d s m x f in
-        let sa = field (spareAddr n (at n m) d) d in
+        let sa = field (spare_addr n (at n m) d) d in
         let kept = at_other D n left m r.size sa (field Owned d) (index_of n (field Owned d)) (spares-addr n (at n m) d D l).there
         (other-addr n (at n m) d Owned refl refl) in
         logged-turns D n d s l (fetched-step n d s m x f) x m r 2 0 left h y (field Owned d)

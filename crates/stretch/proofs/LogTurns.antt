@@ -18,28 +18,28 @@ use Rattle.code.specs.declared.Op.{Op}
 use Rattle.code.proofs.Ranges.{op_turns}
 use Rattle.tally.specs.declared.Tally.{Tally}
 use Rattle.working.specs.Cursor.{Cursor, on, step_no, turn_no}
-use Rattle.worklog.specs.Log.{second, spareAddr, spareVal, activeVal, switched}
+use Rattle.worklog.specs.Log.{second, spare_addr, spare_val, active_val, switched}
 use Rattle.worklog.proofs.Switching.{switched-val}
-use Rattle.plan.specs.Turn.{logged, opTurn}
+use Rattle.plan.specs.Turn.{logged, op_turn}
 use Rattle.plan.proofs.Quiet.{Spares, quiet-field, other-field, at_other}
 use Rattle.turn.specs.Call.{held_by}
 use Rattle.stretch.specs.Inner.Single.{Single, single, Turns}
-use Rattle.stretch.specs.Inner.Logged.{withAddress, withValue, withPc, withTarget}
+use Rattle.stretch.specs.Inner.Logged.{with_address, with_value, with_pc, with_target}
 use Rattle.stretch.proofs.Running.{with_stores, Running, running-store, makes, stores-more}
 
 -- ---- the log's words
 
 module _ (n : ℕ) (rd : Memory) (d : ℕ) where
-  pub other-addr : (f : Field) → same_field f Addr0 ≡ false → same_field f Addr1 ≡ false → same (field f d) (field (spareAddr n rd d) d) ≡ false
-  unfolding spareAddr
+  pub other-addr : (f : Field) → same_field f Addr0 ≡ false → same_field f Addr1 ≡ false → same (field f d) (field (spare_addr n rd d) d) ≡ false
+  unfolding spare_addr
   other-addr f p q = rw (other-field f (second n rd d) Addr0 Addr1 p q)
 
-  other-val : (f : Field) → same_field f Val0 ≡ false → same_field f Val1 ≡ false → same (field f d) (field (spareVal n rd d) d) ≡ false
-  unfolding spareVal
+  other-val : (f : Field) → same_field f Val0 ≡ false → same_field f Val1 ≡ false → same (field f d) (field (spare_val n rd d) d) ≡ false
+  unfolding spare_val
   other-val f p q = rw (other-field f (second n rd d) Val0 Val1 p q)
 
-  val-pc : same (field (spareVal n rd d) d) (field Pc d) ≡ false
-  unfolding spareVal
+  val-pc : same (field (spare_val n rd d) d) (field Pc d) ≡ false
+  unfolding spare_val
   val-pc = by (second n rd d)
     where
       by : (b : Bool) → same (field (cond b Val0 Val1) d) (field Pc d) ≡ false
@@ -47,18 +47,18 @@ module _ (n : ℕ) (rd : Memory) (d : ℕ) where
       by false = refl
 
   module _ (D : ℕ) (l : d < D) where
-    pub spares-addr : Spares D n (field (spareAddr n rd d) d)
-    unfolding spareAddr
+    pub spares-addr : Spares D n (field (spare_addr n rd d) d)
+    unfolding spare_addr
     spares-addr = quiet-field D n _ d l (other-field Count (second n rd d) Addr0 Addr1 refl refl)
 
-    spares-val : Spares D n (field (spareVal n rd d) d)
-    unfolding spareVal
+    spares-val : Spares D n (field (spare_val n rd d) d)
+    unfolding spare_val
     spares-val = quiet-field D n _ d l (other-field Count (second n rd d) Val0 Val1 refl refl)
 
   -- a memory with the same pc has the same spare entry, and the same pc to come
   module _ (re : Memory) (e : re (field Pc d) ≡ rd (field Pc d)) where
-    kept-val : spareVal n re d ≡ spareVal n rd d
-    unfolding spareVal second
+    kept-val : spare_val n re d ≡ spare_val n rd d
+    unfolding spare_val second
     kept-val = rw e
 
     kept-switched : (s : ℕ) → switched n re d s ≡ switched n rd d s
@@ -69,39 +69,39 @@ module _ (n : ℕ) (rd : Memory) (d : ℕ) where
 
 module _ (D n d s : ℕ) (l : d < D) (small : s < 64) (m : Image) (z : Sized n D m) (left i v : ℕ) where
   -- what the first two stores leave of the pc
-  pc-address : at n (withAddress n d s i v m left) (field Pc d) ≡ at n m (field Pc d)
+  pc-address : at n (with_address n d s i v m left) (field Pc d) ≡ at n m (field Pc d)
   pc-address = at_other D n left m z _ (field Pc d) i (spares-addr n (at n m) d D l).there (other-addr n (at n m) d Pc refl refl)
 
-  sized-address : Sized n D (withAddress n d s i v m left)
+  sized-address : Sized n D (with_address n d s i v m left)
   sized-address = sized-store n D left m _ i z
 
-  pc-value : at n (withValue n d s i v m left) (field Pc d) ≡ at n m (field Pc d)
+  pc-value : at n (with_value n d s i v m left) (field Pc d) ≡ at n m (field Pc d)
   pc-value =
       at_other D n (left - 1) _ sized-address _ (field Pc d) v (spares-val n (at n m) d D l).there (other-val n (at n m) d Pc refl refl) ∙ pc-address
 
-  sized-value : Sized n D (withValue n d s i v m left)
+  sized-value : Sized n D (with_value n d s i v m left)
   sized-value = sized-store n D (left - 1) _ _ v sized-address
 
   -- the third one is made: then so were those before it, and the entry that it names holds the value
-  active-value : 0 < left - 1 - 1 → at n (withPc n d s i v m left) (field (activeVal n (at n (withPc n d s i v m left)) d) d) ≡ v
+  active-value : 0 < left - 1 - 1 → at n (with_pc n d s i v m left) (field (active_val n (at n (with_pc n d s i v m left)) d) d) ≡ v
   active-value some =
       let pc = at_store n D (left - 1 - 1) _ (field Pc d) (switched n (at n m) d s) sized-value (lt-ltb d D l) some in
-      let p = field (spareVal n (at n m) d) d in
-      let names : at n (withPc n d s i v m left) (field Pc d) ≡ switched n (at n m) d s =
-      pc (field Pc d) ∙ upd_same (at n (withValue n d s i v m left)) (field Pc d) _ in
+      let p = field (spare_val n (at n m) d) d in
+      let names : at n (with_pc n d s i v m left) (field Pc d) ≡ switched n (at n m) d s =
+      pc (field Pc d) ∙ upd_same (at n (with_value n d s i v m left)) (field Pc d) _ in
       let value = at_store n D (left - 1) _ p v sized-address (spares-val n (at n m) d D l).there (omega (arith, some)) p
-      ∙ upd_same (at n (withAddress n d s i v m left)) p v in
+      ∙ upd_same (at n (with_address n d s i v m left)) p v in
       rw (switched-val n (at n m) d s small _ names) (at_other D n (left - 1 - 1) _ sized-value (field Pc d) p _ (lt-ltb d D l) (val-pc n (at n m) d) ∙ value)
 
   -- so the fourth stores it, or nothing
   pub target-stored :
-      put (left - 1 - 1 - 1) (withPc n d s i v m left) i (at n (withPc n d s i v m left) (field (activeVal n (at n (withPc n d s i v m left)) d) d))
-      ≡ withTarget n d s i v m left
+      put (left - 1 - 1 - 1) (with_pc n d s i v m left) i (at n (with_pc n d s i v m left) (field (active_val n (at n (with_pc n d s i v m left)) d) d))
+      ≡ with_target n d s i v m left
   target-stored = by (left - 1 - 1 - 1) refl
     where
       by : (k : ℕ) → left - 1 - 1 - 1 ≡ k
-          → put k (withPc n d s i v m left) i (at n (withPc n d s i v m left) (field (activeVal n (at n (withPc n d s i v m left)) d) d))
-          ≡ put k (withPc n d s i v m left) i v
+          → put k (with_pc n d s i v m left) i (at n (with_pc n d s i v m left) (field (active_val n (at n (with_pc n d s i v m left)) d) d))
+          ≡ put k (with_pc n d s i v m left) i v
       by zero e = put-none _ i _ ∙ sym (put-none _ i v)
       by (suc k) e = rw (active-value (omega (arith, e)))
 
@@ -109,10 +109,10 @@ module _ (D n d s : ℕ) (l : d < D) (small : s < 64) (m : Image) (z : Sized n D
 
 -- the turns of x from turn t on are those of a logged store at p of what f reads, with the cursor c after them
 pub record Logs (n d s t : ℕ) (x : Op) (p : Place) (f : Memory → ℕ) (c : Cursor) : Type 0 where
-  pub address : (rd : Memory) → opTurn n rd d s t x ≡ logged n rd d s t p (f rd) c 0
-  pub value : (rd : Memory) → opTurn n rd d s (t + 1) x ≡ logged n rd d s (t + 1) p (f rd) c 1
-  pub pc : (rd : Memory) → opTurn n rd d s (t + 1 + 1) x ≡ logged n rd d s (t + 1 + 1) p (f rd) c 2
-  pub target : (rd : Memory) → opTurn n rd d s (t + 1 + 1 + 1) x ≡ logged n rd d s (t + 1 + 1 + 1) p (f rd) c 3
+  pub address : (rd : Memory) → op_turn n rd d s t x ≡ logged n rd d s t p (f rd) c 0
+  pub value : (rd : Memory) → op_turn n rd d s (t + 1) x ≡ logged n rd d s (t + 1) p (f rd) c 1
+  pub pc : (rd : Memory) → op_turn n rd d s (t + 1 + 1) x ≡ logged n rd d s (t + 1 + 1) p (f rd) c 2
+  pub target : (rd : Memory) → op_turn n rd d s (t + 1 + 1 + 1) x ≡ logged n rd d s (t + 1 + 1 + 1) p (f rd) c 3
   pub has : t + 3 < op_turns x
 
 four-stores : (y : Tally) → with_stores 1 (with_stores 1 (with_stores 1 (with_stores 1 y))) ≡ with_stores 4 y
@@ -123,32 +123,32 @@ module _ (D n d s : ℕ) (l : d < D) (x : Op) (m : Image) (r : Running D n d s x
   abbrev i : ℕ
   i = index_of n p
 
-  address-running : Running D n d s x (withAddress n d s i v m left)
+  address-running : Running D n d s x (with_address n d s i v m left)
   address-running = running-store D n d s x m r left _ i (spares-addr n (at n m) d D l)
 
-  value-running : Running D n d s x (withValue n d s i v m left)
+  value-running : Running D n d s x (with_value n d s i v m left)
   value-running = running-store D n d s x _ address-running (left - 1) _ v (spares-val n (at n m) d D l)
 
-  pc-running : Running D n d s x (withPc n d s i v m left)
+  pc-running : Running D n d s x (with_pc n d s i v m left)
   pc-running = running-store D n d s x _ value-running (left - 1 - 1) (field Pc d) _ (quiet-field D n Pc d l refl)
 
-  pub logged-running : Spares D n p → Running D n d s x (withTarget n d s i v m left)
+  pub logged-running : Spares D n p → Running D n d s x (with_target n d s i v m left)
   logged-running q = running-store D n d s x _ pc-running (left - 1 - 1 - 1) p v q
 
 module _ (D n d s : ℕ) (l : d < D) (small : s < 64) (x : Op) (m : Image) (r : Running D n d s x m) where
   pub logged-turns : (k t : ℕ) {b : Single} (left h : ℕ) (y : Tally) (p : Place) (f : Memory → ℕ) (c : Cursor)
       → Spares D n p → ((v : ℕ) → held_by p v h ≡ h) → Logs n d s t x p f c
-      → f (at n (withAddress n d s (index_of n p) (f (at n m)) m left)) ≡ f (at n m)
-      → Turns n d k (single (withTarget n d s (index_of n p) (f (at n m)) m left) (left - 1 - 1 - 1 - 1) (step_no c) (turn_no c) h (with_stores 4 y)) b
+      → f (at n (with_address n d s (index_of n p) (f (at n m)) m left)) ≡ f (at n m)
+      → Turns n d k (single (with_target n d s (index_of n p) (f (at n m)) m left) (left - 1 - 1 - 1 - 1) (step_no c) (turn_no c) h (with_stores 4 y)) b
       → Turns n d (suc (suc (suc (suc k)))) (single m left s t h y) b
   logged-turns k t {b} left h y p f c q free g kept more =
       let i = index_of n p in
       let v = f (at n m) in
       let rd = at n m in
       let has = g.has in
-      let m1 = withAddress n d s i v m left in
-      let m2 = withValue n d s i v m left in
-      let m3 = withPc n d s i v m left in
+      let m1 = with_address n d s i v m left in
+      let m2 = with_value n d s i v m left in
+      let m3 = with_pc n d s i v m left in
       let r1 = address-running D n d s l x m r left p v in
       let r2 = value-running D n d s l x m r left p v in
       let r3 = pc-running D n d s l x m r left p v in
@@ -161,4 +161,4 @@ module _ (D n d s : ℕ) (l : d < D) (small : s < 64) (x : Op) (m : Image) (r : 
       (makes D n d s x m2 r2 (suc k) (t + 1 + 1) (left - 1 - 1) h (with_stores 1 (with_stores 1 y)) _ (omega arith) (g.pc (at n m2))
       (rw e2
       (makes D n d s x m3 r3 k (t + 1 + 1 + 1) (left - 1 - 1 - 1) h (with_stores 1 (with_stores 1 (with_stores 1 y))) _ (omega arith) (g.target (at n m3))
-      (rw (end, free (at n m3 (field (activeVal n (at n m3) d) d)), four-stores y) more))))))
+      (rw (end, free (at n m3 (field (active_val n (at n m3) d) d)), four-stores y) more))))))

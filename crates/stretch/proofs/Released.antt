@@ -12,7 +12,7 @@ use Rattle.tally.specs.declared.Passes.{Passes}
 use Rattle.tally.specs.Inner.Passes.{with_passed_free, with_passed_others}
 use Rattle.plan.specs.declared.Report.TheVariants.{Freed}
 use Rattle.plan.specs.Report.{report_of}
-use Rattle.stretch.specs.Inner.Locks.{disownedImage, unwanted_image, found_passes}
+use Rattle.stretch.specs.Inner.Locks.{disowned_image, unwanted_image, found_passes}
 use Rattle.stretch.specs.Inner.Whole.{Fetched, Made}
 use Rattle.stretch.proofs.ByKind.{release-free, release-others}
 use Rattle.stretch.proofs.Counting.{made-free, made-others}
@@ -21,7 +21,7 @@ pub report-own : (d word : ℕ) → word ≡ d + 1 → report_of d word ≡ Free
 report-own d word e = rw (eq-eqb word (d + 1) e)
 
 module _ (n d s : ℕ) (m : Image) (left h : ℕ) (p : Passes) (a : ℕ) (f : Fetched n d s m (Release a)) {v : Image} where
-  pub release-passes : v ≡ disownedImage n d s a m left → {word : ℕ} → word ≡ at n v (lock a) → word ≢ d + 1
+  pub release-passes : v ≡ disowned_image n d s a m left → {word : ℕ} → word ≡ at n v (lock a) → word ≢ d + 1
       → Made n d s h p m left (unwanted_image n d a v (left - 1 - 1 - 1 - 1)) (left - 1 - 1 - 1 - 1 - 1)
       (record { turns = 6; step = s + 1; turn = 0; passes = found_passes word p; held = h })
   release-passes first {word} found o = by (eqb word 0) refl

@@ -19,7 +19,7 @@ use Rattle.code.proofs.Ranges.{op_turns, turns-op}
 use Rattle.tally.specs.declared.Tally.{Tally}
 use Rattle.working.specs.Cursor.{on}
 use Rattle.worklog.specs.Log.{code_in}
-use Rattle.plan.specs.Turn.{Outcome, opTurn, ready, turnAt}
+use Rattle.plan.specs.Turn.{Outcome, op_turn, ready, turn_at}
 use Rattle.plan.proofs.Planned.{ready-says, ready-turn}
 use Rattle.plan.proofs.Quiet.{Spares, at_other, quiet-ready}
 use Rattle.stretch.specs.Inner.Single.{Single, single, after, Turns, none, then}
@@ -59,11 +59,11 @@ module _ (D n d s : ℕ) (x : Op) (m : Image) (r : Running D n d s x m) where
         op = ap op_of (at_other D n left m r.size p (step d s) v q.there (q.steps d s)) ∙ r.op;
       }
 
-  turn_is : (t : ℕ) → t < op_turns x → turnAt n (at n m) d (on s t) ≡ opTurn n (at n m) d s t x
-  unfolding turnAt
+  turn_is : (t : ℕ) → t < op_turns x → turn_at n (at n m) d (on s t) ≡ op_turn n (at n m) d s t x
+  unfolding turn_at
   turn_is t h = rw (r.turns t h, r.op)
 
-  pub makes : (k t : ℕ) {b : Single} (left h : ℕ) (y : Tally) (o : Outcome) → t < op_turns x → opTurn n (at n m) d s t x ≡ o
+  pub makes : (k t : ℕ) {b : Single} (left h : ℕ) (y : Tally) (o : Outcome) → t < op_turns x → op_turn n (at n m) d s t x ≡ o
       → Turns n d k (after n (single m left s t h y) o) b → Turns n d (suc k) (single m left s t h y) b
   makes k t {b} left h y o l e more = then k (single m left s t h y) b (r.turns t l) (rw (turn_is t l, e) more)
 

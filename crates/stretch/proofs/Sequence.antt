@@ -12,7 +12,7 @@ use Rattle.image.proofs.Stores.{sized-store}
 use Rattle.tally.specs.declared.Tally.{Tally}
 use Rattle.tally.specs.Tally.{RoomFor}
 use Rattle.working.specs.Cursor.{on}
-use Rattle.plan.specs.Turn.{Outcome, stored, passed, waiting, resting, refused, turnAt}
+use Rattle.plan.specs.Turn.{Outcome, stored, passed, waiting, resting, refused, turn_at}
 use Rattle.plan.proofs.Planned.{ready-says}
 use Rattle.plan.proofs.Quiet.{at_other}
 use Rattle.plan.proofs.Going.{Goes, stores, ends, passes, waits, goes-ready}
@@ -38,7 +38,7 @@ module _ (n d : ℕ) where
 
   pub turns-sized : (D : ℕ) {k : ℕ} {a b : Single} → Turns n d k a b → Sized n D a.image → Sized n D b.image
   turns-sized D (none a) z = z
-  turns-sized D (then k a b e t) z = turns-sized D t (by (turnAt n (at n a.image) d (on a.step a.turn)))
+  turns-sized D (then k a b e t) z = turns-sized D t (by (turn_at n (at n a.image) d (on a.step a.turn)))
     where
       by : (o : Outcome) → Sized n D (after n a o).image
       by (stored p v x) = sized-store n D a.left a.image p v z
@@ -77,7 +77,7 @@ pub turns-room : (n d : ℕ) {k : ℕ} {a b : Single} → Turns n d k a b → (r
 turns-room n d (none a) r l h = let e : r - 0 ≡ r = omega arith in rw e h
 turns-room n d (then k a b e t) r l h =
     let q : r - suc k ≡ r - 1 - k = omega arith in
-    rw q (turns-room n d t (r - 1) (omega arith) (by (turnAt n (at n a.image) d (on a.step a.turn))))
+    rw q (turns-room n d t (r - 1) (omega arith) (by (turn_at n (at n a.image) d (on a.step a.turn))))
   where
     by : (o : Outcome) → RoomFor (r - 1) (after n a o).tally
     by (stored p v x) = room-counted (Stored (index_of n p)) r a.tally (omega arith) h

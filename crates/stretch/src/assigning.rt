@@ -11,8 +11,8 @@ ghost use Rattle.stretch.specs.Inner.Whole.{Here, Made};
 
 use crate::{Walk, logged, none};
 use code::{Expr, Op};
-use worklog::words;
 use tally::Passes;
+use worklog::words;
 
 // What an expression gives, where the fields of its word are in their ranges.
 #[derive(Clone, Copy)]

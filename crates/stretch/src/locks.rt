@@ -3,7 +3,7 @@ ghost use Rattle.std.specs.Prelude.{◌≡◌, ◌+◌, ◌-◌, ◌<◌, ◌≤
 ghost use Rattle.image.specs.Inner.Inside.{Inside};
 ghost use Rattle.tally.specs.Inner.Passes.{passed};
 ghost use Rattle.stretch.specs.Inner.Whole.{Fetched, Made};
-ghost use Rattle.stretch.specs.Inner.Locks.{tookImage, disownedImage, unwanted_image, found_passes};
+ghost use Rattle.stretch.specs.Inner.Locks.{took_image, disowned_image, unwanted_image, found_passes};
 
 use crate::{Walk, logged};
 use code::Op;
@@ -13,7 +13,7 @@ use tally::Passes;
 // An acquire's turns 1 to 5 where its lock is free: the owner word, and the owned mask in a logged store.
 fn take(image: &mut [u64], d: usize, s: u8, own: usize, a: u64, left: &mut u64)
     requires { (Inside own image.old d) × (a < 64) }
-    ensures image { image.new ≡ tookImage own d s a image.old left.old }
+    ensures image { image.new ≡ took_image own d s a image.old left.old }
     ensures left { left.new ≡ left.old - 1 - 1 - 1 - 1 - 1 }
 {
     image::store_inside(image, image::lock_index(a), d as u64 + 1, left);
@@ -69,7 +69,7 @@ pub fn acquire(
 // A release's turns 0 to 3: the owned mask without the lock, in a logged store.
 fn disown(image: &mut [u64], d: usize, s: u8, own: usize, a: u64, left: &mut u64)
     requires { (Inside own image.old d) × (a < 64) }
-    ensures image { image.new ≡ disownedImage own d s a image.old left.old }
+    ensures image { image.new ≡ disowned_image own d s a image.old left.old }
     ensures left { left.new ≡ left.old - 1 - 1 - 1 - 1 }
 {
     let has = mask::without(image::read_field(image, Field::Owned, d, own), a);

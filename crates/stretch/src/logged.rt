@@ -1,7 +1,7 @@
 // A logged store's four turns back to back.
 ghost use Rattle.std.specs.Prelude.{◌≡◌, ◌-◌, ◌<◌, length};
 ghost use Rattle.image.specs.Inner.Inside.{Inside};
-ghost use Rattle.stretch.specs.Inner.Logged.{withTarget};
+ghost use Rattle.stretch.specs.Inner.Logged.{with_target};
 
 use image::Field;
 
@@ -9,7 +9,7 @@ use image::Field;
 // before the first store: no store here is where one of them is read. The stores left are kept in a local meanwhile, so that they stay in a register.
 pub fn stores(image: &mut [u64], d: usize, s: u8, own: usize, target: usize, v: u64, left: &mut u64)
     requires { (Inside own image.old d) × (target < length image.old) }
-    ensures image { image.new ≡ withTarget own d s target v image.old left.old }
+    ensures image { image.new ≡ with_target own d s target v image.old left.old }
     ensures left { left.new ≡ left.old - 1 - 1 - 1 - 1 }
 {
     let address = image::field_index(worklog::spare_addr(image, d, own), d, own);

@@ -9,8 +9,8 @@ ghost use Rattle.stretch.specs.Inner.Whole.{closed_image, Counted, Here, Made};
 use crate::{Walk, assigning, locks, none};
 use code::Op;
 use image::Field;
-use worklog::words;
 use tally::Passes;
+use worklog::words;
 
 // An acquire's six turns, where its first is ready; its first alone, where its lock is not free.
 fn acquire(

@@ -22,13 +22,13 @@ use Rattle.code.specs.Op.{op_of}
 use Rattle.intake.specs.declared.Submitted.TheVariants.{Taken}
 use Rattle.worklog.specs.Log.{code_in}
 use Rattle.working.specs.Cursor.{Cursor, idle, on, step_no, turn_no, cursor_at}
-use Rattle.plan.specs.Turn.{Outcome, stored, passed, waiting, resting, refused, turnAt}
-use Rattle.owed.specs.Owed.{namedStep, namedOp}
+use Rattle.plan.specs.Turn.{Outcome, stored, passed, waiting, resting, refused, turn_at}
+use Rattle.owed.specs.Owed.{named_step, named_op}
 use Rattle.resuming.specs.Resumed.{target_turn, resumed}
 use Rattle.claims.specs.Reference.{given}
 use Rattle.claims.specs.Events.{Event, taken, moved, waited, recorded, ended, lost, but}
-use Rattle.claims.specs.Calls.{Traced, is_pc, step_of, storeEvents, turnBy, Move, from}
-use Rattle.claims.proofs.Invariant.{opAt, held_at}
+use Rattle.claims.specs.Calls.{Traced, is_pc, step_of, store_events, turn_by, Move, from}
+use Rattle.claims.proofs.Invariant.{op_at, held_at}
 use Rattle.claims.proofs.Turns.{Touches, in_record, own_word, own_cell, takes, frees, Stepped}
 use Rattle.claims.proofs.Entries.{apart_of}
 use Rattle.claims.proofs.LiveTurn.{but_same, but-other}
@@ -76,16 +76,16 @@ abbrev Own : ℕ → List Event → Type 0
 Own d es = (e : ℕ) → e ≢ d → concerning e es ≡ []
 
 module _ (mark n : ℕ) (w : Traced) (d : ℕ) where
-  abbrev pub eventsBy : Outcome → List Event
-  eventsBy (stored p v c) = storeEvents mark n w d p v
-  eventsBy (passed why c) = moved d (step_of mark n w d) ∷ []
-  eventsBy (waiting b) = waited d b ∷ []
-  eventsBy resting = []
-  eventsBy (refused r) = []
+  abbrev pub events_by : Outcome → List Event
+  events_by (stored p v c) = store_events mark n w d p v
+  events_by (passed why c) = moved d (step_of mark n w d) ∷ []
+  events_by (waiting b) = waited d b ∷ []
+  events_by resting = []
+  events_by (refused r) = []
 
-  pub events-by : (o : Outcome) → (turnBy mark n w d o).trace.events ≡ w.trace.events ++ eventsBy o
+  pub events-by : (o : Outcome) → (turn_by mark n w d o).trace.events ≡ w.trace.events ++ events_by o
   events-by (stored p v c) =
-      ap (λ (l : List Event). l ++ storeEvents mark n w d p v)
+      ap (λ (l : List Event). l ++ store_events mark n w d p v)
       (store_keeps w.trace d (is_pc p && not (eqb w.world.left 0)) (eqb (at n w.world.image (field Pc d)) 0)).2
   events-by (passed why c) = refl
   events-by (waiting b) = refl
@@ -98,7 +98,7 @@ module _ (mark n : ℕ) (w : Traced) (d : ℕ) where
   own-store e i false true true s = rw (ne_eqb d e (λ q. i (sym q)))
   own-store e i false true false s = rw (ne_eqb d e (λ q. i (sym q)))
 
-  pub own-by : (o : Outcome) → Own d (eventsBy o)
+  pub own-by : (o : Outcome) → Own d (events_by o)
   own-by (stored p v c) e i = own-store e i (eqb w.world.left 0) (is_pc p) (eqb v 0) (step_of mark n w d)
   own-by (passed why c) e i = rw (ne_eqb d e (λ q. i (sym q)))
   own-by (waiting b) e i = rw (ne_eqb d e (λ q. i (sym q)))
@@ -106,7 +106,7 @@ module _ (mark n : ℕ) (w : Traced) (d : ℕ) where
   own-by (refused r) e i = refl
 
   -- a store that is made, and is none of the pc
-  stored-own : (p : Place) (v : ℕ) → 0 < w.world.left → is_pc p ≡ false → concerning d (storeEvents mark n w d p v) ≡ moved d (step_of mark n w d) ∷ []
+  stored-own : (p : Place) (v : ℕ) → 0 < w.world.left → is_pc p ≡ false → concerning d (store_events mark n w d p v) ≡ moved d (step_of mark n w d) ∷ []
   stored-own p v l e = rw (ne_eqb w.world.left 0 (λ q. omega arith), e, eq-eqb d d refl)
 
   passed-own : (s : ℕ) → concerning d (moved d s ∷ []) ≡ moved d s ∷ []
@@ -120,11 +120,11 @@ Intact n rd d s = rd (field Intent d) ≡ held_at n rd d s
 
 -- worker d at cursor c, with these events so far
 pub record AccountedAt (n : ℕ) (rd : Memory) (d : ℕ) (c : Cursor) (es : List Event) : Type 0 where
-  pub target : (s a : ℕ) → c ≡ on s 3 → opAt n rd d s ≡ Release a → Intact n rd d s ⊎ SinceLoss d [] es
-  pub lock : (s a : ℕ) → c ≡ on s 4 → opAt n rd d s ≡ Release a → Intact n rd d s ⊎ SinceLoss d (moved d s ∷ []) es
+  pub target : (s a : ℕ) → c ≡ on s 3 → op_at n rd d s ≡ Release a → Intact n rd d s ⊎ SinceLoss d [] es
+  pub lock : (s a : ℕ) → c ≡ on s 4 → op_at n rd d s ≡ Release a → Intact n rd d s ⊎ SinceLoss d (moved d s ∷ []) es
 
 -- the same instructions
-op_same : (n : ℕ) (rd rd' : Memory) (d : ℕ) → code_in n rd' d ≡ code_in n rd d → (s a : ℕ) → opAt n rd' d s ≡ Release a → opAt n rd d s ≡ Release a
+op_same : (n : ℕ) (rd rd' : Memory) (d : ℕ) → code_in n rd' d ≡ code_in n rd d → (s a : ℕ) → op_at n rd' d s ≡ Release a → op_at n rd d s ≡ Release a
 op_same n rd rd' d k s a o = ap (λ (f : ℕ → ℕ). op_of (f s)) (sym k) ∙ o
 
 -- where its intent and instructions are the same, and no event more concerns it
@@ -181,7 +181,7 @@ module _ (mark n D : ℕ) (cells : List ℕ) (w : Traced) (d : ℕ) (r : Running
   one_more s more h x = subst (λ (l : List Event). SinceLoss d l (es ++ more)) h (more-since d [] es more x)
 
   module _ (k t : ℕ) (q : cursor ≡ on k t) (x : AccountedAt n rd d (on k t) es) where
-    intact : (s a : ℕ) → (s ≡ k) × (3 ≡ t + 1) → opAt n rd d s ≡ Release a → Intact n rd d s
+    intact : (s a : ℕ) → (s ≡ k) × (3 ≡ t + 1) → op_at n rd d s ≡ Release a → Intact n rd d s
     intact s a (e, f) o =
         near-intent n rd d (w.trace.last d) cursor (r.locks d) (w.trace.jumps d) (r.live.phase d dl) s t a (q ∙ ap (λ (i : ℕ). on i t) (sym e))
         (omega arith) o
@@ -189,30 +189,30 @@ module _ (mark n D : ℕ) (cells : List ℕ) (w : Traced) (d : ℕ) (r : Running
     -- a turn that goes on, to a memory with the same instructions, and up to the lock with the same intent
     goes_on :
         (rd' : Memory) (more : List Event) → code_in n rd' d ≡ code_in n rd d
-        → ((a : ℕ) → opAt n rd d k ≡ Release a → t < 4 → rd' (field Intent d) ≡ rd (field Intent d))
-        → ((a : ℕ) → opAt n rd d k ≡ Release a → t ≡ 3 → concerning d more ≡ moved d k ∷ [])
+        → ((a : ℕ) → op_at n rd d k ≡ Release a → t < 4 → rd' (field Intent d) ≡ rd (field Intent d))
+        → ((a : ℕ) → op_at n rd d k ≡ Release a → t ≡ 3 → concerning d more ≡ moved d k ∷ [])
         → (c : Cursor) → Onto k t c → AccountedAt n rd' d c (es ++ more)
     goes_on rd' more code intent own idle u =
         record { target = λ s a e o. absurd (on-not-idle s _ (sym e)); lock = λ s a e o. absurd (on-not-idle s _ (sym e)) }
     goes_on rd' more code intent own (on i j) u = record { target = to-target; lock = to-lock }
       where
-        to-target : (s a : ℕ) → on i j ≡ on s 3 → opAt n rd' d s ≡ Release a → Intact n rd' d s ⊎ SinceLoss d [] (es ++ more)
+        to-target : (s a : ℕ) → on i j ≡ on s 3 → op_at n rd' d s ≡ Release a → Intact n rd' d s ⊎ SinceLoss d [] (es ++ more)
         to-target s a e o =
             let (f, g) = same_step e in
             let (h, m) = u (λ z. omega arith) in
             let here : s ≡ k = sym f ∙ h in
             let old = op_same n rd rd' d code s a o in
-            let same = intent a (subst (λ (b : ℕ). opAt n rd d b ≡ Release a) here old) (omega arith) in
+            let same = intent a (subst (λ (b : ℕ). op_at n rd d b ≡ Release a) here old) (omega arith) in
             inl (intact-same n rd rd' d same code s (intact s a (here, omega arith) old))
 
-        to-lock : (s a : ℕ) → on i j ≡ on s 4 → opAt n rd' d s ≡ Release a → Intact n rd' d s ⊎ SinceLoss d (moved d s ∷ []) (es ++ more)
+        to-lock : (s a : ℕ) → on i j ≡ on s 4 → op_at n rd' d s ≡ Release a → Intact n rd' d s ⊎ SinceLoss d (moved d s ∷ []) (es ++ more)
         to-lock s a e o =
             let (f, g) = same_step e in
             let (h, m) = u (λ z. omega arith) in
             let here : s ≡ k = sym f ∙ h in
             let three : t ≡ 3 = omega arith in
             let old = op_same n rd rd' d code s a o in
-            let at-k = subst (λ (b : ℕ). opAt n rd d b ≡ Release a) here old in
+            let at-k = subst (λ (b : ℕ). op_at n rd d b ≡ Release a) here old in
             let same = intent a at-k (omega arith) in
             by same (own a at-k three) here (x.target s a (rw (here, three)) old)
           where
@@ -224,11 +224,11 @@ module _ (mark n D : ℕ) (cells : List ℕ) (w : Traced) (d : ℕ) (r : Running
 
     -- by the outcome
     own-outcome :
-        (o : Outcome) → Onward k t o → ((a : ℕ) → opAt n rd d k ≡ Release a → Releases t o)
+        (o : Outcome) → Onward k t o → ((a : ℕ) → op_at n rd d k ≡ Release a → Releases t o)
         → Stepped n rd d (w.trace.last d) (r.locks d) (w.trace.jumps d) o → Fed w o
-        → AccountedAt n (turn_memory rd o) d (turn_cursor (on k t) o) (es ++ eventsBy mark n w d o)
+        → AccountedAt n (turn_memory rd o) d (turn_cursor (on k t) o) (es ++ events_by mark n w d o)
     own-outcome (stored p v c) u rel (l, touch, ph) fed =
-        goes_on (upd rd p v) (storeEvents mark n w d p v) (touch-code n rd d (r.locks d) p v l touch d)
+        goes_on (upd rd p v) (store_events mark n w d p v) (touch-code n rd d (r.locks d) p v l touch d)
         (λ a o b. rw (apart_of is_intent (field Intent d) p refl ((rel a o).0 b)))
         (λ a o b. stored-own mark n w d p v (fed refl) ((rel a o).1 b) ∙ ap (λ (i : Cursor). moved d (step_no i) ∷ []) q) c u
     own-outcome (passed why c) u rel ph fed =
@@ -237,29 +237,29 @@ module _ (mark n D : ℕ) (cells : List ℕ) (w : Traced) (d : ℕ) (r : Running
     own-outcome (waiting b) u rel y fed =
         record { target = λ s a e o. absurd (never s a (ap step_no e) o); lock = λ s a e o. absurd (never s a (ap step_no e) o) }
       where
-        never : (s a : ℕ) → k ≡ s → opAt n rd d s ≡ Release a → ⊥
+        never : (s a : ℕ) → k ≡ s → op_at n rd d s ≡ Release a → ⊥
         never s a e o = rel a (rw e o)
     own-outcome resting u rel y fed = rw append-nil x
     own-outcome (refused f) u rel y fed = absurd y
 
   own-accounted :
       AccountedAt n rd d cursor es → Fed w (next_turn n w d)
-      → AccountedAt n (turn_memory rd (next_turn n w d)) d (turn_cursor cursor (next_turn n w d)) (es ++ eventsBy mark n w d (next_turn n w d))
-  unfolding turnAt
+      → AccountedAt n (turn_memory rd (next_turn n w d)) d (turn_cursor cursor (next_turn n w d)) (es ++ events_by mark n w d (next_turn n w d))
+  unfolding turn_at
   own-accounted x fed = by cursor refl x (steps mark n D cells w d r dl) fed
     where
       by :
-          (c : Cursor) → cursor ≡ c → AccountedAt n rd d c es → Stepped n rd d (w.trace.last d) (r.locks d) (w.trace.jumps d) (turnAt n rd d c)
-          → Fed w (turnAt n rd d c)
-          → AccountedAt n (turn_memory rd (turnAt n rd d c)) d (turn_cursor c (turnAt n rd d c)) (es ++ eventsBy mark n w d (turnAt n rd d c))
+          (c : Cursor) → cursor ≡ c → AccountedAt n rd d c es → Stepped n rd d (w.trace.last d) (r.locks d) (w.trace.jumps d) (turn_at n rd d c)
+          → Fed w (turn_at n rd d c)
+          → AccountedAt n (turn_memory rd (turn_at n rd d c)) d (turn_cursor c (turn_at n rd d c)) (es ++ events_by mark n w d (turn_at n rd d c))
       by idle q y st f = rw append-nil y
-      by (on k t) q y st f = own-outcome k t q y (turnAt n rd d (on k t)) (turn-onward n rd d k t) (λ a o. turn-releases n rd d k a o t) st f
+      by (on k t) q y st f = own-outcome k t q y (turn_at n rd d (on k t)) (turn-onward n rd d k t) (λ a o. turn-releases n rd d k a o t) st f
 
   -- ---- another's
 
   other-accounted :
       (e : ℕ) → e ≢ d → (c : Cursor) (o : Outcome) → Stepped n rd d (w.trace.last d) (r.locks d) (w.trace.jumps d) o → AccountedAt n rd e c es
-      → AccountedAt n (turn_memory rd o) e c (es ++ eventsBy mark n w d o)
+      → AccountedAt n (turn_memory rd o) e c (es ++ events_by mark n w d o)
   other-accounted e i c (stored p v c') (l, touch, ph) x =
       accounted-same n rd (upd rd p v) e (touch-other n rd d (r.locks d) p v l touch e i Intent) (touch-code n rd d (r.locks d) p v l touch e) c es _
       (own-by mark n w d (stored p v c') e i) x
@@ -282,16 +282,16 @@ resumed-other : (n : ℕ) (rd : Memory) (d s : ℕ) → resumed n rd d ≡ on s 
 unfolding resumed
 resumed-other n rd d s e = by (eqb (rd (field Pc d)) 0) e
   where
-    by : (b : Bool) → cond b idle (on (namedStep n rd d) (target_turn (namedOp n rd d))) ≡ on s 4 → ⊥
+    by : (b : Bool) → cond b idle (on (named_step n rd d) (target_turn (named_op n rd d))) ≡ on s 4 → ⊥
     by true q = on-not-idle s 4 (sym q)
-    by false q = target-other (namedOp n rd d) (ap turn_no q)
+    by false q = target-other (named_op n rd d) (ap turn_no q)
 
 module _ (mark n D : ℕ) (cells : List ℕ) where
   abbrev pub Accounted : Traced → Type 0
   Accounted w = (e : ℕ) → e < D → AccountedAt n (at n w.world.image) e (cursor_at w.world.cursors e) w.trace.events
 
   turn-accounted :
-      (w : Traced) (d : ℕ) → Running mark n D cells w → d < D → Fed w (next_turn n w d) → Accounted w → Accounted (turnBy mark n w d (next_turn n w d))
+      (w : Traced) (d : ℕ) → Running mark n D cells w → d < D → Fed w (next_turn n w d) → Accounted w → Accounted (turn_by mark n w d (next_turn n w d))
   turn-accounted w d r dl fed x e l =
       let o = next_turn n w d in
       rw (turned-memory mark n D cells w d r dl fed, turned-cursors mark n D cells w d r dl e l, events-by mark n w d o) (by (ℕ_discrete e d))
@@ -300,7 +300,7 @@ module _ (mark n D : ℕ) (cells : List ℕ) where
           Dec (e ≡ d)
           → AccountedAt n (turn_memory (at n w.world.image) (next_turn n w d)) e
           (but (cursor_at w.world.cursors) d (turn_cursor (cursor_at w.world.cursors d) (next_turn n w d)) e)
-          (w.trace.events ++ eventsBy mark n w d (next_turn n w d))
+          (w.trace.events ++ events_by mark n w d (next_turn n w d))
       by (yes i) = rw (i, but_same (cursor_at w.world.cursors) d (turn_cursor (cursor_at w.world.cursors d) (next_turn n w d)))
           (own-accounted mark n D cells w d r dl (x d dl) fed)
       by (no i) = rw (but-other (cursor_at w.world.cursors) d (turn_cursor (cursor_at w.world.cursors d) (next_turn n w d)) e i)

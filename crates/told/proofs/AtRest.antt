@@ -19,7 +19,7 @@ use Rattle.image.proofs.Lists.{all_valid}
 use Rattle.working.specs.Cursor.{all_idle}
 use Rattle.owed.specs.Owed.{owed}
 use Rattle.repair.specs.Plan.{when, rows, unbegun, intended, unlock, intend, withdraw, relock, relocks, plan}
-use Rattle.resuming.specs.Resumed.{resumedAll}
+use Rattle.resuming.specs.Resumed.{resumed_all}
 use Rattle.recovery.specs.Recovery.{recovery, accepted}
 use Rattle.claims.specs.Calls.{recovers, call, lent, from}
 use Rattle.claims.specs.Claims.{Rested}
@@ -96,16 +96,16 @@ module _ (mark n : ℕ) (m : Image) (r : Rested mark n m) where
       (stands-rows rd (relocks n rd) 0 D
       (λ d l u. stands-rows rd (relock n rd d) 0 64 (λ b i j. stands-unmade rd (has (owed n rd d) b) _ (rw (not-owed d (omega arith)) (has-none b)))))))
 
-  none-held : (resumedAll n rd D).held ≡ 0
-  unfolding resumedAll
+  none-held : (resumed_all n rd D).held ≡ 0
+  unfolding resumed_all
   none-held =
       no-members (union (owed n rd) D) (union-small (owed n rd) D (λ d l. rw (not-owed d l) (omega arith)))
       (λ b l. union-lacks (owed n rd) D b (λ d u. rw (not-owed d u) (has-none b)))
 
-  all-idle : resumedAll n rd D ≡ all_idle
+  all-idle : resumed_all n rd D ≡ all_idle
   all-idle =
       let small = (header-workers mark n m r.header).1 in
-      neat-idle D (resumedAll n rd D) (resumed-full n rd D) (resumed-neat n rd D small)
+      neat-idle D (resumed_all n rd D) (resumed-full n rd D) (resumed-neat n rd D small)
       (λ d l. resumed-cursor n rd D d l small ∙ resumed-idle n rd d (r.empty d l).1) none-held
 
   rest-accepted : recovery mark n m ≡ accepted (plan n rd D) all_idle

@@ -23,7 +23,7 @@ use Rattle.working.proofs.Placed.{sayable, held-cursor}
 use Rattle.intake.proofs.Submission.{submission-length}
 use Rattle.resuming.specs.Resumed.{resumed}
 use Rattle.claims.specs.Events.{but}
-use Rattle.claims.specs.Calls.{Traced, turnBy}
+use Rattle.claims.specs.Calls.{Traced, turn_by}
 use Rattle.claims.proofs.Turns.{Stepped}
 use Rattle.claims.proofs.AtStore.{memory-store}
 use Rattle.claims.proofs.LiveTurn.{but-self}
@@ -65,7 +65,7 @@ module _ (mark n D : ℕ) (cells : List ℕ) (w : Traced) (d : ℕ) (r : Running
 
   memory-by :
       (o : Outcome) → Stepped n rd d (w.trace.last d) (r.locks d) (w.trace.jumps d) o → Fed w o
-      → at n (turnBy mark n w d o).world.image ≡ turn_memory rd o
+      → at n (turn_by mark n w d o).world.image ≡ turn_memory rd o
   memory-by (stored p v c) (l, t, ph) fed =
       memory-store n D w.world.image (running-sized mark n D cells w r.reached) w.world.left p v
       (touches-valid n D rd d (r.locks d) p v l dl t) (fed refl)
@@ -74,7 +74,7 @@ module _ (mark n D : ℕ) (cells : List ℕ) (w : Traced) (d : ℕ) (r : Running
   memory-by resting s fed = refl
   memory-by (refused x) s fed = refl
 
-  pub turned-memory : Fed w (next_turn n w d) → at n (turnBy mark n w d (next_turn n w d)).world.image ≡ turn_memory rd (next_turn n w d)
+  pub turned-memory : Fed w (next_turn n w d) → at n (turn_by mark n w d (next_turn n w d)).world.image ≡ turn_memory rd (next_turn n w d)
   turned-memory fed = memory-by (next_turn n w d) (steps mark n D cells w d r dl) fed
 
   placed_by : (c : Cursor) → sayable c → (e : ℕ) → e < D → cursor_at (placed w.world.cursors d c) e ≡ but cursors d c e
@@ -82,7 +82,7 @@ module _ (mark n D : ℕ) (cells : List ℕ) (w : Traced) (d : ℕ) (r : Running
 
   cursors-by :
       (o : Outcome) → Stepped n rd d (w.trace.last d) (r.locks d) (w.trace.jumps d) o → (e : ℕ) → e < D
-      → cursor_at (turnBy mark n w d o).world.cursors e ≡ but cursors d (turn_cursor (cursors d) o) e
+      → cursor_at (turn_by mark n w d o).world.cursors e ≡ but cursors d (turn_cursor (cursors d) o) e
   cursors-by (stored p v c) (l, t, ph) e h =
       held-cursor _ (placed w.world.cursors d c) e ∙ placed_by c (phase-sayable n (upd rd p v) d (w.trace.last d) c l _ ph) e h
   cursors-by (passed why c) ph e h = placed_by c (phase-sayable n rd d (w.trace.last d) c (r.locks d) _ ph) e h
@@ -92,7 +92,7 @@ module _ (mark n D : ℕ) (cells : List ℕ) (w : Traced) (d : ℕ) (r : Running
 
   pub turned-cursors :
       (e : ℕ) → e < D
-      → cursor_at (turnBy mark n w d (next_turn n w d)).world.cursors e ≡ but cursors d (turn_cursor (cursors d) (next_turn n w d)) e
+      → cursor_at (turn_by mark n w d (next_turn n w d)).world.cursors e ≡ but cursors d (turn_cursor (cursors d) (next_turn n w d)) e
   turned-cursors = cursors-by (next_turn n w d) (steps mark n D cells w d r dl)
 
 -- ---- a submission, of any number of stores

@@ -166,7 +166,8 @@ module _ (own : ℕ) (ws : List ℕ) (passed : passes (check own (length ws) (co
   bounds first c = by path refl B.way
     where
       by : (p : List ℕ) → path ≡ p → IsWay (code_of ws) p
-          → (needs_by lesser (length ws) (code_of ws) 0 ≤ turns_along (code_of ws) path) × (turns_along (code_of ws) path ≤ needs_by larger (length ws) (code_of ws) 0)
+          → (needs_by lesser (length ws) (code_of ws) 0 ≤ turns_along (code_of ws) path)
+          × (turns_along (code_of ws) path ≤ needs_by larger (length ws) (code_of ws) 0)
       by [] e w = absurd w
       by (i ∷ q) e (z, g) = let f : path ≡ [] ++ (0 ∷ q) = e ∙ ap (λ (y : ℕ). y ∷ q) z in rw f (B.least [] 0 q f, B.greatest [] 0 q f)
   bounds (resumed s) (h, l) =

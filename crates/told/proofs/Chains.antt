@@ -17,9 +17,9 @@ use Rattle.rules.specs.Rules.{covered}
 use Rattle.section.specs.Valid.{Valid}
 use Rattle.working.specs.Cursor.{Cursor, on}
 use Rattle.worklog.specs.Log.{operand, code_in, word_in}
-use Rattle.plan.specs.Turn.{Outcome, stored, passed, waiting, resting, refused, opTurn, turnAt, logged}
+use Rattle.plan.specs.Turn.{Outcome, stored, passed, waiting, resting, refused, op_turn, turn_at, logged}
 use Rattle.claims.specs.Reference.{Given}
-use Rattle.claims.proofs.Invariant.{opAt, held_at, Nearing, Jumps, stay, leap}
+use Rattle.claims.proofs.Invariant.{op_at, held_at, Nearing, Jumps, stay, leap}
 use Rattle.claims.proofs.Invariant.{Phase, resting as rests, fresh, due, unlocking, unlocked, between, ended}
 use Rattle.claims.proofs.Sets.{Subset}
 use Rattle.claims.proofs.Frame.{Agree, jumps-held, nearing-within}
@@ -28,18 +28,18 @@ use Rattle.claims.proofs.Origins.{near-ready}
 
 module _ (n : ℕ) (rd : Memory) (d : ℕ) where
   -- where a step leads, if it is a jump
-  abbrev pub hopBy : ℕ → Op → ℕ
-  hopBy k (Acquire a) = suc k
-  hopBy k (Release a) = suc k
-  hopBy k (Assign a e) = suc k
-  hopBy k (Jump a b) = cond (eqb (word_in n rd d a) 0) b (suc k)
-  hopBy k Finish = suc k
-  hopBy k Unknown = suc k
+  abbrev pub hop_by : ℕ → Op → ℕ
+  hop_by k (Acquire a) = suc k
+  hop_by k (Release a) = suc k
+  hop_by k (Assign a e) = suc k
+  hop_by k (Jump a b) = cond (eqb (word_in n rd d a) 0) b (suc k)
+  hop_by k Finish = suc k
+  hop_by k Unknown = suc k
 
   -- j hops from step i
   abbrev pub landing : ℕ → ℕ → ℕ
   landing i zero = i
-  landing i (suc j) = hopBy (landing i j) (opAt n rd d (landing i j))
+  landing i (suc j) = hop_by (landing i j) (op_at n rd d (landing i j))
 
   abbrev pub chain : ℕ → ℕ → List ℕ
   chain i zero = []
@@ -57,7 +57,7 @@ module _ (n : ℕ) (rd rd' : Memory) (e i : ℕ) (valid : Valid n (rd (field Cou
   same-both (leap j k a b J l o) =
       let (p, q) = same-both J in
       let at : landing n rd e i j ≡ k = lands n rd e J in
-      let o' : opAt n rd' e k ≡ Jump a b = rw (steps k) o in
+      let o' : op_at n rd' e k ≡ Jump a b = rw (steps k) o in
       let held = jumps-held n rd e i j k valid J in
       let c : covered (held_at n rd e i) a ≡ true = rw (← held) (valid.tests k a b l o) in
       (rw (p, q), rw (q, at, o', o, words a c))
@@ -94,7 +94,7 @@ phase-chain n rd rd' e g _ _ _ (between r k t locks j sec m f js l w h near) A s
     let same : r ≡ s = omega arith in
     let sub : Subset (held_at n rd e (suc s)) locks =
     subst (λ (x : ℕ). Subset x locks) (h ∙ ap (λ (x : ℕ). held_at n rd e (suc x)) same)
-    (nearing-within n rd e k t (held_at n rd e k) locks (opAt n rd e k) near) in
+    (nearing-within n rd e k t (held_at n rd e k) locks (op_at n rd e k) near) in
     chain_same n rd rd' e (suc s) sec.valid A.steps (λ a c. word-agrees n rd rd' e locks A (held_at n rd e (suc s)) a sub c)
     (subst (λ (x : ℕ). Jumps n rd e (suc x) j k) same js)
 phase-chain n rd rd' e g _ _ _ (ended r sec p w i l o) A s q = refl
@@ -123,7 +123,7 @@ module _ (n : ℕ) (rd : Memory) (d : ℕ) where
   logged-aside s t p v c (suc (suc zero)) l = tt
   logged-aside s t p v c (suc (suc (suc i))) l = absurd (omega arith)
 
-  near-aside : (s t h locks : ℕ) (x : Op) → Nearing n rd d s t h locks x → Aside (opTurn n rd d s t x)
+  near-aside : (s t h locks : ℕ) (x : Op) → Nearing n rd d s t h locks x → Aside (op_turn n rd d s t x)
   near-aside s zero h locks (Acquire a) m = tt
   near-aside s (suc zero) h locks (Acquire a) m = by (eqb (rd (lock a)) 0)
     where
@@ -166,7 +166,7 @@ module _ (n : ℕ) (rd : Memory) (d : ℕ) where
   no_step (step e x) v y h = absurd h
 
   pub own-chain :
-      (g : Given) (c : Cursor) (locks j : ℕ) → Phase n rd d g c locks j → (p : Place) (v : ℕ) (c' : Cursor) → turnAt n rd d c ≡ stored p v c'
+      (g : Given) (c : Cursor) (locks j : ℕ) → Phase n rd d g c locks j → (p : Place) (v : ℕ) (c' : Cursor) → turn_at n rd d c ≡ stored p v c'
       → (s : ℕ) → rd (field Pc d) % 2 ^ 63 ≡ suc s → chain n (upd rd p v) d (suc s) j ≡ chain n rd d (suc s) j
   own-chain g _ _ _ (rests k p i o) _ v c' e s q = refl
   own-chain g _ _ _ (fresh t locks sec h p o m) _ v c' e s q = refl
@@ -176,8 +176,8 @@ module _ (n : ℕ) (rd : Memory) (d : ℕ) where
   own-chain g _ _ _ (between r k t locks j sec m f js l w h near) p v c' e s q =
       let z = m.pc in
       let same : r ≡ s = omega arith in
-      let o = turn-op n rd d k t (opAt n rd d k) sec.valid l refl (near-ready n rd d k t (held_at n rd d k) locks (opAt n rd d k) near) in
-      let off : no_word p = subst Aside (sym o ∙ e) (near-aside k t (held_at n rd d k) locks (opAt n rd d k) near) in
+      let o = turn-op n rd d k t (op_at n rd d k) sec.valid l refl (near-ready n rd d k t (held_at n rd d k) locks (op_at n rd d k) near) in
+      let off : no_word p = subst Aside (sym o ∙ e) (near-aside k t (held_at n rd d k) locks (op_at n rd d k) near) in
       chain_same n rd (upd rd p v) d (suc s) sec.valid (λ y. no_step p v y off) (λ a c. no-word p v a off)
       (subst (λ (x : ℕ). Jumps n rd d (suc x) j k) same js)
   own-chain g _ _ _ (ended r sec p w i l o) _ v c' e s q = refl

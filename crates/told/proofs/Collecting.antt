@@ -14,8 +14,8 @@ use Rattle.claims.specs.Calls.{Move, whole, cut, lent, move, recovering, legal, 
 use Rattle.claims.proofs.Worlds.{Running}
 use Rattle.claims.proofs.Settling.{spare-turn}
 use Rattle.claims.proofs.Played.{plenty, spare-lent, recovers-only, whole-good, cut-good}
-use Rattle.told.specs.Moments.{Moment, moment, Each, inRounds, inCall}
-use Rattle.told.specs.Reports.{inUncut}
+use Rattle.told.specs.Moments.{Moment, moment, Each, in_rounds, in_call}
+use Rattle.told.specs.Reports.{in_uncut}
 use Rattle.told.proofs.Keeping.{next_turn, Fed, Sorted, Keeps, Both, both-turned, Kept, good, move-whole, move-cut}
 use Rattle.told.proofs.Moments.{each_append, rounds-each as run-each}
 
@@ -33,7 +33,7 @@ module _
 
   -- ---- runs and calls
 
-  rounds-each : (r : ℕ) (w : Traced) → B w → Each P (inRounds mark n r D w)
+  rounds-each : (r : ℕ) (w : Traced) → B w → Each P (in_rounds mark n r D w)
   rounds-each = run-each mark n D B P (both-turned mark n D cells R C A K) both-each
 
   turn-each : (w : Traced) (d : ℕ) → B w → P (moment w d)
@@ -43,8 +43,8 @@ module _
       by true h = both-each w d (ltb-true d D h) b
       by false h = above w d b.spare.running h
 
-  call-each : (c : Call) (w : Traced) → B w → Each P (inCall mark n c w)
-  unfolding inCall
+  call-each : (c : Call) (w : Traced) → B w → Each P (in_call mark n c w)
+  unfolding in_call
   call-each (submits d k args ws) w b = tt
   call-each (turns d) w b = (turn-each w d b, tt)
   call-each (runs t) w b = let r = b.spare.running.reached in rw (r.header, r.many) (rounds-each t w b)
@@ -53,8 +53,8 @@ module _
   -- ---- lists; where a recovery is owing the call is one, and makes no turn
 
   whole_each : (b : Bool) (c : Call) (w : Traced) → (not b || recovering c) ≡ true → Kept mark n D cells R C A K b w
-      → Each P (inCall mark n c (lent mark n (plenty mark n D cells) w))
-  unfolding inCall
+      → Each P (in_call mark n c (lent mark n (plenty mark n D cells) w))
+  unfolding in_call
   whole_each false c w h (r, x) =
       let k = plenty mark n D cells in
       call-each c (lent mark n k w)
@@ -63,15 +63,15 @@ module _
 
   pub uncut-each :
       (b : Bool) (xs : List Move) (w : Traced) → 8 ≤ n → n ≤ 64 → machine xs ≡ true → legal b xs ≡ true → Sorted mark n A xs w
-      → Kept mark n D cells R C A K b w → Each P (inUncut mark n xs w)
-  unfolding inUncut legal machine
+      → Kept mark n D cells R C A K b w → Each P (in_uncut mark n xs w)
+  unfolding in_uncut legal machine
   uncut-each b [] w wide narrow h l s k = tt
   uncut-each b (whole c ∷ xs) w wide narrow h l (a, s) k =
       let p = and_left (callable c) (machine xs) h in
       let ps = and_right (callable c) (machine xs) h in
       let q = and_left (not b || recovering c) (legal false xs) l in
       let qs = and_right (not b || recovering c) (legal false xs) l in
-      each_append P (inCall mark n c (lent mark n (plenty mark n D cells) w)) (inUncut mark n xs (move mark n (whole c) w)) (whole_each b c w q k)
+      each_append P (in_call mark n c (lent mark n (plenty mark n D cells) w)) (in_uncut mark n xs (move mark n (whole c) w)) (whole_each b c w q k)
       (uncut-each false xs (move mark n (whole c) w) wide narrow ps qs s
       (whole-good mark n D cells b c w wide narrow p q (good mark n D cells R C A K b w k), move-whole mark n D cells R C A K b c w p q a k))
   uncut-each b (cut j c ∷ xs) w wide narrow h l (a, s) k =

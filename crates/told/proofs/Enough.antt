@@ -29,11 +29,11 @@ use Rattle.intake.specs.Submit.{submission, free, submit_answer, submit_leaves, 
 use Rattle.intake.proofs.Submission.{accepted as met, submission-length}
 use Rattle.recovery.specs.Recovery.{Recovered, accepted, rejected, by_first, recovery}
 use Rattle.soundness.specs.declared.Refusal.TheVariants.{Image as ImageRefused, Record, Lock}
-use Rattle.soundness.specs.Sound.{badLock, unsound}
-use Rattle.resuming.specs.Resumed.{resumedAll}
+use Rattle.soundness.specs.Sound.{bad_lock, unsound}
+use Rattle.resuming.specs.Resumed.{resumed_all}
 use Rattle.repair.specs.Plan.{plan}
 use Rattle.claims.specs.Reference.{given}
-use Rattle.claims.specs.Calls.{Trace, Traced, traced, taking, forgetful, turnBy, turnedAt, refuses, round, rounds, ranBy, submitTrace, recoveredBy}
+use Rattle.claims.specs.Calls.{Trace, Traced, traced, taking, forgetful, turn_by, turned_at, refuses, round, rounds, ran_by, submit_trace, recovered_by}
 use Rattle.claims.specs.Calls.{Call, submits, turns, runs, recovers, call, lent, callable}
 use Rattle.told.specs.Enough.{makes, EnoughIsWhole}
 use Rattle.claims.proofs.RecoveryImage.{plan-length}
@@ -63,15 +63,15 @@ module _ (mark n : ℕ) where
 
   -- ---- turns
 
-  turn-steady : (w : Traced) (d : ℕ) (o : Outcome) → Steady (λ k. turnBy mark n (lent mark n k w) d o) 1
+  turn-steady : (w : Traced) (d : ℕ) (o : Outcome) → Steady (λ k. turn_by mark n (lent mark n k w) d o) 1
   unfolding put
-  turn-steady w d (stored p v c) = record { stores = 1; few = omega arith; after = turnBy mark n (lent mark n 1 w) d (stored p v c); same = by }
+  turn-steady w d (stored p v c) = record { stores = 1; few = omega arith; after = turn_by mark n (lent mark n 1 w) d (stored p v c); same = by }
     where
-      by : (k : ℕ) → 1 ≤ k → turnBy mark n (lent mark n k w) d (stored p v c) ≡ lent mark n (k - 1) (turnBy mark n (lent mark n 1 w) d (stored p v c))
+      by : (k : ℕ) → 1 ≤ k → turn_by mark n (lent mark n k w) d (stored p v c) ≡ lent mark n (k - 1) (turn_by mark n (lent mark n 1 w) d (stored p v c))
       by zero h = absurd (omega arith)
       by (suc k) h = rw (ne_eqb (suc k) 0 (λ e. omega arith))
-  turn-steady w d (passed why c) = still (turnBy mark n w d (passed why c)) 1
-  turn-steady w d (waiting b) = still (turnBy mark n w d (waiting b)) 1
+  turn-steady w d (passed why c) = still (turn_by mark n w d (passed why c)) 1
+  turn-steady w d (waiting b) = still (turn_by mark n w d (waiting b)) 1
   turn-steady w d resting = still w 1
   turn-steady w d (refused r) = still w 1
 
@@ -94,8 +94,8 @@ module _ (mark n : ℕ) where
   steady-cond true f g a u v = u
   steady-cond false f g a u v = v
 
-  turned-steady : (w : Traced) (d : ℕ) → Steady (λ k. turnedAt mark n (lent mark n k w) d) 1
-  unfolding turnedAt outcome_at
+  turned-steady : (w : Traced) (d : ℕ) → Steady (λ k. turned_at mark n (lent mark n k w) d) 1
+  unfolding turned_at outcome_at
   turned-steady w d = turn-steady w d (outcome_at n w.world d)
 
   -- a round of j workers, where what follows makes at most a stores
@@ -108,7 +108,7 @@ module _ (mark n : ℕ) where
       let v = round-steady rest a h u.after (d + 1) j in
       steady-cond (refuses mark n (outcome_at n w.world d)) _ _ (suc j + a)
       (still w (suc j + a))
-      (within (suc j + a) (omega arith) (steady_then (λ k. turnedAt mark n (lent mark n k w) d) (λ x. round mark n rest x (d + 1) j) 1 (j + a) u v))
+      (within (suc j + a) (omega arith) (steady_then (λ k. turned_at mark n (lent mark n k w) d) (λ x. round mark n rest x (d + 1) j) 1 (j + a) u v))
 
   rounds-steady : (r D : ℕ) → D ≤ 8 → (w : Traced) → Steady (λ k. rounds mark n r D (lent mark n k w)) (r * 8)
   unfolding rounds
@@ -118,8 +118,8 @@ module _ (mark n : ℕ) where
       (within (suc r * 8) (omega (arith, suc-mul r 8)) (round-steady (rounds mark n r D) (r * 8) (rounds-steady r D h) w 0 D))
       (still w (suc r * 8))
 
-  run-steady : (w : Traced) (r : ℕ) → Steady (λ k. ranBy mark n (lent mark n k w) r) (r * 8)
-  unfolding ranBy
+  run-steady : (w : Traced) (r : ℕ) → Steady (λ k. ran_by mark n (lent mark n k w) r) (r * 8)
+  unfolding ran_by
   run-steady w r = by (header_ok mark n w.world.image) refl
     where
       by : (b : Bool) → header_ok mark n w.world.image ≡ b
@@ -145,7 +145,7 @@ module _ (mark n : ℕ) where
   submit-steady w d k args ws wide narrow full = by (submit_answer mark n w.world d k ws) refl
     where
       by : (a : Submitted) → submit_answer mark n w.world d k ws ≡ a
-          → Steady (λ j. traced (submit_leaves n (lent mark n j w).world d k args ws a) (submitTrace mark n w.trace (given d k args ws) a)) 130
+          → Steady (λ j. traced (submit_leaves n (lent mark n j w).world d k args ws a) (submit_trace mark n w.trace (given d k args ws) a)) 130
       by Taken e =
           let few = (check-parts n (length ws) (code_of ws) (met mark n w.world d k ws (ap is_taken e)).checked).1 in
           within 130 (rw (submission-length n d k args ws full wide) (omega arith))
@@ -154,22 +154,22 @@ module _ (mark n : ℕ) where
 
   recover-steady : (w : Traced) → Steady (λ k. call mark n recovers (lent mark n k w)) 592
   unfolding call recovery
-  recover-steady w = by (header_ok mark n m) refl (badLock n (at n m) (workers m) 0 64) (unsound n (at n m) (workers m) 0 (workers m))
+  recover-steady w = by (header_ok mark n m) refl (bad_lock n (at n m) (workers m) 0 64) (unsound n (at n m) (workers m) 0 (workers m))
     where
       m : Image
       m = w.world.image
 
       good : Recovered
-      good = accepted (plan n (at n m) (workers m)) (resumedAll n (at n m) (workers m))
+      good = accepted (plan n (at n m) (workers m)) (resumed_all n (at n m) (workers m))
 
       refusing : Steady (λ k. traced (world m all_idle k) (forgetful w.trace)) 592
       refusing = still (traced (world m all_idle 0) (forgetful w.trace)) 592
 
       by : (b : Bool) → header_ok mark n m ≡ b → (bs ds : List ℕ)
-          → Steady (λ k. recoveredBy mark n (lent mark n k w) (cond b (by_first Record (by_first Lock good bs) ds) (rejected ImageRefused))) 592
+          → Steady (λ k. recovered_by mark n (lent mark n k w) (cond b (by_first Record (by_first Lock good bs) ds) (rejected ImageRefused))) 592
       by true h [] [] =
           within 592 (plan-length n (at n m) (workers m) (header-workers mark n m h).1)
-          (list-steady m (plan n (at n m) (workers m)) (resumedAll n (at n m) (workers m)) (forgetful w.trace))
+          (list-steady m (plan n (at n m) (workers m)) (resumed_all n (at n m) (workers m)) (forgetful w.trace))
       by true h (b ∷ bs) [] = refusing
       by true h bs (d ∷ ds) = refusing
       by false h bs ds = refusing

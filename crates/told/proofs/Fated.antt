@@ -14,7 +14,7 @@ use Rattle.working.proofs.Placed.{idle-is}
 use Rattle.plan.specs.Turn.{Outcome}
 use Rattle.claims.specs.Reference.{Given, given}
 use Rattle.claims.specs.Events.{Event, taken, moved, waited, recorded, ended, lost}
-use Rattle.claims.specs.Calls.{Traced, turnBy, from, afterCut}
+use Rattle.claims.specs.Calls.{Traced, turn_by, from, after_cut}
 use Rattle.claims.specs.Claims.{of_worker}
 use Rattle.claims.proofs.Feeding.{of-snoc-same, of-snoc-other}
 use Rattle.claims.proofs.Called.{dl}
@@ -24,7 +24,7 @@ use Rattle.told.specs.Spanned.{counted, owing, Fate, by_turn, by_loss, decided}
 use Rattle.told.specs.Spanned.{fates_from, fates_of, overs_by, overs, whose, whose_start, EachFated}
 use Rattle.told.proofs.Keeping.{next_turn, submitted, recovered, Keeps}
 use Rattle.told.proofs.FromRest.{Any, kept-list}
-use Rattle.told.proofs.Accounting.{eventsBy, events-by}
+use Rattle.told.proofs.Accounting.{events_by, events-by}
 use Rattle.told.proofs.Passages.{heed-none, heed-cons, heed-append, heed-taken, heed-aside}
 use Rattle.told.proofs.Spanning.{Spanning, Moored, spanning-keeps}
 use Rattle.told.proofs.Turns.{rested-spanning}
@@ -172,11 +172,11 @@ module _ (mark n D : ℕ) (cells : List ℕ) where
     moored : Moored mark n D cells w
     every : AllEvery w
 
-  turn-every : (w : Traced) (d : ℕ) (o : Outcome) → AllEvery w → AllEvery (turnBy mark n w d o)
+  turn-every : (w : Traced) (d : ℕ) (o : Outcome) → AllEvery w → AllEvery (turn_by mark n w d o)
   turn-every w d o x e l =
       rw (turn-taken mark n w d o, events-by mark n w d o)
-      (more-every e w.trace.events (eventsBy mark n w d o) (of_worker e w.trace.taken)
-      (quiet-no (eventsBy mark n w d o) (turn-quiet mark n w d o)) (x e l))
+      (more-every e w.trace.events (events_by mark n w d o) (of_worker e w.trace.taken)
+      (quiet-no (events_by mark n w d o) (turn-quiet mark n w d o)) (x e l))
 
   submitted-every :
       (w : Traced) (d k : ℕ) (args ws : List ℕ) → d < D → cursor_at w.world.cursors d ≡ idle → Spanning mark n D cells w → AllEvery w
@@ -245,7 +245,7 @@ module _ (mark n D : ℕ) (cells : List ℕ) where
             record { spanning = K.recover w k left a x.moored; every = lost-every w (recovered mark n w) refl refl x.every };
         recover-cut = λ w j k a x.
             record { moored = K.recover-cut w j k a x.moored; every = lost-every w (recovered mark n w) refl refl x.every };
-        cut_off = λ w x. record { moored = K.cut_off w x.moored; every = lost-every w (afterCut mark n w) refl refl x.every };
+        cut_off = λ w x. record { moored = K.cut_off w x.moored; every = lost-every w (after_cut mark n w) refl refl x.every };
       }
 
 pub each-fated : (mark n : ℕ) → 8 ≤ n → n ≤ 64 → EachFated mark n

@@ -12,9 +12,9 @@ use Rattle.image.specs.Place.{field}
 use Rattle.image.specs.Image.{Image, at, workers, cells_of}
 use Rattle.plan.specs.Turn.{Outcome, stored, passed, waiting, resting, refused}
 use Rattle.claims.specs.Reference.{Given}
-use Rattle.claims.specs.Calls.{Traced, is_pc, turnBy, ends_cut}
+use Rattle.claims.specs.Calls.{Traced, is_pc, turn_by, ends_cut}
 use Rattle.claims.specs.Claims.{after, mended}
-use Rattle.told.specs.Once.{numbers_of, among, begunBy, BegunFinishes}
+use Rattle.told.specs.Once.{numbers_of, among, begun_by, BegunFinishes}
 use Rattle.claims.proofs.Turning.{still}
 use Rattle.claims.proofs.Played.{Worth, Good}
 use Rattle.claims.proofs.Durable.{list-good}
@@ -39,7 +39,7 @@ module _ (mark n D : ℕ) (cells : List ℕ) (first : List Given) where
   more-then begun g true false x = x
   more-then begun g true true (more, e) = (more ++ (g ∷ []), rw e (append_assoc first more (g ∷ [])))
 
-  turn-extends : (w : Traced) (d : ℕ) (o : Outcome) → Fed w o → Extends w → Extends (turnBy mark n w d o)
+  turn-extends : (w : Traced) (d : ℕ) (o : Outcome) → Fed w o → Extends w → Extends (turn_by mark n w d o)
   turn-extends w d (stored p v c) fed x =
       rw (turn-begun mark n w d p v c (fed refl))
       (more-then w.trace.begun (w.trace.last d) (is_pc p) (eqb (at n w.world.image (field Pc d)) 0) x)
@@ -48,7 +48,7 @@ module _ (mark n D : ℕ) (cells : List ℕ) (first : List Given) where
   turn-extends w d resting fed x = x
   turn-extends w d (refused r) fed x = x
 
-  still-extends : (w : Traced) (d : ℕ) (o : Outcome) → w.world.left ≡ 0 → Extends w → Extends (turnBy mark n w d o)
+  still-extends : (w : Traced) (d : ℕ) (o : Outcome) → w.world.left ≡ 0 → Extends w → Extends (turn_by mark n w d o)
   still-extends w d (stored p v c) z x = rw (still mark n D cells w d p v c z).0 x
   still-extends w d (passed why c) z x = x
   still-extends w d (waiting b) z x = x
@@ -98,7 +98,7 @@ module _ (mark n : ℕ) (wide : 8 ≤ n) (narrow : n ≤ 64) where
       let kept = good-kept m gs (ends_cut false xs) w g ([], sym (append-nil gs)) in
       let ext = (settled-from mark n wide narrow m rest _ _ (extends-keeps mark n D (cells_of m) gs) xs kept ys y).1 in
       let t = tells-settled mark n wide narrow m rest xs h l ys y d dl in
-      let more : among j (begunBy mark n v d) ≡ true =
+      let more : among j (begun_by mark n v d) ≡ true =
       rw (ext.1, numbers-append d gs ext.0) (among-front j (numbers_of d gs) (numbers_of d ext.0) a)
       in
       let pc = (settled-pcs mark n wide narrow m rest xs ys h l y k d dl).1 in

@@ -31,17 +31,17 @@ use Rattle.working.specs.World.{World}
 use Rattle.owed.specs.Owed.{owed}
 use Rattle.soundness.proofs.Owing.{owed_small}
 use Rattle.repair.specs.Plan.{plan}
-use Rattle.resuming.specs.Resumed.{resumedAll}
-use Rattle.claims.specs.Calls.{Traced, turnBy, ends_cut}
+use Rattle.resuming.specs.Resumed.{resumed_all}
+use Rattle.claims.specs.Calls.{Traced, turn_by, ends_cut}
 use Rattle.claims.specs.Claims.{Rested, Always, after}
 use Rattle.claims.proofs.Worlds.{Running}
 use Rattle.claims.proofs.Covers.{Parts, crashed-parts}
-use Rattle.claims.proofs.Recovered.{after as recoveredTo, after-lock, after_free, someone}
+use Rattle.claims.proofs.Recovered.{after as recovered_to, after-lock, after_free, someone}
 use Rattle.claims.proofs.RecoveryImage.{recovery-at, plan-length}
 use Rattle.claims.proofs.Called.{TakenAs, accepts, crash}
 use Rattle.claims.proofs.Moves.{args-full}
 use Rattle.claims.proofs.Played.{Worth, plenty}
-use Rattle.told.specs.Held.{hasOwner, Masked, LocksCounted}
+use Rattle.told.specs.Held.{has_owner, Masked, LocksCounted}
 use Rattle.told.proofs.Keeping.{next_turn, Fed, Keeps, submitted, recovered}
 use Rattle.told.proofs.Behind.{turn_memory, turned-memory, submitted-aside}
 use Rattle.told.proofs.FromRest.{Any, kept-uncut}
@@ -104,7 +104,7 @@ module _ (rd : Memory) (h : ℕ) (x : Agrees rd h) where
 
 module _ (n : ℕ) (rd : Memory) (D : ℕ) (p : Parts n D rd) where
   -- behind all stores of its plan
-  recovered-agrees : Agrees (recoveredTo n rd D) (union (owed n rd) D)
+  recovered-agrees : Agrees (recovered_to n rd D) (union (owed n rd) D)
   recovered-agrees =
       record {
         bits = λ b l. by b l (someone n rd D b D);
@@ -112,7 +112,7 @@ module _ (n : ℕ) (rd : Memory) (D : ℕ) (p : Parts n D rd) where
       }
     where
       by : (b : ℕ) → b < 64 → ((e : ℕ) × (e < D) × (has (owed n rd e) b ≡ true)) ⊎ ((e : ℕ) → e < D → has (owed n rd e) b ≡ false)
-          → has (union (owed n rd) D) b ≡ not (eqb (recoveredTo n rd D (lock b)) 0)
+          → has (union (owed n rd) D) b ≡ not (eqb (recovered_to n rd D (lock b)) 0)
       by b l (inl (e, m, h)) =
           let f = after-lock n rd D p b e l m h in
           union-has (owed n rd) D e b m h ∙ (rw (f, ne_eqb (e + 1) 0 (λ z. omega arith)))
@@ -126,7 +126,7 @@ module _ (mark n D : ℕ) (cells : List ℕ) where
 
   turned :
       (w : Traced) (d : ℕ) → Running mark n D cells w → d < D → Fed w (next_turn n w d)
-      → Agreeing w → Agreeing (turnBy mark n w d (next_turn n w d))
+      → Agreeing w → Agreeing (turn_by mark n w d (next_turn n w d))
   turned w d r l fed x =
       let rd = at n w.world.image in
       let o = next_turn n w d in
@@ -142,7 +142,7 @@ module _ (mark n D : ℕ) (cells : List ℕ) where
       record { bits = λ b l. rw (same (lock b) refl) (x.bits b l); small = x.small }
 
   recovered-whole : (w : Traced) → Worth mark n D cells w → plenty mark n D cells ≤ w.world.left → Agreeing (recovered mark n w)
-  unfolding resumedAll
+  unfolding resumed_all
   recovered-whole w k left =
       let m = w.world.image in
       let few = (header-workers mark n m k.reached.header).1 in
@@ -175,7 +175,7 @@ unfolding all_idle
 rested-agrees mark n m rest = record { bits = λ b l. has-none b ∙ (rw (rest.free b l)); small = omega arith }
 
 masked : (mark n : ℕ) (w : World) → Agrees (at n w.image) w.cursors.held → Masked mark n w
-masked mark n w x = record { bits = x.bits; number = ones-such w.cursors.held (hasOwner mark n w.image) x.small x.bits }
+masked mark n w x = record { bits = x.bits; number = ones-such w.cursors.held (has_owner mark n w.image) x.small x.bits }
 
 module _ (mark n : ℕ) (wide : 8 ≤ n) (narrow : n ≤ 64) where
   pub held-agrees : Always mark n (λ m xs. ends_cut false xs ≡ false → Agreeing mark n (workers m) (cells_of m) (after mark n m xs))

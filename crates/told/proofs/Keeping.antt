@@ -15,13 +15,13 @@ use Rattle.image.specs.Image.{Image, at}
 use Rattle.intake.specs.declared.Submitted.{Submitted}
 use Rattle.intake.specs.declared.Submitted.TheVariants.{Taken, Refused}
 use Rattle.working.specs.Cursor.{cursor_at}
-use Rattle.plan.specs.Turn.{Outcome, stored, passed, waiting, resting, refused, turnAt}
+use Rattle.plan.specs.Turn.{Outcome, stored, passed, waiting, resting, refused, turn_at}
 use Rattle.turn.specs.Call.{outcome_at, outcome}
 use Rattle.intake.specs.Submit.{submit_answer, submit_leaves}
 use Rattle.recovery.specs.Recovery.{recovery}
 use Rattle.claims.specs.Reference.{given}
-use Rattle.claims.specs.Calls.{Traced, traced, turnBy, turnedAt, rounds, ranBy, submitTrace, recoveredBy, Call, submits, turns, runs, recovers}
-use Rattle.claims.specs.Calls.{Move, whole, cut, call, lent, afterCut, move, play, recovering, legal, ends_cut, callable, machine}
+use Rattle.claims.specs.Calls.{Traced, traced, turn_by, turned_at, rounds, ran_by, submit_trace, recovered_by, Call, submits, turns, runs, recovers}
+use Rattle.claims.specs.Calls.{Move, whole, cut, call, lent, after_cut, move, play, recovering, legal, ends_cut, callable, machine}
 use Rattle.claims.specs.Claims.{working}
 use Rattle.claims.proofs.Progress.{is_moving}
 use Rattle.claims.proofs.Worlds.{Running, running-turn}
@@ -34,14 +34,14 @@ use Rattle.claims.proofs.Played.{recovers-only, whole-good, cut-good, Good}
 
 -- worker d's turn in a world that runs
 abbrev pub next_turn : ℕ → Traced → ℕ → Outcome
-next_turn n w d = turnAt n (at n w.world.image) d (cursor_at w.world.cursors d)
+next_turn n w d = turn_at n (at n w.world.image) d (cursor_at w.world.cursors d)
 
 -- where a turn moves, a store is left for it
 abbrev pub Fed : Traced → Outcome → Type 0
 Fed w o = is_moving o ≡ true → 0 < w.world.left
 
 -- with none left, none is left after a turn
-still-none : (mark n : ℕ) (w : Traced) (d : ℕ) (o : Outcome) → w.world.left ≡ 0 → (turnBy mark n w d o).world.left ≡ 0
+still-none : (mark n : ℕ) (w : Traced) (d : ℕ) (o : Outcome) → w.world.left ≡ 0 → (turn_by mark n w d o).world.left ≡ 0
 still-none mark n w d (stored p v c) z = omega arith
 still-none mark n w d (passed why c) z = z
 still-none mark n w d (waiting b) z = z
@@ -51,10 +51,10 @@ still-none mark n w d (refused r) z = z
 module _ (mark n : ℕ) where
   -- what a submit and a recovery leave
   abbrev pub submitted : Traced → ℕ → ℕ → List ℕ → List ℕ → Submitted → Traced
-  submitted w d k args ws a = traced (submit_leaves n w.world d k args ws a) (submitTrace mark n w.trace (given d k args ws) a)
+  submitted w d k args ws a = traced (submit_leaves n w.world d k args ws a) (submit_trace mark n w.trace (given d k args ws) a)
 
   abbrev pub recovered : Traced → Traced
-  recovered w = recoveredBy mark n w (recovery mark n w.world.image)
+  recovered w = recovered_by mark n w (recovery mark n w.world.image)
 
   -- every move of a list is of a sort, at its moment
   abbrev pub Sorted : (Move → Image → Type 0) → List Move → Traced → Type 0
@@ -63,8 +63,8 @@ module _ (mark n : ℕ) where
 
 module _ (mark n D : ℕ) (cells : List ℕ) (R C : Traced → Type 0) (A : Move → Image → Type 0) where
   pub record Keeps : Type 0 where
-    pub turn : (w : Traced) (d : ℕ) → Running mark n D cells w → d < D → Fed w (next_turn n w d) → R w → R (turnBy mark n w d (next_turn n w d))
-    pub still : (w : Traced) (d : ℕ) (o : Outcome) → w.world.left ≡ 0 → C w → C (turnBy mark n w d o)
+    pub turn : (w : Traced) (d : ℕ) → Running mark n D cells w → d < D → Fed w (next_turn n w d) → R w → R (turn_by mark n w d (next_turn n w d))
+    pub still : (w : Traced) (d : ℕ) (o : Outcome) → w.world.left ≡ 0 → C w → C (turn_by mark n w d o)
     pub worth : (w : Traced) → R w → C w
     pub lend : (k : ℕ) (w : Traced) → R w → R (lent mark n k w)
     pub lend-cut : (k : ℕ) (w : Traced) → C w → C (lent mark n k w)
@@ -77,15 +77,15 @@ module _ (mark n D : ℕ) (cells : List ℕ) (R C : Traced → Type 0) (A : Move
     pub recover :
         (w : Traced) → Worth mark n D cells w → plenty mark n D cells ≤ w.world.left → A (whole recovers) w.world.image → C w → R (recovered mark n w)
     pub recover-cut : (w : Traced) (j : ℕ) → Worth mark n D cells w → A (cut j recovers) w.world.image → C w → C (recovered mark n w)
-    pub cut_off : (w : Traced) → C w → C (afterCut mark n w)
+    pub cut_off : (w : Traced) → C w → C (after_cut mark n w)
 
   module _ (K : Keeps) where
     -- ---- turns
 
-    turn-whole : (w : Traced) (d : ℕ) → Running mark n D cells w → 0 < w.world.left → R w → R (turnBy mark n w d (outcome mark n w.world d))
+    turn-whole : (w : Traced) (d : ℕ) → Running mark n D cells w → 0 < w.world.left → R w → R (turn_by mark n w d (outcome mark n w.world d))
     turn-whole w d r left x = by (ltb d D) refl
       where
-        by : (b : Bool) → ltb d D ≡ b → R (turnBy mark n w d (outcome mark n w.world d))
+        by : (b : Bool) → ltb d D ≡ b → R (turn_by mark n w d (outcome mark n w.world d))
         by true h = rw (outcome-below mark n D cells w d r.reached (ltb-true d D h)) (K.turn w d r (ltb-true d D h) (λ m. left) x)
         by false h = rw (outcome-above mark n D cells w d r.reached h) x
 
@@ -97,27 +97,27 @@ module _ (mark n D : ℕ) (cells : List ℕ) (R C : Traced → Type 0) (A : Move
     caught-worth w (inl x) = K.worth w x.1
     caught-worth w (inr x) = x.1
 
-    caught-turn : (w : Traced) (d : ℕ) → d < D → Caught w → Caught (turnBy mark n w d (next_turn n w d))
+    caught-turn : (w : Traced) (d : ℕ) → d < D → Caught w → Caught (turn_by mark n w d (next_turn n w d))
     caught-turn w d l (inl (r, x)) = by (dec_lt 0 w.world.left)
       where
-        by : Dec (0 < w.world.left) → Caught (turnBy mark n w d (next_turn n w d))
+        by : Dec (0 < w.world.left) → Caught (turn_by mark n w d (next_turn n w d))
         by (yes h) = inl (running-turn mark n D cells w d r l h, K.turn w d r l (λ m. h) x)
         by (no h) =
             let z : w.world.left ≡ 0 = omega arith in
             inr (still-none mark n w d (next_turn n w d) z, K.still w d (next_turn n w d) z (K.worth w x))
     caught-turn w d l (inr (z, c)) = inr (still-none mark n w d (next_turn n w d) z, K.still w d (next_turn n w d) z c)
 
-    pub caught-turned : (w : Traced) (d : ℕ) → d < D → Caught w → Caught (turnedAt mark n w d)
-    unfolding turnedAt outcome_at
+    pub caught-turned : (w : Traced) (d : ℕ) → d < D → Caught w → Caught (turned_at mark n w d)
+    unfolding turned_at outcome_at
     caught-turned w d l x = caught-turn w d l x
 
-    turn-cut : (w : Traced) (d : ℕ) → Running mark n D cells w → R w → C (turnBy mark n w d (outcome mark n w.world d))
+    turn-cut : (w : Traced) (d : ℕ) → Running mark n D cells w → R w → C (turn_by mark n w d (outcome mark n w.world d))
     turn-cut w d r x = by (ltb d D) refl
       where
-        by : (b : Bool) → ltb d D ≡ b → C (turnBy mark n w d (outcome mark n w.world d))
+        by : (b : Bool) → ltb d D ≡ b → C (turn_by mark n w d (outcome mark n w.world d))
         by true h =
             rw (outcome-below mark n D cells w d r.reached (ltb-true d D h))
-            (caught-worth (turnBy mark n w d (next_turn n w d)) (caught-turn w d (ltb-true d D h) (inl (r, x))))
+            (caught-worth (turn_by mark n w d (next_turn n w d)) (caught-turn w d (ltb-true d D h) (inl (r, x))))
         by false h = rw (outcome-above mark n D cells w d r.reached h) (K.worth w x)
 
     -- ---- runs
@@ -126,21 +126,21 @@ module _ (mark n D : ℕ) (cells : List ℕ) (R C : Traced → Type 0) (A : Move
       pub spare : Spare mark n D cells w
       pub kept : R w
 
-    turned : (w : Traced) (d : ℕ) → Running mark n D cells w → d < D → Fed w (next_turn n w d) → R w → R (turnedAt mark n w d)
-    unfolding turnedAt outcome_at
+    turned : (w : Traced) (d : ℕ) → Running mark n D cells w → d < D → Fed w (next_turn n w d) → R w → R (turned_at mark n w d)
+    unfolding turned_at outcome_at
     turned w d r l f x = K.turn w d r l f x
 
-    pub both-turned : (w : Traced) (d : ℕ) → d < D → Both w → Both (turnedAt mark n w d)
+    pub both-turned : (w : Traced) (d : ℕ) → d < D → Both w → Both (turned_at mark n w d)
     both-turned w d l b =
         let t = spare-turn mark n D cells w d b.spare l in
         record { spare = t.spare; kept = turned w d b.spare.running l (λ m. let f = t.falls m in omega arith) b.kept }
 
-    run-whole : (w : Traced) (r : ℕ) → Running mark n D cells w → plenty mark n D cells ≤ w.world.left → R w → R (ranBy mark n w r)
+    run-whole : (w : Traced) (r : ℕ) → Running mark n D cells w → plenty mark n D cells ≤ w.world.left → R w → R (ran_by mark n w r)
     run-whole w r h l x =
         rw (ran-is mark n D cells w r h.reached)
         (rounds-keep mark n D cells Both both-turned r w (record { spare = spare-lent mark n D cells w w.world.left h (omega arith); kept = x })).kept
 
-    run-cut : (w : Traced) (r : ℕ) → Running mark n D cells w → R w → C (ranBy mark n w r)
+    run-cut : (w : Traced) (r : ℕ) → Running mark n D cells w → R w → C (ran_by mark n w r)
     run-cut w r h x =
         rw (ran-is mark n D cells w r h.reached) (caught-worth (rounds mark n r D w) (rounds-keep mark n D cells Caught caught-turned r w (inl (h, x))))
 

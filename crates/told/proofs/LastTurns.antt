@@ -11,11 +11,11 @@ use Rattle.image.specs.Image.{at, workers, cells_of}
 use Rattle.code.specs.declared.Op.TheVariants.{Finish}
 use Rattle.working.specs.Cursor.{Cursor, idle, on, step_no, cursor_at}
 use Rattle.worklog.specs.Log.{code_in}
-use Rattle.plan.specs.Turn.{stored, turnAt}
+use Rattle.plan.specs.Turn.{stored, turn_at}
 use Rattle.claims.specs.Reference.{Given}
 use Rattle.claims.specs.Calls.{Traced, from}
 use Rattle.claims.specs.Claims.{of_worker}
-use Rattle.claims.proofs.Invariant.{opAt}
+use Rattle.claims.proofs.Invariant.{op_at}
 use Rattle.claims.proofs.Invariant.{Phase, resting, fresh as fresh-phase, due, unlocking, unlocked, between, ended as ended-phase}
 use Rattle.claims.proofs.Worlds.{Running}
 use Rattle.claims.proofs.Played.{outcome-below}
@@ -28,7 +28,7 @@ use Rattle.told.specs.Treads.{LastTurn, LastTurns}
 use Rattle.told.proofs.FromRest.{Any, any-sorted}
 use Rattle.told.proofs.Resuming.{same_step}
 use Rattle.told.proofs.Pacing.{Paced, At}
-use Rattle.told.proofs.OnTrack.{pathsIn}
+use Rattle.told.proofs.OnTrack.{paths_in}
 use Rattle.told.proofs.Spanning.{Spanning, Moored, spanning-keeps}
 use Rattle.told.proofs.Turns.{rested-spanning}
 use Rattle.told.proofs.Gathering.{all-each}
@@ -36,13 +36,13 @@ use Rattle.told.proofs.Tied.{named-not}
 
 module _ (n : ℕ) (rd : Memory) (d : ℕ) where
   last_turn :
-      (g : Given) (c : Cursor) (locks j : ℕ) → Phase n rd d g c locks j → (i : ℕ) → c ≡ on i 2 → opAt n rd d i ≡ Finish → rd (field Pc d) ≡ 0
-      → turnAt n rd d c ≡ stored (field Count d) 0 idle
+      (g : Given) (c : Cursor) (locks j : ℕ) → Phase n rd d g c locks j → (i : ℕ) → c ≡ on i 2 → op_at n rd d i ≡ Finish → rd (field Pc d) ≡ 0
+      → turn_at n rd d c ≡ stored (field Count d) 0 idle
   last_turn g _ _ _ (resting k p x o) i e f z = absurd (on-not-idle i 2 (sym e))
   last_turn g _ _ _ (fresh-phase t locks sec h p o m) i e f z =
       let (a, first) = sec.valid.first in
       let same : 0 ≡ i = (same_step e).0 in
-      let fin : opAt n rd d 0 ≡ Finish = rw same f in
+      let fin : op_at n rd d 0 ≡ Finish = rw same f in
       let y : ◌≡◌ {A = ℕ} 0 1 = cc in
       absurd (omega arith)
   last_turn g _ _ _ (due s locks sec m q) i e f z = absurd (named-not n rd d s m.pc z)
@@ -58,7 +58,7 @@ module _ (mark n D : ℕ) (cells : List ℕ) where
       let c = passage_of d w.trace.events in
       let here = cursor_at w.world.cursors d in
       let mine = of_worker d w.trace.begun in
-      let way = pathsIn mark n D cells w d in
+      let way = paths_in mark n D cells w d in
       let a = subst (At (rd (field Pc d)) (rd (field Count d)) (code_in n rd d) way mine c.ends) q (x d dl).anchor.at in
       let (i, e, f) = subst
       (λ (y : Now). Paced (rd (field Pc d)) (rd (field Count d)) (code_in n rd d) way mine (w.trace.jumps d) (w.trace.last d) here y) q (x d dl).pace in

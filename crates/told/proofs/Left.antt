@@ -18,15 +18,15 @@ use Rattle.section.specs.Valid.{Valid}
 use Rattle.section.proofs.Facts.{passed-valid}
 use Rattle.section.proofs.Passing.{passed_is}
 use Rattle.worklog.specs.Log.{code_in}
-use Rattle.owed.specs.Owed.{namedOp}
-use Rattle.soundness.specs.Sound.{sectionOk}
+use Rattle.owed.specs.Owed.{named_op}
+use Rattle.soundness.specs.Sound.{section_ok}
 use Rattle.needs.specs.declared.Left.TheVariants.{Turns}
 use Rattle.needs.specs.From.{lesser, larger}
-use Rattle.needs.specs.Left.{leftBy, left_of}
+use Rattle.needs.specs.Left.{left_by, left_of}
 use Rattle.needs.proofs.Unrolled.{needs-cong}
 use Rattle.claims.specs.Reference.{Given}
 use Rattle.claims.specs.Claims.{of_worker, admissible, after}
-use Rattle.claims.proofs.Entries.{named_step}
+use Rattle.claims.proofs.Entries.{named_step_lem}
 use Rattle.claims.proofs.Covers.{crashed-parts}
 use Rattle.claims.proofs.Accepted.{ok-sectioned, ok_named}
 use Rattle.told.specs.Turns.{Start, resumed, Span, Now, nowhere, fresh, going, closing, passage, passage_of}
@@ -56,29 +56,29 @@ same_size own m n a b v w same = by (dec_lt n m)
         omega arith
 
 module _ (n : ℕ) (rd : Memory) (d : ℕ) where
-  none_left : (pick : ℕ → ℕ → ℕ) → rd (field Pc d) ≡ 0 → leftBy n rd d pick ≡ 0
-  unfolding leftBy
+  none_left : (pick : ℕ → ℕ → ℕ) → rd (field Pc d) ≡ 0 → left_by n rd d pick ≡ 0
+  unfolding left_by
   none_left pick z = rw z
 
   some_left :
       (pick : ℕ → ℕ → ℕ) (ws : List ℕ) (s : ℕ) → rd (field Pc d) % 2 ^ 63 ≡ suc s → s < length ws → rd (field Count d) ≡ length ws
-      → ((i : ℕ) → i < length ws → get_or ws i 0 ≡ rd (step d i)) → leftBy n rd d pick ≡ bound_by pick ws (resumed s)
-  unfolding leftBy namedOp
+      → ((i : ℕ) → i < length ws → get_or ws i 0 ≡ rd (step d i)) → left_by n rd d pick ≡ bound_by pick ws (resumed s)
+  unfolding left_by named_op
   some_left pick ws s q l e same =
       rw (
         ne_eqb (rd (field Pc d)) 0 (λ z. omega arith),
-        named_step n rd d s q,
+        named_step_lem n rd d s q,
         e,
         ← same s l,
         needs-cong pick (length ws) (code_in n rd d) (code_of ws) (λ i m. sym (same i m)) (suc s),
       )
 
   -- by where the worker is
-  module _ (mark D : ℕ) (P : Paths) (begun : List Given) (good : admissible mark n D begun ≡ true) (ok : sectionOk n rd d ≡ true) where
+  module _ (mark D : ℕ) (P : Paths) (begun : List Given) (good : admissible mark n D begun ≡ true) (ok : section_ok n rd d ≡ true) where
     going-left :
         (pick : ℕ → ℕ → ℕ) (g : Given) (b : Start) (s e : ℕ)
         → Going (rd (field Pc d)) (rd (field Count d)) (code_in n rd d) P (of_worker d begun) g b s e
-        → s < rd (field Count d) → leftBy n rd d pick ≡ bound_by pick g.code (resumed s)
+        → s < rd (field Count d) → left_by n rd d pick ≡ bound_by pick g.code (resumed s)
     going-left pick g b s e G below =
         let z = G.size in
         let q = G.named in
@@ -88,16 +88,16 @@ module _ (n : ℕ) (rd : Memory) (d : ℕ) where
         let size = same_size n (rd (field Count d)) (length g.code) (code_in n rd d) (code_of g.code) w v G.coded in
         some_left pick g.code s G.named (omega arith) size (λ i l. G.coded i (omega arith))
 
-    pub left_by :
+    pub left_by_lem :
         (e : ℕ) (x : Now) (xs : List Span) → Anchored (rd (field Pc d)) (rd (field Count d)) (code_in n rd d) P (of_worker d begun) (passage e x xs)
         → ((s : ℕ) → rd (field Pc d) % 2 ^ 63 ≡ suc s → s < rd (field Count d))
-        → Turns (leftBy n rd d lesser) (leftBy n rd d larger) ≡ left_at x
-    left_by e nowhere xs a f = rw (none_left lesser a.at.none, none_left larger a.at.none)
-    left_by e (fresh g t) xs a f = rw (none_left lesser a.at.none, none_left larger a.at.none)
-    left_by e (going g b s t) xs a f =
+        → Turns (left_by n rd d lesser) (left_by n rd d larger) ≡ left_at x
+    left_by_lem e nowhere xs a f = rw (none_left lesser a.at.none, none_left larger a.at.none)
+    left_by_lem e (fresh g t) xs a f = rw (none_left lesser a.at.none, none_left larger a.at.none)
+    left_by_lem e (going g b s t) xs a f =
         let below = f s a.at.named in
         rw (going-left lesser g b s e a.at below, going-left larger g b s e a.at below)
-    left_by e (closing k g b t) xs a f = rw (none_left lesser a.at.0.none, none_left larger a.at.0.none)
+    left_by_lem e (closing k g b t) xs a f = rw (none_left lesser a.at.0.none, none_left larger a.at.0.none)
 
 pub left-told : (mark n : ℕ) → 8 ≤ n → n ≤ 64 → LeftTold mark n
 unfolding LeftTold left_of
@@ -112,8 +112,8 @@ left-told mark n wide narrow m rest xs h l d dl =
     let parts = crashed-parts n D rd k.0.crashed in
     let many : d < workers w.world.image = rw k.0.reached.many dl in
     rw (k.0.reached.header, lt-ltb d (workers w.world.image) many, k.0.crashed.sounds d dl)
-    (left_by n rd d mark D _ w.trace.begun (admitted-list mark n wide narrow m rest xs h l) (parts.section d dl) c.ends c.now c.spans (k.1 d dl)
+    (left_by_lem n rd d mark D _ w.trace.begun (admitted-list mark n wide narrow m rest xs h l) (parts.section d dl) c.ends c.now c.spans (k.1 d dl)
     (λ s q.
     let below = (ok_named n rd d (parts.pc d dl) (ne_eqb (rd (field Pc d)) 0 (λ z. omega arith))).below in
-    let named = named_step n rd d s q in
+    let named = named_step_lem n rd d s q in
     omega arith))

@@ -16,18 +16,18 @@ use Rattle.image.proofs.Lists.{header-all, workers-all}
 use Rattle.code.specs.declared.Op.{Op}
 use Rattle.code.specs.declared.Op.TheVariants.{Acquire, Release, Assign, Jump, Finish, Unknown}
 use Rattle.code.proofs.Ranges.{op_turns}
-use Rattle.worklog.specs.Log.{activeAddr, activeVal}
+use Rattle.worklog.specs.Log.{active_addr, active_val}
 use Rattle.working.specs.declared.Cursors.{Cursors}
 use Rattle.working.specs.Cursor.{Cursor}
-use Rattle.plan.specs.Turn.{stored, turnAt, opTurn}
+use Rattle.plan.specs.Turn.{stored, turn_at, op_turn}
 use Rattle.turn.specs.Call.{outcome_at, outcome}
-use Rattle.owed.specs.Owed.{target_of, namedStep, entryOk}
+use Rattle.owed.specs.Owed.{target_of, named_step, entry_ok}
 use Rattle.resuming.specs.Resumed.{target_turn, resumed}
 use Rattle.repair.specs.Plan.{plan}
 use Rattle.recovery.specs.Recovery.{recovery, accepted}
 use Rattle.claims.specs.Calls.{Traced, recovers, call}
 use Rattle.claims.proofs.Fields.{active-addr-kept, active-val-kept}
-use Rattle.claims.proofs.Invariant.{Crashed, opAt}
+use Rattle.claims.proofs.Invariant.{Crashed, op_at}
 use Rattle.claims.proofs.Ready.{turn-op}
 use Rattle.claims.proofs.Covers.{Parts, crashed-parts, crashed-accepted, accepted-crashed}
 use Rattle.claims.proofs.RecoveryFrame.{Framed, resumed-frame}
@@ -40,12 +40,12 @@ use Rattle.told.specs.Changing.{LoggedStored}
 
 module _ (n : ℕ) (rd : Memory) (d : ℕ) where
   abbrev logged : ℕ
-  logged = rd (field (activeVal n rd d) d)
+  logged = rd (field (active_val n rd d) d)
 
   -- the target turn of an instruction whose entry is right is one of its turns, and stores the logged value at the target
   target-stores :
-      (s : ℕ) (x : Op) → entryOk n rd d x ≡ true
-      → (c : Cursor) × (target_turn x < op_turns x) × (opTurn n rd d s (target_turn x) x ≡ stored (target_of d x) logged c)
+      (s : ℕ) (x : Op) → entry_ok n rd d x ≡ true
+      → (c : Cursor) × (target_turn x < op_turns x) × (op_turn n rd d s (target_turn x) x ≡ stored (target_of d x) logged c)
   target-stores s (Acquire a) h = (_, omega arith, refl)
   target-stores s (Release a) h = (_, omega arith, refl)
   target-stores s (Assign a e) h = (_, omega arith, refl)
@@ -56,14 +56,14 @@ module _ (n : ℕ) (rd : Memory) (d : ℕ) where
   -- where the worker goes on, it stores what is logged
   resumed-stores :
       (D : ℕ) → Parts n D rd → d < D → eqb (rd (field Pc d)) 0 ≡ false
-      → (p : Place) × (c : Cursor) × (turnAt n rd d (resumed n rd d) ≡ stored p logged c) × (index_of n p ≡ rd (field (activeAddr n rd d) d))
+      → (p : Place) × (c : Cursor) × (turn_at n rd d (resumed n rd d) ≡ stored p logged c) × (index_of n p ≡ rd (field (active_addr n rd d) d))
   resumed-stores D p l z =
       let k = ok_named n rd d (p.pc d l) z in
-      let s = namedStep n rd d in
-      let x = opAt n rd d s in
+      let s = named_step n rd d in
+      let x = op_at n rd d s in
       let t = target-stores s x k.entry in
       let op = turn-op n rd d s (target_turn x) x (ok-sectioned n rd d (p.section d l) z).valid k.below refl t.1 in
-      (target_of d x, t.0, ap (turnAt n rd d) (resumed-on n rd d z) ∙ (op ∙ t.2), sym (ok-entry n rd d k).address)
+      (target_of d x, t.0, ap (turn_at n rd d) (resumed-on n rd d z) ∙ (op ∙ t.2), sym (ok-entry n rd d k).address)
 
 -- ---- behind a recovery of it
 
@@ -94,7 +94,7 @@ module _
   framed : Framed n before behind d
   framed = kept-framed n D before behind kept d
 
-  turn-behind : outcome mark n (call mark n recovers w).world d ≡ turnAt n behind d (resumed n behind d)
+  turn-behind : outcome mark n (call mark n recovers w).world d ≡ turn_at n behind d (resumed n behind d)
   unfolding call outcome outcome_at
   turn-behind =
       rw (
@@ -110,7 +110,7 @@ module _
   same-value : logged n behind d ≡ logged n before d
   same-value = rw (active-val-kept n before behind d framed.pc) framed.val
 
-  same_address : behind (field (activeAddr n behind d) d) ≡ before (field (activeAddr n before d) d)
+  same_address : behind (field (active_addr n behind d) d) ≡ before (field (active_addr n before d) d)
   same_address = rw (active-addr-kept n before behind d framed.pc) framed.addr
 
 pub logged-stored : (mark n : ℕ) → LoggedStored mark n

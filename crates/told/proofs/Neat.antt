@@ -18,8 +18,8 @@ use Rattle.working.specs.declared.Cursors.{Cursors}
 use Rattle.working.specs.Cursor.{Cursor, idle, on, is_idle, step_no, cursor_at, set_at, holding, placed, all_idle}
 use Rattle.working.proofs.Placed.{Full, sayable, idle-by, placed_same, placed-other, held-cursor}
 use Rattle.plan.specs.Turn.{Outcome, stored, passed, waiting, resting, refused}
-use Rattle.resuming.specs.Resumed.{resumedAll}
-use Rattle.claims.specs.Calls.{Traced, turnBy}
+use Rattle.resuming.specs.Resumed.{resumed_all}
+use Rattle.claims.specs.Calls.{Traced, turn_by}
 use Rattle.claims.proofs.Turns.{Stepped}
 use Rattle.claims.proofs.RecoveryImage.{resumed-turn, resumed-step, resumed-cursor}
 use Rattle.claims.proofs.Worlds.{Running, few, phase-sayable}
@@ -56,14 +56,14 @@ held-neat D h c z = record { step = λ e u. rw (held-cursor h c e) (z.step e u);
 -- ---- a recovery
 
 module _ (n : ℕ) (rd : Memory) (D : ℕ) (small : D ≤ 8) where
-  resumed-past : (e : ℕ) → D ≤ e → e < 8 → cursor_at (resumedAll n rd D) e ≡ idle
+  resumed-past : (e : ℕ) → D ≤ e → e < 8 → cursor_at (resumed_all n rd D) e ≡ idle
   unfolding cursor_at
   resumed-past e p u = rw (resumed-turn n rd D e u, le-ltb e D p)
 
-  pub resumed-neat : Neat D (resumedAll n rd D)
+  pub resumed-neat : Neat D (resumed_all n rd D)
   resumed-neat = record { step = λ e u. by e u (dec_lt e D); past = resumed-past }
     where
-      by : (e : ℕ) → e < 8 → Dec (e < D) → get_or (resumedAll n rd D).step e 0 ≡ step_no (cursor_at (resumedAll n rd D) e)
+      by : (e : ℕ) → e < 8 → Dec (e < D) → get_or (resumed_all n rd D).step e 0 ≡ step_no (cursor_at (resumed_all n rd D) e)
       by e u (yes q) = rw (resumed-cursor n rd D e q small) (resumed-step n rd D e u ∙ (rw (lt-ltb e D q)))
       by e u (no q) = rw (resumed-past e (omega arith) u) (resumed-step n rd D e u ∙ (rw (le-ltb e D (omega arith))))
 
@@ -75,7 +75,7 @@ module _ (mark n D : ℕ) (cells : List ℕ) where
 
   turned-neat :
       (w : Traced) (d : ℕ) (r : Running mark n D cells w) → d < D → (o : Outcome)
-      → Stepped n (at n w.world.image) d (w.trace.last d) (r.locks d) (w.trace.jumps d) o → NeatIn w → NeatIn (turnBy mark n w d o)
+      → Stepped n (at n w.world.image) d (w.trace.last d) (r.locks d) (w.trace.jumps d) o → NeatIn w → NeatIn (turn_by mark n w d o)
   turned-neat w d r l (stored p v c) (h, t, ph) z =
       held-neat D _ (placed w.world.cursors d c)
       (placed-neat D w.world.cursors d c r.full (few mark n D cells w r.reached) l

@@ -17,11 +17,11 @@ use Rattle.worklog.specs.Log.{code_in}
 use Rattle.plan.specs.Turn.{stored}
 use Rattle.claims.specs.Reference.{Given, initial}
 use Rattle.claims.specs.Events.{moved, recorded, ended, but}
-use Rattle.claims.specs.Calls.{Traced, is_pc, turnBy}
+use Rattle.claims.specs.Calls.{Traced, is_pc, turn_by}
 use Rattle.claims.specs.Claims.{of_worker}
 use Rattle.told.specs.Paths.{Paths, paths_of}
 use Rattle.told.specs.Turns.{Passage, passage_of}
-use Rattle.told.proofs.Accounting.{eventsBy}
+use Rattle.told.proofs.Accounting.{events_by}
 use Rattle.told.proofs.Strides.{jumps}
 use Rattle.told.proofs.Pacing.{Anchored, Paced}
 
@@ -48,19 +48,19 @@ module _ (n : ℕ) (rd rd' : Memory) (e : ℕ) (pc : rd' (field Pc e) ≡ rd (fi
   track-same j last x o = record { anchor = anchor-same o.anchor; pace = pace-same j last x o.pace }
 
 module _ (mark n D : ℕ) (cells : List ℕ) where
-  abbrev pub pathsIn : Traced → ℕ → Paths
-  pathsIn w e = paths_of e (initial n D cells w.trace.begun) w.trace.order
+  abbrev pub paths_in : Traced → ℕ → Paths
+  paths_in w e = paths_of e (initial n D cells w.trace.begun) w.trace.order
 
   -- worker e of a world, with this memory and this cursor
   abbrev pub Steady : Traced → ℕ → Memory → Cursor → Type 0
   Steady w e rd x =
-      OnTrack n rd e (pathsIn w e) (of_worker e w.trace.begun) (passage_of e w.trace.events) (w.trace.jumps e) (w.trace.last e) x
+      OnTrack n rd e (paths_in w e) (of_worker e w.trace.begun) (passage_of e w.trace.events) (w.trace.jumps e) (w.trace.last e) x
 
 -- ---- what a store leaves of the trace
 
 module _ (mark n : ℕ) (w : Traced) (d : ℕ) (p : Place) (v : ℕ) (c : Cursor) (left : 0 < w.world.left) where
   abbrev then : Traced
-  then = turnBy mark n w d (stored p v c)
+  then = turn_by mark n w d (stored p v c)
 
   left_over : eqb w.world.left 0 ≡ false
   left_over = ne_eqb w.world.left 0 (λ q. omega arith)
@@ -70,7 +70,7 @@ module _ (mark n : ℕ) (w : Traced) (d : ℕ) (p : Place) (v : ℕ) (c : Cursor
     pub order : then.trace.order ≡ w.trace.order
     pub jumps : then.trace.jumps ≡ w.trace.jumps
     pub last : then.trace.last ≡ w.trace.last
-    pub events : eventsBy mark n w d (stored p v c) ≡ moved d (step_no (cursor_at w.world.cursors d)) ∷ []
+    pub events : events_by mark n w d (stored p v c) ≡ moved d (step_no (cursor_at w.world.cursors d)) ∷ []
 
   pub plain-store : is_pc p ≡ false → PlainStore
   plain-store h = record { begun = rw h; order = rw h; jumps = rw h; last = rw h; events = rw (left_over, h) }
@@ -81,7 +81,7 @@ module _ (mark n : ℕ) (w : Traced) (d : ℕ) (p : Place) (v : ℕ) (c : Cursor
     pub jumps : then.trace.jumps ≡ but w.trace.jumps d 0
     pub last : then.trace.last ≡ w.trace.last
     pub events :
-        eventsBy mark n w d (stored p v c)
+        events_by mark n w d (stored p v c)
         ≡ moved d (step_no (cursor_at w.world.cursors d)) ∷ cond (eqb v 0) (ended d) (recorded d (step_no (cursor_at w.world.cursors d))) ∷ []
 
   pub pc-store : is_pc p ≡ true → PcStore

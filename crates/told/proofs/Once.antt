@@ -19,16 +19,16 @@ use Rattle.code.specs.declared.Op.{Op}
 use Rattle.code.specs.declared.Op.TheVariants.{Acquire, Release, Assign, Jump, Finish, Unknown}
 use Rattle.code.specs.Op.{op_of, is_finish}
 use Rattle.worklog.specs.Log.{code_in}
-use Rattle.owed.specs.Owed.{namedStep, entryOk}
-use Rattle.soundness.specs.Sound.{sectionOk, pcOk}
+use Rattle.owed.specs.Owed.{named_step, entry_ok}
+use Rattle.soundness.specs.Sound.{section_ok, pc_ok}
 use Rattle.asking.specs.declared.Standing.TheVariants.{NotBegun, Begun, Finished}
 use Rattle.asking.specs.Asking.{standing_in}
 use Rattle.claims.specs.Reference.{Job, State, follow, initial}
 use Rattle.told.specs.Readings.{taken_in, read_from}
 use Rattle.claims.specs.Calls.{Traced, Move, from, legal, machine}
 use Rattle.claims.specs.Claims.{Rested, admissible, after, mended, working}
-use Rattle.told.specs.Once.{rising, last_or, among, OnceAlways, ToldAlways, AskedAlways, begunBy, startedAt, pcOf, number_of, finished_of}
-use Rattle.claims.proofs.Invariant.{opAt}
+use Rattle.told.specs.Once.{rising, last_or, among, OnceAlways, ToldAlways, AskedAlways, begun_by, started_at, pc_of, number_of, finished_of}
+use Rattle.claims.proofs.Invariant.{op_at}
 use Rattle.claims.proofs.Ready.{step-behind}
 use Rattle.claims.proofs.Covers.{crashed-parts}
 use Rattle.claims.proofs.Accepted.{ok-sectioned, ok_named}
@@ -118,7 +118,7 @@ module _ (n f : ℕ) (bs : List ℕ) (rd : Memory) (d : ℕ) (t : TellsAt n f bs
       ⊎_elim (λ x. absurd (omega arith)) (λ x. x) fin
 
 -- the step behind the one that the pc names is one of the section, where a recovery accepts the record
-entry-goes-on : (n : ℕ) (rd : Memory) (d : ℕ) (x : Op) → entryOk n rd d x ≡ true → is_finish x ≡ false
+entry-goes-on : (n : ℕ) (rd : Memory) (d : ℕ) (x : Op) → entry_ok n rd d x ≡ true → is_finish x ≡ false
 entry-goes-on n rd d (Acquire a) h = refl
 entry-goes-on n rd d (Release a) h = refl
 entry-goes-on n rd d (Assign a e) h = refl
@@ -127,14 +127,14 @@ entry-goes-on n rd d Finish h = absurd (false≢true h)
 entry-goes-on n rd d Unknown h = absurd (false≢true h)
 
 recorded-behind :
-    (n : ℕ) (rd : Memory) (d : ℕ) → sectionOk n rd d ≡ true → pcOk n rd d ≡ true → rd (field Pc d) ≢ 0
-    → suc (namedStep n rd d) < rd (field Count d)
+    (n : ℕ) (rd : Memory) (d : ℕ) → section_ok n rd d ≡ true → pc_ok n rd d ≡ true → rd (field Pc d) ≢ 0
+    → suc (named_step n rd d) < rd (field Count d)
 recorded-behind n rd d s k p =
     let z = ne_eqb (rd (field Pc d)) 0 p in
     let sec = ok-sectioned n rd d s z in
     let o = ok_named n rd d k z in
-    let i = namedStep n rd d in
-    let x = opAt n rd d i in
+    let i = named_step n rd d in
+    let x = op_at n rd d i in
     step-behind n (rd (field Count d)) (code_in n rd d) sec.valid i x o.below refl (entry-goes-on n rd d x o.entry)
 
 -- ---- at the start
@@ -193,12 +193,12 @@ module _ (mark n : ℕ) (wide : 8 ≤ n) (narrow : n ≤ 64) where
     told-list : Worth mark n D (cells_of m) w × Tell w
     told-list = kept-list mark n wide narrow m rest _ _ keeps-telling start-told xs h l
 
-    tells-list : (d : ℕ) → d < D → TellsAt n (startedAt mark n m d) (begunBy mark n w d) (at n w.world.image) d
+    tells-list : (d : ℕ) → d < D → TellsAt n (started_at mark n m d) (begun_by mark n w d) (at n w.world.image) d
     tells-list d k = told-list.1 d k
 
     pub tells-settled :
         (ys : List Move) → working ys ≡ true → (d : ℕ) → d < D
-        → TellsAt n (startedAt mark n m d) (begunBy mark n (settled ys) d) (at n (settled ys).world.image) d
+        → TellsAt n (started_at mark n m d) (begun_by mark n (settled ys) d) (at n (settled ys).world.image) d
     tells-settled ys y d k = (kept-settled mark n wide narrow m rest _ _ keeps-telling start-told xs h l ys y).1.tells d k
 
     reads-list : ReadOff mark n D (cells_of m) w
@@ -210,7 +210,7 @@ module _ (mark n : ℕ) (wide : 8 ≤ n) (narrow : n ≤ 64) where
 
     -- only its finish is left of a section that is told to be finished with the pc not 0
     to-finish :
-        (d : ℕ) → d < D → pcOf mark n w d ≢ 0 → number_of mark n w d ≤ finished_of mark n w d
+        (d : ℕ) → d < D → pc_of mark n w d ≢ 0 → number_of mark n w d ≤ finished_of mark n w d
         → (s : State)
         × (j : Job)
         × (follow (initial n D (cells_of m) w.trace.begun) w.trace.order ≡ some s)
@@ -223,7 +223,7 @@ module _ (mark n : ℕ) (wide : 8 ≤ n) (narrow : n ≤ 64) where
         let next : FinishNext n rd d = t.closing p (finished-number n _ _ rd d t p f) in
         let (j, queue, J) = W.reached.mirrors.some d k p in
         let below = recorded-behind n rd d ((crashed-parts n D rd W.crashed).section d k) ((crashed-parts n D rd W.crashed).pc d k) p in
-        (W.reached.state, j, W.reached.followed, queue, rw J.next (ap op_of (J.code (suc (namedStep n rd d)) below) ∙ next))
+        (W.reached.state, j, W.reached.followed, queue, rw J.next (ap op_of (J.code (suc (named_step n rd d)) below) ∙ next))
 
   pub once-always : OnceAlways mark n
   unfolding OnceAlways
@@ -251,7 +251,7 @@ module _ (mark n : ℕ) (wide : 8 ≤ n) (narrow : n ≤ 64) where
         at_rest = t.numbers.rests;
         under-way = λ p.
             let (before, e, fin) = t.numbers.works p in
-            (some-begun before _ _ e, sym (last_snoc _ before _) ∙ ap (last_or (startedAt mark n m d)) (sym e));
+            (some-begun before _ _ e, sym (last_snoc _ before _) ∙ ap (last_or (started_at mark n m d)) (sym e));
         to-finish = to-finish m rest xs h l d k;
       }
     where

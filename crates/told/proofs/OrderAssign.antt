@@ -22,7 +22,7 @@ use Rattle.code.specs.Op.{op_of, eval}
 use Rattle.section.proofs.Held.{after-assign}
 use Rattle.code.proofs.Ranges.{assign-range, expr-range}
 use Rattle.working.specs.Cursor.{Cursor, on, cursor_at}
-use Rattle.worklog.specs.Log.{operand, code_in, word_in, spareAddr}
+use Rattle.worklog.specs.Log.{operand, code_in, word_in, spare_addr}
 use Rattle.worklog.proofs.Operands.{operand-valid}
 use Rattle.claims.specs.Reference.{job, State, state, Given, start, read_in, onto, assigned}
 use Rattle.claims.specs.Calls.{Traced, play}
@@ -72,7 +72,7 @@ module _
       log-turns mark n D w rd d cur w.trace.taken k 0 (Assign a x) (operand d a) (λ (m : Memory). eval (word_in n m d) x) (on (k + 1) 0)
       (start-view mark n D w s gs E d dl W) dl
       (here mark n D w s gs E d dl W (Assign a x) o) assign-logs (operand-valid n d a D dl reach) (λ q. omega arith)
-      (λ z. ap (λ (f : ℕ → ℕ). eval f x) (reads_kept n rd (upd rd (field (spareAddr n rd d) d) z) d (quiet-spare-addr n rd d z)))
+      (λ z. ap (λ (f : ℕ → ℕ). eval f x) (reads_kept n rd (upd rd (field (spare_addr n rd d) d) z) d (quiet-spare-addr n rd d z)))
 
   abbrev before : Memory
   before = assign-wrote.before

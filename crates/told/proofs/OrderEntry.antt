@@ -24,7 +24,7 @@ use Rattle.told.proofs.OrderTurn.{view-few}
 use Rattle.told.proofs.OrderLevel.{Idles, Stand, Even, AllBegun, even-view}
 use Rattle.told.proofs.OrderBlock.{Block}
 use Rattle.told.proofs.OrderStep.{none-some, step_block}
-use Rattle.told.proofs.OrderSubmit.{Able, nextNumber, submitNext, next-room, next-view, next-even}
+use Rattle.told.proofs.OrderSubmit.{Able, next_number, submit_next, next-room, next-view, next-even}
 use Rattle.claims.proofs.Feeding.{of-snoc-same, of-snoc-other}
 
 -- ---- the sections of one worker
@@ -95,7 +95,7 @@ module _
       (idles : Idles n (at n w.world.image) d (cursor_at w.world.cursors d) (get_or s.queues d []) (gs d)) (g : Given) (rest : List Given)
       (waits : gs d ≡ g ∷ rest) (fits : Able n d (g ∷ rest)) where
     abbrev submitting : Move
-    submitting = submitNext mark n D w s gs E d entry-worker least most idles g rest waits fits.0
+    submitting = submit_next mark n D w s gs E d entry-worker least most idles g rest waits fits.0
 
     abbrev after : Traced
     after = move mark n submitting w
@@ -121,7 +121,7 @@ module _
         absurd (omega arith)
     submit-block (inr W) = step_block mark n D after s t (but gs d rest) after-even d entry-worker W goes
 
-    submit-callable : callable (submits d (nextNumber mark n D w s gs E d entry-worker least most idles g rest waits fits.0) g.args g.code) ≡ true
+    submit-callable : callable (submits d (next_number mark n D w s gs E d entry-worker least most idles g rest waits fits.0) g.args g.code) ≡ true
     submit-callable =
         let few = view-few mark n D w _ d idle _ _ (even-view mark n D w s gs E d idle idles.cursor) entry-worker in
         let dl = entry-worker in

@@ -24,7 +24,7 @@ use Rattle.section.proofs.Held.{after-acquire, after-release}
 use Rattle.code.proofs.Ranges.{acquire-range, release-range}
 use Rattle.working.specs.Cursor.{Cursor, on, cursor_at}
 use Rattle.worklog.specs.Log.{code_in}
-use Rattle.plan.specs.Turn.{turnAt, stored, waiting, unlockBy}
+use Rattle.plan.specs.Turn.{turn_at, stored, waiting, unlock_by}
 use Rattle.plan.specs.declared.Report.{Report}
 use Rattle.plan.proofs.Outcomes.{named-freed}
 use Rattle.claims.specs.Reference.{Job, job, State, Given, start, held_in, taken, onto}
@@ -90,7 +90,7 @@ module _
     intended-codes : Codes n intended d k (Acquire a)
     intended-codes = codes_same n rd intended d k (Acquire a) refl (λ i. refl) (here mark n D w s gs E d dl W (Acquire a) o)
 
-    acquire-second : turnAt n intended d (on k 1) ≡ stored (lock a) (d + 1) (on k 2)
+    acquire-second : turn_at n intended d (on k 1) ≡ stored (lock a) (d + 1) (on k 2)
     acquire-second =
         let c = intended-codes in
         turn-op n intended d k 1 (Acquire a) c.valid c.below c.op (omega arith)
@@ -197,11 +197,11 @@ module _
     disowned-codes =
         codes_same n rd disowned d k (Release a) release-wrote.noted.count (release-wrote.noted.steps d) (here mark n D w s gs E d dl W (Release a) o)
 
-    release-fifth : turnAt n disowned d (on k 4) ≡ stored (lock a) 0 (on k 5)
+    release-fifth : turn_at n disowned d (on k 4) ≡ stored (lock a) 0 (on k 5)
     release-fifth =
         let c = disowned-codes in
         turn-op n disowned d k 4 (Release a) c.valid c.below c.op (omega arith)
-        ∙ ap (λ (r : Report). unlockBy n disowned d a k r)
+        ∙ ap (λ (r : Report). unlock_by n disowned d a k r)
         (named-freed d (disowned (lock a)) (release-wrote.noted.locks a ∙ E.level.owning.locked a d release-small dl has-lock))
 
     release-view : View mark n D (play mark n (turns_of 6 d) w) released d (on (suc k) 0) cur w.trace.taken

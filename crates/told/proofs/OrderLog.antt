@@ -20,8 +20,8 @@ use Rattle.section.specs.Check.{Code}
 use Rattle.section.specs.Valid.{Valid}
 use Rattle.code.proofs.Ranges.{op_turns}
 use Rattle.working.specs.Cursor.{Cursor, on}
-use Rattle.worklog.specs.Log.{code_in, spareAddr, spareVal, activeVal, switched}
-use Rattle.plan.specs.Turn.{logged, opTurn, stored}
+use Rattle.worklog.specs.Log.{code_in, spare_addr, spare_val, active_val, switched}
+use Rattle.plan.specs.Turn.{logged, op_turn, stored}
 use Rattle.working.proofs.Placed.{sayable}
 use Rattle.claims.specs.Reference.{Given}
 use Rattle.claims.specs.Calls.{Traced, turns, Move, whole, play}
@@ -69,10 +69,10 @@ field-other rd d e f g v h = rw (ne_eqb e d h, and-false (same_field g f))
 
 module _ (n : ℕ) (rd : Memory) (d x v y : ℕ) where
   abbrev addressed : Memory
-  addressed = upd rd (field (spareAddr n rd d) d) x
+  addressed = upd rd (field (spare_addr n rd d) d) x
 
   abbrev valued : Memory
-  valued = upd addressed (field (spareVal n addressed d) d) v
+  valued = upd addressed (field (spare_val n addressed d) d) v
 
   private-noted : (f : Field) → same_field f Addr0 ≡ false → same_field f Addr1 ≡ false → same_field f Val0 ≡ false → same_field f Val1 ≡ false
       → valued (field f d) ≡ rd (field f d)
@@ -87,7 +87,7 @@ module _ (n : ℕ) (rd : Memory) (d x v y : ℕ) where
         number = private-noted Number refl refl refl refl;
         finished = private-noted Finished refl refl refl refl;
         fields =
-            λ e h f. field-other valued d e Pc f y h ∙ (field-other addressed d e (spareVal n addressed d) f v h ∙ field-other rd d e (spareAddr n rd d) f x h);
+            λ e h f. field-other valued d e Pc f y h ∙ (field-other addressed d e (spare_val n addressed d) f v h ∙ field-other rd d e (spare_addr n rd d) f x h);
         steps = λ e i. refl;
         owns = λ e i. refl;
         cells = λ c. refl;
@@ -96,10 +96,10 @@ module _ (n : ℕ) (rd : Memory) (d x v y : ℕ) where
 
 -- where the four turns from turn t on are those of a logged store of a value at p
 pub record Logs (n d k t : ℕ) (x : Op) (p : Place) (val : Memory → ℕ) (next : Cursor) : Type 0 where
-  pub address : (rd : Memory) → opTurn n rd d k t x ≡ logged n rd d k t p (val rd) next 0
-  pub value : (rd : Memory) → opTurn n rd d k (t + 1) x ≡ logged n rd d k (t + 1) p (val rd) next 1
-  pub pc : (rd : Memory) → opTurn n rd d k (t + 1 + 1) x ≡ logged n rd d k (t + 1 + 1) p (val rd) next 2
-  pub target : (rd : Memory) → opTurn n rd d k (t + 1 + 1 + 1) x ≡ logged n rd d k (t + 1 + 1 + 1) p (val rd) next 3
+  pub address : (rd : Memory) → op_turn n rd d k t x ≡ logged n rd d k t p (val rd) next 0
+  pub value : (rd : Memory) → op_turn n rd d k (t + 1) x ≡ logged n rd d k (t + 1) p (val rd) next 1
+  pub pc : (rd : Memory) → op_turn n rd d k (t + 1 + 1) x ≡ logged n rd d k (t + 1 + 1) p (val rd) next 2
+  pub target : (rd : Memory) → op_turn n rd d k (t + 1 + 1 + 1) x ≡ logged n rd d k (t + 1 + 1 + 1) p (val rd) next 3
   pub enough : t + 4 ≤ op_turns x
   pub few : t + 4 ≤ 6
 
@@ -112,13 +112,13 @@ pub record Wrote (mark n D : ℕ) (w : Traced) (rd : Memory) (d : ℕ) (p : Plac
 pub log-turns :
     (mark n D : ℕ) (w : Traced) (rd : Memory) (d : ℕ) (cur : ℕ → Cursor) (taken : List Given) (k t : ℕ) (x : Op) (p : Place) (val : Memory → ℕ) (next : Cursor)
     → View mark n D w rd d (on k t) cur taken → d < D → Codes n rd d k x → Logs n d k t x p val next → valid D n p ≡ true → sayable next
-    → ((z : ℕ) → val (upd rd (field (spareAddr n rd d) d) z) ≡ val rd)
+    → ((z : ℕ) → val (upd rd (field (spare_addr n rd d) d) z) ≡ val rd)
     → Wrote mark n D w rd d p (val rd) next cur taken
 unfolding play
 log-turns mark n D w rd d cur taken k t x p val next v0 dl c logs ok say same =
     let ix = index_of n p in
-    let rd1 = upd rd (field (spareAddr n rd d) d) ix in
-    let rd2 = upd rd1 (field (spareVal n rd1 d) d) (val rd) in
+    let rd1 = upd rd (field (spare_addr n rd d) d) ix in
+    let rd2 = upd rd1 (field (spare_val n rd1 d) d) (val rd) in
     let y = switched n rd2 d k in
     let rd3 = upd rd2 (field Pc d) y in
     let enough = logs.enough in
@@ -129,15 +129,15 @@ log-turns mark n D w rd d cur taken k t x p val next v0 dl c logs ok say same =
     let c3 : Codes n rd3 d k x = codes_same n rd2 rd3 d k x refl (λ i. refl) c2 in
     let ok-field : (f : Field) → valid D n (field f d) ≡ true = λ f. lt-ltb d D dl in
     let t0 = turn-op n rd d k t x c.valid c.below c.op (omega arith) ∙ logs.address rd in
-    let v1 = turn-stored mark n D w rd d (on k t) cur taken v0 dl (field (spareAddr n rd d) d) ix (on k (t + 1)) t0 (ok-field (spareAddr n rd d))
+    let v1 = turn-stored mark n D w rd d (on k t) cur taken v0 dl (field (spare_addr n rd d) d) ix (on k (t + 1)) t0 (ok-field (spare_addr n rd d))
     (λ q. omega arith) in
     let t1 = turn-op n rd1 d k (t + 1) x c1.valid c1.below c1.op (omega arith) ∙
-    (logs.value rd1 ∙ ap (λ (z : ℕ). stored (field (spareVal n rd1 d) d) z (on k (t + 1 + 1))) (same ix)) in
-    let v2 = turn-stored mark n D _ rd1 d (on k (t + 1)) cur taken v1 dl (field (spareVal n rd1 d) d) (val rd) (on k (t + 1 + 1)) t1
-    (ok-field (spareVal n rd1 d)) (λ q. omega arith) in
+    (logs.value rd1 ∙ ap (λ (z : ℕ). stored (field (spare_val n rd1 d) d) z (on k (t + 1 + 1))) (same ix)) in
+    let v2 = turn-stored mark n D _ rd1 d (on k (t + 1)) cur taken v1 dl (field (spare_val n rd1 d) d) (val rd) (on k (t + 1 + 1)) t1
+    (ok-field (spare_val n rd1 d)) (λ q. omega arith) in
     let t2 = turn-op n rd2 d k (t + 1 + 1) x c2.valid c2.below c2.op (omega arith) ∙ logs.pc rd2 in
     let v3 = turn-stored mark n D _ rd2 d (on k (t + 1 + 1)) cur taken v2 dl (field Pc d) y (on k (t + 1 + 1 + 1)) t2 (ok-field Pc) (λ q. omega arith) in
-    let e : rd3 (field (activeVal n rd3 d) d) ≡ val rd = next-value n rd2 d k small ∙ spare-val-now n rd1 d (val rd) in
+    let e : rd3 (field (active_val n rd3 d) d) ≡ val rd = next-value n rd2 d k small ∙ spare-val-now n rd1 d (val rd) in
     let t3 = turn-op n rd3 d k (t + 1 + 1 + 1) x c3.valid c3.below c3.op (omega arith) ∙ (logs.target rd3 ∙ ap (λ (z : ℕ). stored p z next) e) in
     let v4 = turn-stored mark n D _ rd3 d (on k (t + 1 + 1 + 1)) cur taken v3 dl p (val rd) next t3 ok say in
     record { before = rd3; noted = noted n rd d ix (val rd) y; view = v4 }

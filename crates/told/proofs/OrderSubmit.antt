@@ -94,7 +94,8 @@ laid-works :
 laid-works n rd rd' d k g gs least fit laid intent owned numbers room =
     let parts = check-parts n (length g.code) (code_of g.code) fit.passed in
     let l = parts.0 in
-    let same : check n (length g.code) (code_in n rd' d) ≡ Pass = check-cong n (length g.code) (code_in n rd' d) (code_of g.code) laid.code-words ∙ fit.passed in
+    let same : check n (length g.code) (code_in n rd' d) ≡ Pass =
+    check-cong n (length g.code) (code_in n rd' d) (code_of g.code) laid.code-words ∙ fit.passed in
     let z = held-zero (code_in n rd' d) in
     let full = own-size n g.args least fit.eight in
     record {
@@ -121,45 +122,45 @@ module _
   rd = at n w.world.image
 
   -- the number submitted
-  abbrev pub nextNumber : ℕ
-  nextNumber = rd (field Finished d) + 1
+  abbrev pub next_number : ℕ
+  next_number = rd (field Finished d) + 1
 
-  abbrev pub submitNext : Move
-  submitNext = whole (submits d nextNumber g.args g.code)
+  abbrev pub submit_next : Move
+  submit_next = whole (submits d next_number g.args g.code)
 
   abbrev laid_in : Memory
-  laid_in = upd_all rd (submission n d nextNumber g.args g.code)
+  laid_in = upd_all rd (submission n d next_number g.args g.code)
 
   -- it is the section's own, and those behind it have the numbers that follow
-  next-numbers : (given g.worker nextNumber g.args g.code ≡ g) × (numbered nextNumber rest ≡ rest)
+  next-numbers : (given g.worker next_number g.args g.code ≡ g) × (numbered next_number rest ≡ rest)
   next-numbers =
       let k = rd (field Finished d) in
       let e : g ∷ rest ≡ numbered k (g ∷ rest) = subst (λ (l : List Given). l ≡ numbered k l) waits idles.numbers in
       (cc, cc)
 
-  pub next-room : nextNumber + length rest < 2 ^ 64
+  pub next-room : next_number + length rest < 2 ^ 64
   next-room =
       let r : rd (field Finished d) + length (g ∷ rest) < 2 ^ 64 = subst (λ (l : List Given). rd (field Finished d) + length l < 2 ^ 64) waits idles.room in
       omega arith
 
-  pub next-view : View mark n D (move mark n submitNext w) laid_in d (on 0 0) (cursor_at w.world.cursors) (w.trace.taken ++ (g ∷ []))
+  pub next-view : View mark n D (move mark n submit_next w) laid_in d (on 0 0) (cursor_at w.world.cursors) (w.trace.taken ++ (g ∷ []))
   next-view =
-      let same : given d nextNumber g.args g.code ≡ g = ap (λ (e : ℕ). given e nextNumber g.args g.code) (sym fit.by) ∙ next-numbers.0 in
-      subst (λ (x : Given). View mark n D (move mark n submitNext w) laid_in d (on 0 0) (cursor_at w.world.cursors) (w.trace.taken ++ (x ∷ []))) same
-      (submit-view mark n D w rd d (cursor_at w.world.cursors) w.trace.taken (even-view mark n D w s gs E d idle idles.cursor) dl nextNumber g.args
+      let same : given d next_number g.args g.code ≡ g = ap (λ (e : ℕ). given e next_number g.args g.code) (sym fit.by) ∙ next-numbers.0 in
+      subst (λ (x : Given). View mark n D (move mark n submit_next w) laid_in d (on 0 0) (cursor_at w.world.cursors) (w.trace.taken ++ (x ∷ []))) same
+      (submit-view mark n D w rd d (cursor_at w.world.cursors) w.trace.taken (even-view mark n D w s gs E d idle idles.cursor) dl next_number g.args
       g.code
       idles.count idles.pc (omega arith) fit.passed least most fit.eight)
 
   private-queue : get_or s.queues d [] ≡ map (start n) (g ∷ rest)
   private-queue = idles.queue ∙ ap (map (start n)) waits
 
-  pub next-even : Even mark n D (move mark n submitNext w) s (but gs d rest)
+  pub next-even : Even mark n D (move mark n submit_next w) s (but gs d rest)
   next-even =
-      let laid = submission-laid n rd d nextNumber g.args g.code in
-      let works = laid-works n rd laid_in d nextNumber g rest least fit laid idles.intent idles.owned (sym next-numbers.1) next-room in
+      let laid = submission-laid n rd d next_number g.args g.code in
+      let works = laid-works n rd laid_in d next_number g rest least fit laid idles.intent idles.owned (sym next-numbers.1) next-room in
       let q = get_or s.queues d [] in
-      subst (λ (qs : List (List Job)). Even mark n D (move mark n submitNext w) (state s.cells qs) (but gs d rest)) (set-get_or s.queues d [])
-      (even-after mark n D w s gs E d (move mark n submitNext w) laid_in (on 0 0) (w.trace.taken ++ (g ∷ [])) (but gs d rest) s.cells q next-view dl
+      subst (λ (qs : List (List Job)). Even mark n D (move mark n submit_next w) (state s.cells qs) (but gs d rest)) (set-get_or s.queues d [])
+      (even-after mark n D w s gs E d (move mark n submit_next w) laid_in (on 0 0) (w.trace.taken ++ (g ∷ [])) (but gs d rest) s.cells q next-view dl
       (λ e h. but-other gs d rest e h)
       (λ e h. record { fields = laid.fields e h; steps = laid.steps e h; owns = laid.owns e h })
       (inr (rw (but_same gs d rest, private-queue) works))

@@ -16,7 +16,7 @@ use Rattle.image.specs.Image.{at, workers, header_ok}
 use Rattle.image.proofs.Header.{Sized, header-sized, header-workers}
 use Rattle.image.proofs.Stores.{header-store, workers-store}
 use Rattle.working.specs.Cursor.{Cursor, cursor_at, placed}
-use Rattle.plan.specs.Turn.{Outcome, stored, passed, turnAt}
+use Rattle.plan.specs.Turn.{Outcome, stored, passed, turn_at}
 use Rattle.worklog.specs.declared.Passing.TheVariants.{Jump}
 use Rattle.turn.specs.Call.{outcome_at, outcome}
 use Rattle.working.proofs.Placed.{Full, sayable, placed_same, held-cursor, placed-other}
@@ -47,12 +47,12 @@ module _ (mark n D : ℕ) (w : Traced) (rd : Memory) (d : ℕ) (c : Cursor) (cur
   view-few = subst (λ (k : ℕ). k ≤ 8) view.many (header-workers mark n w.world.image view.header).1
 
   -- a turn is what it is in the view's memory
-  view-outcome : (o : Outcome) → turnAt n rd d c ≡ o → outcome mark n (lent mark n (2 ^ 64 - 1) w).world d ≡ o
+  view-outcome : (o : Outcome) → turn_at n rd d c ≡ o → outcome mark n (lent mark n (2 ^ 64 - 1) w).world d ≡ o
   unfolding outcome outcome_at
   view-outcome o e = rw (view.header, view.many, lt-ltb d D dl, view.memory, view.mine) e
 
   pub turn-stored :
-      (p : Place) (v : ℕ) (x : Cursor) → turnAt n rd d c ≡ stored p v x → valid D n p ≡ true → sayable x
+      (p : Place) (v : ℕ) (x : Cursor) → turn_at n rd d c ≡ stored p v x → valid D n p ≡ true → sayable x
       → View mark n D (move mark n (whole (turns d)) w) (upd rd p v) d x cur taken
   unfolding move call
   turn-stored p v x e ok say =
@@ -68,7 +68,7 @@ module _ (mark n D : ℕ) (w : Traced) (rd : Memory) (d : ℕ) (c : Cursor) (cur
         entered = private-taken (is_pc p && not (eqb (2 ^ 64 - 1) 0)) w.trace d (eqb (at n w.world.image (field Pc d)) 0) ∙ view.entered;
       })
 
-  pub turn-jumped : (x : Cursor) → turnAt n rd d c ≡ passed Jump x → sayable x → View mark n D (move mark n (whole (turns d)) w) rd d x cur taken
+  pub turn-jumped : (x : Cursor) → turn_at n rd d c ≡ passed Jump x → sayable x → View mark n D (move mark n (whole (turns d)) w) rd d x cur taken
   unfolding move call
   turn-jumped x e say =
       let few = view-few in

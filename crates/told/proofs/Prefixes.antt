@@ -26,12 +26,12 @@ use Rattle.turn.specs.Call.{outcome_at, outcome}
 use Rattle.run.specs.Run.{any_open}
 use Rattle.recovery.specs.Recovery.{Recovered, accepted, rejected, recovery}
 use Rattle.recovery.specs.Recover.{stores_of}
-use Rattle.claims.specs.Calls.{Traced, turnBy, turnedAt, refuses, round, rounds, ranBy, recoveredBy}
+use Rattle.claims.specs.Calls.{Traced, turn_by, turned_at, refuses, round, rounds, ran_by, recovered_by}
 use Rattle.claims.specs.Calls.{Call, submits, turns, runs, recovers, call, lent, callable}
-use Rattle.told.specs.Moments.{Moment, moment, inRound, inRounds, inCall}
+use Rattle.told.specs.Moments.{Moment, moment, in_round, in_rounds, in_call}
 use Rattle.told.specs.Enough.{makes, EnoughIsWhole}
-use Rattle.told.specs.Prefixes.{Word, made, store_by, submit_stores, words_from, words, turnStores, callStores, CutsArePrefixes}
-use Rattle.told.specs.Prefixes.{formatWords, FormatCutsArePrefixes}
+use Rattle.told.specs.Prefixes.{Word, made, store_by, submit_stores, words_from, words, turn_stores, call_stores, CutsArePrefixes}
+use Rattle.told.specs.Prefixes.{format_words, FormatCutsArePrefixes}
 use Rattle.told.proofs.Enough.{enough-is-whole}
 use Rattle.told.proofs.RunTurns.{Headed, turn-headed}
 
@@ -42,15 +42,15 @@ module _ (mark n : ℕ) where
   abbrev Spent : Traced → Image → Type 0
   Spent w m = (w.world.image ≡ m) × (w.world.left ≡ 0)
 
-  spent-by : (w : Traced) (d : ℕ) (o : Outcome) (m : Image) → Spent w m → Spent (turnBy mark n w d o) m
+  spent-by : (w : Traced) (d : ℕ) (o : Outcome) (m : Image) → Spent w m → Spent (turn_by mark n w d o) m
   spent-by w d (stored p v c) m (i, z) = (rw (z, i) (put-none m (index_of n p) v), omega arith)
   spent-by w d (passed why c) m s = s
   spent-by w d (waiting b) m s = s
   spent-by w d resting m s = s
   spent-by w d (refused r) m s = s
 
-  spent-turned : (w : Traced) (d : ℕ) (m : Image) → Spent w m → Spent (turnedAt mark n w d) m
-  unfolding turnedAt
+  spent-turned : (w : Traced) (d : ℕ) (m : Image) → Spent w m → Spent (turned_at mark n w d) m
+  unfolding turned_at
   spent-turned w d m s = spent-by w d (outcome_at n w.world d) m s
 
   spent-round :
@@ -59,11 +59,11 @@ module _ (mark n : ℕ) where
   unfolding round
   spent-round rest more zero d w m s = more w m s
   spent-round rest more (suc j) d w m s =
-      by (refuses mark n (outcome_at n w.world d)) (spent-round rest more j (d + 1) (turnedAt mark n w d) m (spent-turned w d m s))
+      by (refuses mark n (outcome_at n w.world d)) (spent-round rest more j (d + 1) (turned_at mark n w d) m (spent-turned w d m s))
     where
       by :
-          (b : Bool) → Spent (round mark n rest (turnedAt mark n w d) (d + 1) j) m
-          → Spent (cond b w (round mark n rest (turnedAt mark n w d) (d + 1) j)) m
+          (b : Bool) → Spent (round mark n rest (turned_at mark n w d) (d + 1) j) m
+          → Spent (cond b w (round mark n rest (turned_at mark n w d) (d + 1) j)) m
       by true t = s
       by false t = t
 
@@ -90,7 +90,7 @@ module _ (mark n : ℕ) where
   -- a store that is made leaves the same world whatever was lent
   store-lent :
       (w : Traced) (d : ℕ) (p : Place) (v : ℕ) (c : Cursor) (k : ℕ) → 0 < w.world.left
-      → turnBy mark n (lent mark n (suc k) w) d (stored p v c) ≡ lent mark n k (turnBy mark n w d (stored p v c))
+      → turn_by mark n (lent mark n (suc k) w) d (stored p v c) ≡ lent mark n k (turn_by mark n w d (stored p v c))
   store-lent w d p v c k l =
       let e : suc k - 1 ≡ k = omega arith in
       rw (
@@ -104,8 +104,8 @@ module _ (mark n : ℕ) where
   -- a turn, and what follows it: f is lent what the turn leaves
   turn-cut :
       (f : Traced → Traced) → ((v : Traced) (m : Image) → Spent v m → Spent (f v) m) → (w : Traced) (d : ℕ) (o : Outcome) → 0 < w.world.left
-      → (ss : List Store) → ((k : ℕ) → Cut (turnBy mark n w d o).world.image ss k (f (lent mark n k (turnBy mark n w d o))))
-      → (k : ℕ) → Cut w.world.image (store_by o ++ ss) k (f (turnBy mark n (lent mark n k w) d o))
+      → (ss : List Store) → ((k : ℕ) → Cut (turn_by mark n w d o).world.image ss k (f (lent mark n k (turn_by mark n w d o))))
+      → (k : ℕ) → Cut w.world.image (store_by o ++ ss) k (f (turn_by mark n (lent mark n k w) d o))
   turn-cut f still w d (stored p v c) l ss h zero =
       cut-spent w.world.image _ _ (still _ w.world.image (put-none w.world.image (index_of n p) v, refl))
   turn-cut f still w d (stored p v c) l ss h (suc k) =
@@ -131,7 +131,7 @@ module _ (mark n : ℕ) where
   refused_none resting h = refl
   refused_none (refused r) h = refl
 
-  left_by : (w : Traced) (d : ℕ) (o : Outcome) → w.world.left ≤ suc (turnBy mark n w d o).world.left
+  left_by : (w : Traced) (d : ℕ) (o : Outcome) → w.world.left ≤ suc (turn_by mark n w d o).world.left
   left_by w d (stored p v c) = omega arith
   left_by w d (passed why c) = omega arith
   left_by w d (waiting b) = omega arith
@@ -142,56 +142,56 @@ module _ (mark n : ℕ) where
   unfolding outcome
   outcome-in D w d l h = rw (h.header, h.many, lt-ltb d D l)
 
-  stores-cons : (t : Moment) (ts : List Moment) → turnStores mark n (t ∷ ts) ≡ store_by (outcome mark n t.now.world t.worker) ++ turnStores mark n ts
-  unfolding turnStores
+  stores-cons : (t : Moment) (ts : List Moment) → turn_stores mark n (t ∷ ts) ≡ store_by (outcome mark n t.now.world t.worker) ++ turn_stores mark n ts
+  unfolding turn_stores
   stores-cons t ts = refl
 
-  stores-nil : turnStores mark n [] ≡ []
-  unfolding turnStores
+  stores-nil : turn_stores mark n [] ≡ []
+  unfolding turn_stores
   stores-nil = refl
 
   -- what a function leaves of a world that lends it k, where its turns are these in a world that lends it at least a
   abbrev Follows : ℕ → ℕ → (Traced → Traced) → (Traced → List Moment) → Type 0
   Follows D a f ms =
-      (w : Traced) → Headed mark n D w → a ≤ w.world.left → (k : ℕ) → Cut w.world.image (turnStores mark n (ms w)) k (f (lent mark n k w))
+      (w : Traced) → Headed mark n D w → a ≤ w.world.left → (k : ℕ) → Cut w.world.image (turn_stores mark n (ms w)) k (f (lent mark n k w))
 
   module _
       (D a : ℕ) (rest : Traced → Traced) (ms : Traced → List Moment) (still : (w : Traced) (m : Image) → Spent w m → Spent (rest w) m)
       (more : Follows D a rest ms) where
-    round-cut : (j d : ℕ) → d + j ≤ D → Follows D (j + a) (λ (w : Traced). round mark n rest w d j) (λ (w : Traced). inRound mark n ms w d j)
-    unfolding round inRound turnedAt outcome_at
+    round-cut : (j d : ℕ) → d + j ≤ D → Follows D (j + a) (λ (w : Traced). round mark n rest w d j) (λ (w : Traced). in_round mark n ms w d j)
+    unfolding round in_round turned_at outcome_at
     round-cut zero d b w h l k = more w h (omega arith) k
     round-cut (suc j) d b w h l k =
-        rw (stores-cons (moment w d) (cond (refuses mark n o) [] (inRound mark n ms (turnBy mark n w d o) (d + 1) j)), outcome-in D w d (omega arith) h)
+        rw (stores-cons (moment w d) (cond (refuses mark n o) [] (in_round mark n ms (turn_by mark n w d o) (d + 1) j)), outcome-in D w d (omega arith) h)
         (by (λ v q left i. round-cut j (d + 1) (omega arith) v q left i) (refuses mark n o) refl)
       where
         o : Outcome
         o = outcome_at n w.world d
 
         by :
-            Follows D (j + a) (λ (v : Traced). round mark n rest v (d + 1) j) (λ (v : Traced). inRound mark n ms v (d + 1) j)
+            Follows D (j + a) (λ (v : Traced). round mark n rest v (d + 1) j) (λ (v : Traced). in_round mark n ms v (d + 1) j)
             → (t : Bool) → refuses mark n o ≡ t
-            → Cut w.world.image (store_by o ++ turnStores mark n (cond t [] (inRound mark n ms (turnBy mark n w d o) (d + 1) j))) k
-            (cond t (lent mark n k w) (round mark n rest (turnBy mark n (lent mark n k w) d o) (d + 1) j))
+            → Cut w.world.image (store_by o ++ turn_stores mark n (cond t [] (in_round mark n ms (turn_by mark n w d o) (d + 1) j))) k
+            (cond t (lent mark n k w) (round mark n rest (turn_by mark n (lent mark n k w) d o) (d + 1) j))
         by next true e = rw (refused_none o e, stores-nil) (cut-nil w k)
         by next false e =
             let left = left_by w d o in
             turn-cut (λ (v : Traced). round mark n rest v (d + 1) j) (λ v m s. spent-round rest still j (d + 1) v m s) w d o (omega arith)
-            (turnStores mark n (inRound mark n ms (turnBy mark n w d o) (d + 1) j))
-            (next (turnBy mark n w d o) (turn-headed mark n D w d o h) (omega arith)) k
+            (turn_stores mark n (in_round mark n ms (turn_by mark n w d o) (d + 1) j))
+            (next (turn_by mark n w d o) (turn-headed mark n D w d o h) (omega arith)) k
 
-  rounds-cut : (D r : ℕ) → D ≤ 8 → Follows D (r * 8) (λ (w : Traced). rounds mark n r D w) (λ (w : Traced). inRounds mark n r D w)
-  unfolding rounds inRounds
+  rounds-cut : (D r : ℕ) → D ≤ 8 → Follows D (r * 8) (λ (w : Traced). rounds mark n r D w) (λ (w : Traced). in_rounds mark n r D w)
+  unfolding rounds in_rounds
   rounds-cut D zero b w h l k = rw stores-nil (cut-nil w k)
   rounds-cut D (suc r) b w h l k =
       by (any_open D 0 w.world.cursors)
-      (round-cut D (r * 8) (rounds mark n r D) (inRounds mark n r D) (λ v m s. spent-rounds r D v m s) (rounds-cut D r b) D 0 (omega arith) w h
+      (round-cut D (r * 8) (rounds mark n r D) (in_rounds mark n r D) (λ v m s. spent-rounds r D v m s) (rounds-cut D r b) D 0 (omega arith) w h
       (omega (arith, suc-mul r 8)) k)
     where
       by :
           (t : Bool)
-          → Cut w.world.image (turnStores mark n (inRound mark n (inRounds mark n r D) w 0 D)) k (round mark n (rounds mark n r D) (lent mark n k w) 0 D)
-          → Cut w.world.image (turnStores mark n (cond t (inRound mark n (inRounds mark n r D) w 0 D) [])) k
+          → Cut w.world.image (turn_stores mark n (in_round mark n (in_rounds mark n r D) w 0 D)) k (round mark n (rounds mark n r D) (lent mark n k w) 0 D)
+          → Cut w.world.image (turn_stores mark n (cond t (in_round mark n (in_rounds mark n r D) w 0 D) [])) k
           (cond t (round mark n (rounds mark n r D) (lent mark n k w) 0 D) (lent mark n k w))
       by true c = c
       by false c = rw stores-nil (cut-nil w k)
@@ -200,20 +200,20 @@ module _ (mark n : ℕ) where
 
   run-cut :
       (r : ℕ) (w : Traced) → r * 8 ≤ w.world.left → (k : ℕ)
-      → Cut w.world.image (turnStores mark n (inCall mark n (runs r) w)) k (ranBy mark n (lent mark n k w) r)
-  unfolding ranBy inCall
+      → Cut w.world.image (turn_stores mark n (in_call mark n (runs r) w)) k (ran_by mark n (lent mark n k w) r)
+  unfolding ran_by in_call
   run-cut r w l k = by (header_ok mark n w.world.image) refl
     where
       by :
           (b : Bool) → header_ok mark n w.world.image ≡ b
-          → Cut w.world.image (turnStores mark n (cond b (inRounds mark n r (workers w.world.image) w) [])) k
+          → Cut w.world.image (turn_stores mark n (cond b (in_rounds mark n r (workers w.world.image) w) [])) k
           (cond b (rounds mark n r (workers w.world.image) (lent mark n k w)) (lent mark n k w))
       by true h =
           rounds-cut (workers w.world.image) r (header-workers mark n w.world.image h).1 w (record { header = h; many = refl }) l k
       by false h = rw stores-nil (cut-nil w k)
 
-  one-cut : (w : Traced) (d : ℕ) (o : Outcome) → 0 < w.world.left → (k : ℕ) → Cut w.world.image (store_by o ++ []) k (turnBy mark n (lent mark n k w) d o)
-  one-cut w d o l k = turn-cut (λ (v : Traced). v) (λ v m s. s) w d o l [] (λ i. cut-nil (turnBy mark n w d o) i) k
+  one-cut : (w : Traced) (d : ℕ) (o : Outcome) → 0 < w.world.left → (k : ℕ) → Cut w.world.image (store_by o ++ []) k (turn_by mark n (lent mark n k w) d o)
+  one-cut w d o l k = turn-cut (λ (v : Traced). v) (λ v m s. s) w d o l [] (λ i. cut-nil (turn_by mark n w d o) i) k
 
   submit-cut :
       (w : Traced) (d j : ℕ) (args ws : List ℕ) (a : Submitted) (k : ℕ)
@@ -222,14 +222,14 @@ module _ (mark n : ℕ) where
   submit-cut w d j args ws Taken k = (refl, refl)
   submit-cut w d j args ws (Refused r) k = (sym (put_all-nil n k w.world.image), omega arith)
 
-  recover-cut : (w : Traced) (x : Recovered) (k : ℕ) → Cut w.world.image (stores_of x) k (recoveredBy mark n (lent mark n k w) x)
+  recover-cut : (w : Traced) (x : Recovered) (k : ℕ) → Cut w.world.image (stores_of x) k (recovered_by mark n (lent mark n k w) x)
   recover-cut w (accepted ss cs) k = record { image = refl; left = refl }
   recover-cut w (rejected r) k = record { image = sym (put_all-nil n k w.world.image); left = omega arith }
 
   call-cut :
       (c : Call) (w : Traced) → callable c ≡ true → (k : ℕ)
-      → Cut w.world.image (callStores mark n c (lent mark n (2 ^ 64 - 1) w)) k (call mark n c (lent mark n k w))
-  unfolding call outcome outcome_at inCall turnStores submit_answer free
+      → Cut w.world.image (call_stores mark n c (lent mark n (2 ^ 64 - 1) w)) k (call mark n c (lent mark n k w))
+  unfolding call outcome outcome_at in_call turn_stores submit_answer free
   call-cut (submits d j args ws) w h k =
       let s = submit-cut w d j args ws (submit_answer mark n w.world d j ws) k in
       record { image = s.0; left = s.1 }
@@ -249,10 +249,10 @@ module _ (mark n : ℕ) where
 
   -- lent enough and as many as its stores more, the call leaves as many as its stores
   few-stores :
-      EnoughIsWhole mark n → (c : Call) (w : Traced) → callable c ≡ true → length (callStores mark n c (lent mark n (2 ^ 64 - 1) w)) ≤ 2 ^ 64 - 1
+      EnoughIsWhole mark n → (c : Call) (w : Traced) → callable c ≡ true → length (call_stores mark n c (lent mark n (2 ^ 64 - 1) w)) ≤ 2 ^ 64 - 1
   unfolding EnoughIsWhole
   few-stores enough c w h =
-      let s = length (callStores mark n c (lent mark n (2 ^ 64 - 1) w)) in
+      let s = length (call_stores mark n c (lent mark n (2 ^ 64 - 1) w)) in
       let k = makes mark n c w + s in
       let e = ap (λ (v : Traced). v.world.left) (enough c h w k (omega arith)) in
       let f = (call-cut c w h k).left in
@@ -261,7 +261,7 @@ module _ (mark n : ℕ) where
 pub cuts-are-prefixes : (mark n : ℕ) → 8 ≤ n → n ≤ 64 → CutsArePrefixes mark n
 unfolding CutsArePrefixes
 cuts-are-prefixes mark n wide narrow c h w k =
-    let ss = callStores mark n c (lent mark n (2 ^ 64 - 1) w) in
+    let ss = call_stores mark n c (lent mark n (2 ^ 64 - 1) w) in
     let t = call-cut mark n c w h k in
     record {
       image = t.image ∙ given-words mark n k w.world.image ss;
@@ -306,12 +306,12 @@ tail-length : (n D : ℕ) → length (form_tail n D) + 1 ≡ length_of n D
 tail-length n D = let l = long n D in rw (length-replicate {A = ℕ} (length_of n D - 2) 0) (omega arith)
 
 module _ (mark n : ℕ) where
-  format-length : (D : ℕ) → length (formatWords mark n D Done) ≡ length_of n D + 1
+  format-length : (D : ℕ) → length (format_words mark n D Done) ≡ length_of n D + 1
   format-length D =
       let t = tail-length n D in
       rw (length-append (words_from 1 (form_tail n D)) ((0, mark) ∷ []), words-from-length 1 (form_tail n D)) (omega arith)
 
-  format-made : (k : ℕ) (m : Image) (D : ℕ) → format_stores mark n k m D ≡ made m (take k (formatWords mark n D Done))
+  format-made : (k : ℕ) (m : Image) (D : ℕ) → format_stores mark n k m D ≡ made m (take k (format_words mark n D Done))
   unfolding format_stores made
   format-made zero m D =
       let e : 0 - length_of n D ≡ 0 = omega arith in
@@ -325,7 +325,7 @@ module _ (mark n : ℕ) where
 
   format-cut :
       (m : Image) (D k : ℕ) (a : Formatted)
-      → (format_leaves mark n k m D a ≡ made m (take k (formatWords mark n D a))) × (format_left n k D a ≡ k - length (formatWords mark n D a))
+      → (format_leaves mark n k m D a ≡ made m (take k (format_words mark n D a))) × (format_left n k D a ≡ k - length (format_words mark n D a))
   unfolding made
   format-cut m D k Done = (format-made k m D, rw (format-length D) refl)
   format-cut m D zero (FormatRefused r) = (refl, omega arith)

@@ -14,15 +14,15 @@ use Rattle.worklog.specs.Log.{code_in}
 use Rattle.plan.specs.Turn.{Outcome, stored, passed, waiting, resting, refused}
 use Rattle.claims.specs.Reference.{Given}
 use Rattle.claims.specs.Events.{Event, taken, moved, waited, recorded, ended, lost}
-use Rattle.claims.specs.Calls.{Traced, is_pc, turnBy}
+use Rattle.claims.specs.Calls.{Traced, is_pc, turn_by}
 use Rattle.claims.specs.Claims.{of_worker}
 use Rattle.claims.proofs.Submitting.{on-not-idle}
 use Rattle.told.specs.Paths.{Paths}
 use Rattle.told.specs.Turns.{Now, nowhere, fresh, going, closing, passage_of, All}
 use Rattle.told.proofs.Reading.{store_keeps}
-use Rattle.told.proofs.Accounting.{eventsBy}
+use Rattle.told.proofs.Accounting.{events_by}
 use Rattle.told.proofs.Pacing.{Paced}
-use Rattle.told.proofs.OnTrack.{pathsIn}
+use Rattle.told.proofs.OnTrack.{paths_in}
 use Rattle.told.proofs.Spanning.{Spanning}
 
 -- neither a taking nor a loss
@@ -42,14 +42,14 @@ store-quiet false false z d s = (tt, tt)
 store-quiet false true true d s = (tt, (tt, tt))
 store-quiet false true false d s = (tt, (tt, tt))
 
-pub turn-quiet : (mark n : ℕ) (w : Traced) (d : ℕ) (o : Outcome) → All Quiet (eventsBy mark n w d o)
+pub turn-quiet : (mark n : ℕ) (w : Traced) (d : ℕ) (o : Outcome) → All Quiet (events_by mark n w d o)
 turn-quiet mark n w d (stored p v c) = store-quiet (eqb w.world.left 0) (is_pc p) (eqb v 0) d _
 turn-quiet mark n w d (passed why c) = (tt, tt)
 turn-quiet mark n w d (waiting b) = (tt, tt)
 turn-quiet mark n w d resting = tt
 turn-quiet mark n w d (refused r) = tt
 
-pub turn-taken : (mark n : ℕ) (w : Traced) (d : ℕ) (o : Outcome) → (turnBy mark n w d o).trace.taken ≡ w.trace.taken
+pub turn-taken : (mark n : ℕ) (w : Traced) (d : ℕ) (o : Outcome) → (turn_by mark n w d o).trace.taken ≡ w.trace.taken
 turn-taken mark n w d (stored p v c) =
     (store_keeps w.trace d (is_pc p && not (eqb w.world.left 0)) (eqb (at n w.world.image (field Pc d)) 0)).0
 turn-taken mark n w d (passed why c) = refl
@@ -71,5 +71,5 @@ module _ (mark n D : ℕ) (cells : List ℕ) where
       (w : Traced) → Spanning mark n D cells w → (e : ℕ) → e < D → cursor_at w.world.cursors e ≡ idle → (passage_of e w.trace.events).now ≡ nowhere
   nowhere-at w x e l i =
       let rd = at n w.world.image in
-      idle-nowhere (rd (field Pc e)) (rd (field Count e)) (code_in n rd e) (pathsIn mark n D cells w e) (of_worker e w.trace.begun) (w.trace.jumps e)
+      idle-nowhere (rd (field Pc e)) (rd (field Count e)) (code_in n rd e) (paths_in mark n D cells w e) (of_worker e w.trace.begun) (w.trace.jumps e)
       (w.trace.last e) (cursor_at w.world.cursors e) (passage_of e w.trace.events).now i (x e l).pace

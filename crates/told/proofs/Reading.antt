@@ -21,7 +21,7 @@ use Rattle.plan.specs.Turn.{Outcome, stored, passed, waiting, resting, refused}
 use Rattle.claims.specs.Reference.{Given, given}
 use Rattle.told.specs.Readings.{taken_in, Reading, learn, read_from, read_off, begun_in}
 use Rattle.claims.specs.Events.{Event, taken, moved, waited, recorded, ended, lost, but}
-use Rattle.claims.specs.Calls.{Trace, Traced, recording, is_pc, step_of, storeEvents, turnBy, submits, Move, callable}
+use Rattle.claims.specs.Calls.{Trace, Traced, recording, is_pc, step_of, store_events, turn_by, submits, Move, callable}
 use Rattle.claims.specs.Claims.{admissible}
 use Rattle.claims.proofs.LiveTurn.{but_same, but-other}
 use Rattle.claims.proofs.Entries.{apart_of}
@@ -45,7 +45,7 @@ use Rattle.told.proofs.Events.{read-append, read_none, read-cons, taken-append}
 abbrev said : ℕ → ℕ → Bool → ℕ → List Event
 said d s pc v = moved d s ∷ cond pc (cond (eqb v 0) (ended d) (recorded d s) ∷ []) []
 
-store_said : (mark n : ℕ) (w : Traced) (d : ℕ) (p : Place) (v : ℕ) → 0 < w.world.left → storeEvents mark n w d p v ≡ said d (step_of mark n w d) (is_pc p) v
+store_said : (mark n : ℕ) (w : Traced) (d : ℕ) (p : Place) (v : ℕ) → 0 < w.world.left → store_events mark n w d p v ≡ said d (step_of mark n w d) (is_pc p) v
 store_said mark n w d p v l = rw (ne_eqb w.world.left 0 (λ q. omega arith))
 
 -- no store but of the pc says anything of sections
@@ -113,15 +113,15 @@ module _ (mark n D : ℕ) (cells : List ℕ) where
     pub admits : admissible mark n D w.trace.taken ≡ true
 
   -- the section that worker e has pending, by its pc, its cursor and the one last taken
-  abbrev pendingOf : ℕ → Cursor → Given → List Given
-  pendingOf pc c g = cond (pend pc c) (g ∷ []) []
+  abbrev pending_of : ℕ → Cursor → Given → List Given
+  pending_of pc c g = cond (pend pc c) (g ∷ []) []
 
   pub record ReadsOff (w : Traced) : Type 0 where
     pub off : ReadOff w
     pub waits :
         (e : ℕ) → e < D
         → (read_off w.trace.events).pending e
-        ≡ pendingOf (at n w.world.image (field Pc e)) (cursor_at w.world.cursors e) (w.trace.last e)
+        ≡ pending_of (at n w.world.image (field Pc e)) (cursor_at w.world.cursors e) (w.trace.last e)
 
   -- one event more that says nothing of sections
   noted-off :
@@ -171,22 +171,22 @@ module _ (mark n D : ℕ) (cells : List ℕ) where
             rw (said-recorded old d s v z, x.waits d dl, ps.0, ← x.off.begins) (sym (private-begins (eqb (rd (field Pc d)) 0)))
 
     -- what worker e has pending behind a store
-    abbrev pendingThen : Place → ℕ → Cursor → ℕ → List Given
-    pendingThen p v c e = pendingOf (upd rd p v (field Pc e)) (but cursors d c e) (w.trace.last e)
+    abbrev pending_then : Place → ℕ → Cursor → ℕ → List Given
+    pending_then p v c e = pending_of (upd rd p v (field Pc e)) (but cursors d c e) (w.trace.last e)
 
     stored-waits :
         (p : Place) (v : ℕ) (c : Cursor) (s : ℕ) → Writes n rd d last p v → (b : Bool) → is_pc p ≡ b → Passes (rd (field Pc d)) cursor v c b
-        → (e : ℕ) → e < D → (read_from old (said d s b v)).pending e ≡ pendingThen p v c e
+        → (e : ℕ) → e < D → (read_from old (said d s b v)).pending e ≡ pending_then p v c e
     stored-waits p v c s y b q ps e l = by (ℕ_discrete e d) b q ps (ℕ_discrete v 0)
       where
-        aside : e ≢ d → (f : Reading) → f.pending e ≡ old.pending e → f.pending e ≡ pendingThen p v c e
+        aside : e ≢ d → (f : Reading) → f.pending e ≡ old.pending e → f.pending e ≡ pending_then p v c e
         aside i f k =
             let a = aside-of n rd d last e i p v y in
             rw (apart_of (telling_of e) (field Pc e) p (eq-eqb e e refl) a, but-other cursors d c e i) (k ∙ x.waits e l)
 
         by :
             Dec (e ≡ d) → (b : Bool) → is_pc p ≡ b → Passes (rd (field Pc d)) cursor v c b → Dec (v ≡ 0)
-            → (read_from old (said d s b v)).pending e ≡ pendingThen p v c e
+            → (read_from old (said d s b v)).pending e ≡ pending_then p v c e
         by (no i) false h k z = aside i (read_from old (said d s false v)) (ap (λ (z : Reading). z.pending e) (said-other old d s v))
         by (no i) true h k (yes z) = aside i (read_from old (said d s true v)) (ap (λ (z : Reading). z.pending e) (said-ended old d s v z))
         by (no i) true h k (no z) =
@@ -203,17 +203,17 @@ module _ (mark n D : ℕ) (cells : List ℕ) where
 
     still-waits :
         (c : Cursor) → pend (rd (field Pc d)) cursor ≡ pend (rd (field Pc d)) c → (e : ℕ) → e < D
-        → old.pending e ≡ pendingOf (rd (field Pc e)) (but cursors d c e) (w.trace.last e)
+        → old.pending e ≡ pending_of (rd (field Pc e)) (but cursors d c e) (w.trace.last e)
     still-waits c q e l = by (ℕ_discrete e d)
       where
-        by : Dec (e ≡ d) → old.pending e ≡ pendingOf (rd (field Pc e)) (but cursors d c e) (w.trace.last e)
+        by : Dec (e ≡ d) → old.pending e ≡ pending_of (rd (field Pc e)) (but cursors d c e) (w.trace.last e)
         by (yes i) = rw (i, but_same cursors d c, ← q) (x.waits d dl)
         by (no i) = rw (but-other cursors d c e i) (x.waits e l)
 
     -- a turn, by its outcome: the memory and the cursors behind it are known
     outcome-reads :
-        (o : Outcome) → Says n rd d last o → Pends (rd (field Pc d)) cursor o → Fed w o → at n (turnBy mark n w d o).world.image ≡ turn_memory rd o
-        → ((e : ℕ) → e < D → cursor_at (turnBy mark n w d o).world.cursors e ≡ but cursors d (turn_cursor cursor o) e) → ReadsOff (turnBy mark n w d o)
+        (o : Outcome) → Says n rd d last o → Pends (rd (field Pc d)) cursor o → Fed w o → at n (turn_by mark n w d o).world.image ≡ turn_memory rd o
+        → ((e : ℕ) → e < D → cursor_at (turn_by mark n w d o).world.cursors e ≡ but cursors d (turn_cursor cursor o) e) → ReadsOff (turn_by mark n w d o)
     outcome-reads (stored p v c) y ps fed m cs =
         let s = step_of mark n w d in
         let es = store_said mark n w d p v (fed refl) in
@@ -244,7 +244,7 @@ module _ (mark n D : ℕ) (cells : List ℕ) where
     outcome-reads resting y ps fed m cs = x
     outcome-reads (refused q) y ps fed m cs = x
 
-    turn-reads : Fed w (next_turn n w d) → ReadsOff (turnBy mark n w d (next_turn n w d))
+    turn-reads : Fed w (next_turn n w d) → ReadsOff (turn_by mark n w d (next_turn n w d))
     turn-reads fed =
         let ph = r.live.phase d dl in
         let says = turn-writes n rd d last cursor (r.locks d) (w.trace.jumps d) ph in
@@ -252,7 +252,7 @@ module _ (mark n D : ℕ) (cells : List ℕ) where
         outcome-reads (next_turn n w d) says pends fed (turned-memory mark n D cells w d r dl fed) (turned-cursors mark n D cells w d r dl)
 
   -- with no store left
-  still-reads : (w : Traced) (d : ℕ) (o : Outcome) → w.world.left ≡ 0 → ReadOff w → ReadOff (turnBy mark n w d o)
+  still-reads : (w : Traced) (d : ℕ) (o : Outcome) → w.world.left ≡ 0 → ReadOff w → ReadOff (turn_by mark n w d o)
   still-reads w d (stored p v c) z x =
       let none = eq-eqb w.world.left 0 z in
       record {
@@ -291,7 +291,7 @@ module _ (mark n D : ℕ) (cells : List ℕ) where
     submitted-waits :
         ReadsOff w → (e : ℕ) → e < D
         → (read_off (w.trace.events ++ (taken section ∷ []))).pending e
-        ≡ pendingOf (at n behind.world.image (field Pc e)) (cursor_at behind.world.cursors e) (but w.trace.last d section e)
+        ≡ pending_of (at n behind.world.image (field Pc e)) (cursor_at behind.world.cursors e) (but w.trace.last d section e)
     submitted-waits x e l =
         let eight = args-full d k args ws h in
         let pcs = submitted-aside mark n D cells w d k args ws wide eight r t (field Pc e) refl in
@@ -300,7 +300,7 @@ module _ (mark n D : ℕ) (cells : List ℕ) where
         by :
             Dec (e ≡ d)
             → but before d (section ∷ []) e
-            ≡ pendingOf (at n w.world.image (field Pc e)) (but (cursor_at w.world.cursors) d (on 0 0) e) (but w.trace.last d section e)
+            ≡ pending_of (at n w.world.image (field Pc e)) (but (cursor_at w.world.cursors) d (on 0 0) e) (but w.trace.last d section e)
         by (yes i) =
             let cursor = but_same (cursor_at w.world.cursors) d (on 0 0) in
             let starts = pend-start (at n w.world.image (field Pc d)) 0 t.pc in

@@ -16,7 +16,7 @@ use Rattle.image.specs.Place.{Place, cell, lock, field, own, step, Memory}
 use Rattle.image.specs.Inner.Same.{upd}
 use Rattle.image.proofs.Places.{upd_same}
 use Rattle.code.specs.Op.{op_of}
-use Rattle.owed.specs.Owed.{namedStep}
+use Rattle.owed.specs.Owed.{named_step}
 use Rattle.claims.specs.Reference.{Given}
 use Rattle.claims.specs.Calls.{is_pc}
 use Rattle.claims.proofs.Entries.{apart_of, named-cong}
@@ -57,7 +57,7 @@ tells-same n f bs rd rd' d p k g s t =
       numbers = rw (p, k, g) t.numbers;
       closing = λ z e.
           let q : FinishNext n rd d = t.closing (λ x. z (p ∙ x)) (sym g ∙ (e ∙ k)) in
-          rw (named-cong n rd rd' d p) (ap op_of (s (suc (namedStep n rd d))) ∙ q);
+          rw (named-cong n rd rd' d p) (ap op_of (s (suc (named_step n rd d))) ∙ q);
     }
 
 -- the numbers begun behind a store, by whether it is one of the pc

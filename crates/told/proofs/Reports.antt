@@ -16,13 +16,13 @@ use Rattle.code.specs.declared.Op.TheVariants.{Release}
 use Rattle.worklog.specs.declared.Passing.{Passing}
 use Rattle.worklog.specs.declared.Passing.TheVariants.{Jump, AlreadyFree, Others}
 use Rattle.working.specs.Cursor.{Cursor, idle, on, step_no, cursor_at}
-use Rattle.plan.specs.Turn.{stored, passed, unlockBy, turnAt}
+use Rattle.plan.specs.Turn.{stored, passed, unlock_by, turn_at}
 use Rattle.plan.proofs.Outcomes.{named-freed}
 use Rattle.turn.specs.Call.{outcome}
 use Rattle.claims.specs.Reference.{given}
 use Rattle.claims.specs.Events.{Event, taken, moved, lost}
 use Rattle.claims.specs.Calls.{Traced, from}
-use Rattle.claims.proofs.Invariant.{opAt}
+use Rattle.claims.proofs.Invariant.{op_at}
 use Rattle.claims.proofs.Worlds.{Running}
 use Rattle.claims.proofs.Resting.{rested-running}
 use Rattle.claims.proofs.Called.{dl}
@@ -34,7 +34,7 @@ use Rattle.told.proofs.Keeping.{next_turn, Fed, Keeps}
 use Rattle.told.proofs.FromRest.{Any, any-sorted, Plain, plain-sorted}
 use Rattle.told.proofs.Collecting.{uncut-each}
 use Rattle.told.proofs.Resuming.{ReportsAt, turn-reports, AtLock, at-lock}
-use Rattle.told.proofs.Accounting.{Intact, Accounted, idle-accounted, accounted-keeps, concerning-append, eventsBy, events-by, own-by}
+use Rattle.told.proofs.Accounting.{Intact, Accounted, idle-accounted, accounted-keeps, concerning-append, events_by, events-by, own-by}
 
 -- ---- a report is explained
 
@@ -45,15 +45,15 @@ module _ (mark n D : ℕ) (cells : List ℕ) (w : Traced) (d : ℕ) (r : Running
   abbrev cursor : Cursor
   cursor = cursor_at w.world.cursors d
 
-  at-the-lock : (s a : ℕ) → cursor ≡ on s 4 → opAt n rd d s ≡ Release a → AtLock n rd d (w.trace.last d) s a (r.locks d)
+  at-the-lock : (s a : ℕ) → cursor ≡ on s 4 → op_at n rd d s ≡ Release a → AtLock n rd d (w.trace.last d) s a (r.locks d)
   at-the-lock s a q o = at-lock n rd d (w.trace.last d) cursor (r.locks d) (w.trace.jumps d) (r.live.phase d dl) s a q o
 
   -- with the intent as it was, the lock is the worker's
-  intact-mine : (s a : ℕ) → cursor ≡ on s 4 → opAt n rd d s ≡ Release a → Intact n rd d s → rd (lock a) ≡ d + 1
+  intact-mine : (s a : ℕ) → cursor ≡ on s 4 → op_at n rd d s ≡ Release a → Intact n rd d s → rd (lock a) ≡ d + 1
   intact-mine s a q o i = let h = at-the-lock s a q o in r.live.locked a d h.range dl (h.mine i)
 
   reported :
-      (s t : ℕ) (why : Passing) (c : Cursor) → cursor ≡ on s t → turnAt n rd d (on s t) ≡ passed why c → why ≢ Jump
+      (s t : ℕ) (why : Passing) (c : Cursor) → cursor ≡ on s t → turn_at n rd d (on s t) ≡ passed why c → why ≢ Jump
       → (rd (field Pc d) % 2 ^ 63 ≡ suc s) × SinceLoss d (moved d s ∷ []) w.trace.events
   reported s t why c q e j =
       let (a, o, four, other) = subst (ReportsAt n rd d s t) e (turn-reports n rd d s t) j in
@@ -61,17 +61,17 @@ module _ (mark n D : ℕ) (cells : List ℕ) (w : Traced) (d : ℕ) (r : Running
       ((at-the-lock s a at-four o).names, by a o at-four other ((x d dl).lock s a at-four o))
     where
       by :
-          (a : ℕ) → opAt n rd d s ≡ Release a → cursor ≡ on s 4 → rd (lock a) ≢ d + 1 → Intact n rd d s ⊎ SinceLoss d (moved d s ∷ []) w.trace.events
+          (a : ℕ) → op_at n rd d s ≡ Release a → cursor ≡ on s 4 → rd (lock a) ≢ d + 1 → Intact n rd d s ⊎ SinceLoss d (moved d s ∷ []) w.trace.events
           → SinceLoss d (moved d s ∷ []) w.trace.events
       by a o f other (inl i) = absurd (other (intact-mine s a f o i))
       by a o f other (inr y) = y
 
   explained : Explained mark n (moment w d)
-  unfolding turnAt
+  unfolding turn_at
   explained why c e j = by cursor refl (sym (outcome-below mark n D cells w d r.reached dl) ∙ e)
     where
       by :
-          (k : Cursor) → cursor ≡ k → turnAt n rd d k ≡ passed why c
+          (k : Cursor) → cursor ≡ k → turn_at n rd d k ≡ passed why c
           → (rd (field Pc d) % 2 ^ 63 ≡ suc (step_no cursor)) × SinceLoss d (moved d (step_no cursor) ∷ []) w.trace.events
       by idle q f = let z : ◌≡◌ {A = ℕ} 0 1 = cc in absurd (omega arith)
       by (on s t) q f = rw q (reported s t why c q f j)
@@ -129,7 +129,7 @@ module _ (mark n D : ℕ) (cells : List ℕ) where
             record {
               accounts = K.turn w d r l fed x.accounts;
               none = rw (events-by mark n w d o)
-                  (none_both D w.trace.events (eventsBy mark n w d o) x.none (own-by mark n w d o D (λ e. omega arith)));
+                  (none_both D w.trace.events (events_by mark n w d o) x.none (own-by mark n w d o D (λ e. omega arith)));
             };
         still = λ w d o z c. tt;
         worth = λ w x. tt;
@@ -157,8 +157,8 @@ module _ (mark n D : ℕ) (cells : List ℕ) where
       by (inl i) =
           let named = intact-mine mark n D cells w d r dl x.accounts s a q o i in
           outcome-below mark n D cells w d r.reached dl
-          ∙ (ap (turnAt n rd₀ d) q
-          ∙ ((at-the-lock mark n D cells w d r dl x.accounts s a q o).turn ∙ ap (unlockBy n rd₀ d a s) (named-freed d (rd₀ (lock a)) named)))
+          ∙ (ap (turn_at n rd₀ d) q
+          ∙ ((at-the-lock mark n D cells w d r dl x.accounts s a q o).turn ∙ ap (unlock_by n rd₀ d a s) (named-freed d (rd₀ (lock a)) named)))
       by (inr y) = absurd (no-loss d D (moved d s ∷ []) w.trace.events x.none y)
 
   quiet : (w : Traced) (d : ℕ) → Running mark n D cells w → d < D → Lossless w → Quiet mark n (moment w d)

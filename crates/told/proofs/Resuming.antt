@@ -24,8 +24,8 @@ use Rattle.worklog.specs.Log.{code_in, word_in}
 use Rattle.plan.specs.declared.Report.{Report}
 use Rattle.plan.specs.declared.Report.TheVariants.{Freed, AlreadyFree, Others}
 use Rattle.plan.specs.Report.{report_of}
-use Rattle.plan.specs.Turn.{Outcome, stored, passed, waiting, resting as rests, refused, logged, unlockBy, acquireTurn, releaseTurn}
-use Rattle.plan.specs.Turn.{finishTurn, opTurn, ready, turnAt}
+use Rattle.plan.specs.Turn.{Outcome, stored, passed, waiting, resting as rests, refused, logged, unlock_by, acquire_turn, release_turn}
+use Rattle.plan.specs.Turn.{finish_turn, op_turn, ready, turn_at}
 use Rattle.plan.proofs.Outcomes.{either, Found, found, unlock-either}
 use Rattle.resuming.specs.Resumed.{target_turn}
 use Rattle.claims.specs.Reference.{Given}
@@ -33,7 +33,7 @@ use Rattle.claims.specs.Calls.{is_pc}
 use Rattle.claims.proofs.Submitting.{on-not-idle}
 use Rattle.claims.proofs.Entries.{spare-addr-apart, spare-val-apart}
 use Rattle.claims.proofs.Ready.{turn-op}
-use Rattle.claims.proofs.Invariant.{opAt, held_at, Nearing, Phase, resting, fresh, due, unlocking, unlocked, between, ended}
+use Rattle.claims.proofs.Invariant.{op_at, held_at, Nearing, Phase, resting, fresh, due, unlocking, unlocked, between, ended}
 
 -- ---- where a turn goes
 
@@ -59,19 +59,19 @@ module _ (n : ℕ) (rd : Memory) (d s : ℕ) where
   first-onward : (t r : ℕ) → Onto s t (on r 0)
   first-onward t r u = absurd (u refl)
 
-  acquire-onward : (a t : ℕ) → Onward s t (acquireTurn n rd d a s t)
+  acquire-onward : (a t : ℕ) → Onward s t (acquire_turn n rd d a s t)
   acquire-onward a zero = λ u. (refl, refl)
   acquire-onward a (suc zero) = either (Onward s 1) (eqb (rd (lock a)) 0) _ _ (λ e u. (refl, refl)) (λ e. tt)
   acquire-onward a (suc (suc j)) = logged-onward (suc (suc j)) _ _ _ j (λ h. first-onward (suc (suc j)) (s + 1))
 
-  release-onward : (a t : ℕ) → Onward s t (releaseTurn n rd d a s t)
+  release-onward : (a t : ℕ) → Onward s t (release_turn n rd d a s t)
   release-onward a t =
       either (Onward s t) (ltb t 4) _ _ (λ e. logged-onward t _ _ _ t (λ h u. let l = ltb-true t 4 e in (refl, omega arith)))
       (λ e. either (Onward s t) (eqb t 4) _ _
       (λ f. let l = eqb-true t 4 f in unlock-either n rd d a s (Onward s t) (λ u. (refl, omega arith)) (λ why u. (refl, omega arith)))
       (λ f. first-onward t (s + 1)))
 
-  finish-onward : (t : ℕ) → Onward s t (finishTurn n rd d s t)
+  finish-onward : (t : ℕ) → Onward s t (finish_turn n rd d s t)
   finish-onward zero = λ u. (refl, refl)
   finish-onward (suc zero) = λ u. (refl, refl)
   finish-onward (suc (suc t)) = tt
@@ -80,7 +80,7 @@ module _ (n : ℕ) (rd : Memory) (d s : ℕ) where
   jump-onward t b true = first-onward t b
   jump-onward t b false = first-onward t (s + 1)
 
-  op-onward : (t : ℕ) (x : Op) → Onward s t (opTurn n rd d s t x)
+  op-onward : (t : ℕ) (x : Op) → Onward s t (op_turn n rd d s t x)
   op-onward t (Acquire a) = acquire-onward a t
   op-onward t (Release a) = release-onward a t
   op-onward t (Assign a e) = logged-onward t _ _ _ t (λ h. first-onward t (s + 1))
@@ -88,8 +88,8 @@ module _ (n : ℕ) (rd : Memory) (d s : ℕ) where
   op-onward t Finish = finish-onward t
   op-onward t Unknown = tt
 
-  pub turn-onward : (t : ℕ) → Onward s t (turnAt n rd d (on s t))
-  unfolding turnAt
+  pub turn-onward : (t : ℕ) → Onward s t (turn_at n rd d (on s t))
+  unfolding turn_at
   turn-onward t = either (Onward s t) (ready n rd d s t) _ _ (λ e. op-onward t (op_of (code_in n rd d s))) (λ e. tt)
 
 -- ---- what a release leaves alone
@@ -116,14 +116,14 @@ module _ (n : ℕ) (rd : Memory) (d s a : ℕ) where
   logged-releases (suc (suc zero)) v c = ((λ l. refl), λ e. absurd (omega arith))
   logged-releases (suc (suc (suc j))) v c = ((λ l. refl), λ e. refl)
 
-  release-releases : (t : ℕ) → Releases t (releaseTurn n rd d a s t)
+  release-releases : (t : ℕ) → Releases t (release_turn n rd d a s t)
   release-releases t =
       either (Releases t) (ltb t 4) _ _ (λ e. logged-releases t _ _)
       (λ e. either (Releases t) (eqb t 4) _ _ (λ f. unlock-either n rd d a s (Releases t) ((λ l. refl), λ q. refl) (λ why. tt))
       (λ f. let l = ltb-false t 4 e in ((λ k. absurd (omega arith)), λ q. absurd (omega arith))))
 
-  pub turn-releases : opAt n rd d s ≡ Release a → (t : ℕ) → Releases t (turnAt n rd d (on s t))
-  unfolding turnAt
+  pub turn-releases : op_at n rd d s ≡ Release a → (t : ℕ) → Releases t (turn_at n rd d (on s t))
+  unfolding turn_at
   turn-releases o t = either (Releases t) (ready n rd d s t) _ _ (λ e. rw o (release-releases t)) (λ e. tt)
 
 -- ---- where a turn reports
@@ -131,7 +131,7 @@ module _ (n : ℕ) (rd : Memory) (d s a : ℕ) where
 -- a report comes from turn 4 of a release whose lock is not the worker's
 abbrev pub ReportsAt : ℕ → Memory → ℕ → ℕ → ℕ → Outcome → Type 0
 ReportsAt n rd d s t (stored p v c) = Unit {0}
-ReportsAt n rd d s t (passed why c) = why ≢ PassedJump → (a : ℕ) × (opAt n rd d s ≡ Release a) × (t ≡ 4) × (rd (lock a) ≢ d + 1)
+ReportsAt n rd d s t (passed why c) = why ≢ PassedJump → (a : ℕ) × (op_at n rd d s ≡ Release a) × (t ≡ 4) × (rd (lock a) ≢ d + 1)
 ReportsAt n rd d s t (waiting b) = Unit {0}
 ReportsAt n rd d s t rests = Unit {0}
 ReportsAt n rd d s t (refused r) = Unit {0}
@@ -143,21 +143,21 @@ module _ (n : ℕ) (rd : Memory) (d s t : ℕ) where
   logged-reports p v c (suc (suc zero)) = tt
   logged-reports p v c (suc (suc (suc j))) = tt
 
-  unlock-reports : (a : ℕ) → opAt n rd d s ≡ Release a → t ≡ 4 → (r : Report) → Found d (rd (lock a)) r → ReportsAt n rd d s t (unlockBy n rd d a s r)
+  unlock-reports : (a : ℕ) → op_at n rd d s ≡ Release a → t ≡ 4 → (r : Report) → Found d (rd (lock a)) r → ReportsAt n rd d s t (unlock_by n rd d a s r)
   unlock-reports a o e Freed f = tt
   unlock-reports a o e AlreadyFree f = λ h. (a, o, e, f.0)
   unlock-reports a o e Others f = λ h. (a, o, e, f.0)
 
-  release-reports : (a : ℕ) → opAt n rd d s ≡ Release a → ReportsAt n rd d s t (releaseTurn n rd d a s t)
+  release-reports : (a : ℕ) → op_at n rd d s ≡ Release a → ReportsAt n rd d s t (release_turn n rd d a s t)
   release-reports a o =
       either (ReportsAt n rd d s t) (ltb t 4) _ _ (λ e. logged-reports _ _ _ t)
       (λ e. either (ReportsAt n rd d s t) (eqb t 4) _ _
       (λ f. unlock-reports a o (eqb-true t 4 f) (report_of d (rd (lock a))) (found d (rd (lock a)))) (λ f. tt))
 
-  op-reports : (x : Op) → opAt n rd d s ≡ x → ReportsAt n rd d s t (opTurn n rd d s t x)
+  op-reports : (x : Op) → op_at n rd d s ≡ x → ReportsAt n rd d s t (op_turn n rd d s t x)
   op-reports (Acquire a) o = acquire-reports t
     where
-      acquire-reports : (u : ℕ) → ReportsAt n rd d s t (acquireTurn n rd d a s u)
+      acquire-reports : (u : ℕ) → ReportsAt n rd d s t (acquire_turn n rd d a s u)
       acquire-reports zero = tt
       acquire-reports (suc zero) = either (ReportsAt n rd d s t) (eqb (rd (lock a)) 0) _ _ (λ e. tt) (λ e. tt)
       acquire-reports (suc (suc zero)) = tt
@@ -169,14 +169,14 @@ module _ (n : ℕ) (rd : Memory) (d s t : ℕ) where
   op-reports (Jump a b) o = λ h. absurd (h refl)
   op-reports Finish o = finish-reports t
     where
-      finish-reports : (u : ℕ) → ReportsAt n rd d s t (finishTurn n rd d s u)
+      finish-reports : (u : ℕ) → ReportsAt n rd d s t (finish_turn n rd d s u)
       finish-reports zero = tt
       finish-reports (suc zero) = tt
       finish-reports (suc (suc u)) = tt
   op-reports Unknown o = tt
 
-  pub turn-reports : ReportsAt n rd d s t (turnAt n rd d (on s t))
-  unfolding turnAt
+  pub turn-reports : ReportsAt n rd d s t (turn_at n rd d (on s t))
+  unfolding turn_at
   turn-reports = either (ReportsAt n rd d s t) (ready n rd d s t) _ _ (λ e. op-reports (op_of (code_in n rd d s)) refl) (λ e. tt)
 
 -- ---- what a worker's phase says at a release
@@ -194,7 +194,7 @@ module _ (n : ℕ) (rd : Memory) (d : ℕ) (g : Given) where
     pub names : rd (field Pc d) % 2 ^ 63 ≡ suc s
     pub mine : rd (field Intent d) ≡ held_at n rd d s → has locks a ≡ true
     pub range : a < 64
-    pub turn : turnAt n rd d (on s 4) ≡ opTurn n rd d s 4 (Release a)
+    pub turn : turn_at n rd d (on s 4) ≡ op_turn n rd d s 4 (Release a)
 
   -- at turn t of a release of lock a, by the turn
   data Stands (s a locks : ℕ) : ℕ → Type 0 where
@@ -204,15 +204,15 @@ module _ (n : ℕ) (rd : Memory) (d : ℕ) (g : Given) where
     behind : Stands s a locks 5
 
   release-stands :
-      (c : Cursor) (locks j : ℕ) → Phase n rd d g c locks j → (s t a : ℕ) → c ≡ on s t → opAt n rd d s ≡ Release a → Stands s a locks t
+      (c : Cursor) (locks j : ℕ) → Phase n rd d g c locks j → (s t a : ℕ) → c ≡ on s t → op_at n rd d s ≡ Release a → Stands s a locks t
   release-stands _ _ _ (resting e p i w) s t a q o = absurd (on-not-idle s t (sym q))
   release-stands _ _ _ (fresh u locks sec h p w r) s t a q o =
       let (k, m) = same_step q in
-      let (l, intent) = near-release n rd d 0 u 0 locks (opAt n rd d 0) a (rw k o) r in
+      let (l, intent) = near-release n rd d 0 u 0 locks (op_at n rd d 0) a (rw k o) r in
       near t (rw (← m) l) (intent ∙ sym (ap (held_at n rd d) (sym k) ∙ held-zero (code_in n rd d)))
   release-stands _ _ _ (due i locks sec m u) s t a q o =
       let (k, z) = same_step q in
-      let three : target_turn (opAt n rd d i) ≡ 3 = rw (k, o) in
+      let three : target_turn (op_at n rd d i) ≡ 3 = rw (k, o) in
       subst (Stands s a locks) (sym three ∙ z) target
   release-stands _ _ _ (unlocking i b locks sec m p w z e) s t a q o =
       let (k, f) = same_step q in
@@ -227,15 +227,15 @@ module _ (n : ℕ) (rd : Memory) (d : ℕ) (g : Given) where
   release-stands _ _ _ (unlocked i b locks sec m p w z e) s t a q o = subst (Stands s a locks) (same_step q).1 behind
   release-stands _ _ _ (between i k u locks j sec m done js b w e r) s t a q o =
       let (f, z) = same_step q in
-      let (l, intent) = near-release n rd d k u (held_at n rd d k) locks (opAt n rd d k) a (rw f o) r in
+      let (l, intent) = near-release n rd d k u (held_at n rd d k) locks (op_at n rd d k) a (rw f o) r in
       near t (rw (← z) l) (intent ∙ ap (held_at n rd d) f)
   release-stands _ _ _ (ended i sec p w z b f) s t a q o =
-      let e : Finish ≡ Release a = sym f ∙ (ap (opAt n rd d) (same_step q).0 ∙ o) in
+      let e : Finish ≡ Release a = sym f ∙ (ap (op_at n rd d) (same_step q).0 ∙ o) in
       let y : ◌≡◌ {A = ℕ} 0 1 = cc in
       absurd (omega arith)
 
   pub near-intent :
-      (c : Cursor) (locks j : ℕ) → Phase n rd d g c locks j → (s t a : ℕ) → c ≡ on s t → t ≤ 2 → opAt n rd d s ≡ Release a
+      (c : Cursor) (locks j : ℕ) → Phase n rd d g c locks j → (s t a : ℕ) → c ≡ on s t → t ≤ 2 → op_at n rd d s ≡ Release a
       → rd (field Intent d) ≡ held_at n rd d s
   near-intent c locks j ph s t a q l o = by (release-stands c locks j ph s t a q o) l
     where
@@ -246,7 +246,7 @@ module _ (n : ℕ) (rd : Memory) (d : ℕ) (g : Given) where
       by behind h = absurd (omega arith)
 
   pub at-lock :
-      (c : Cursor) (locks j : ℕ) → Phase n rd d g c locks j → (s a : ℕ) → c ≡ on s 4 → opAt n rd d s ≡ Release a → AtLock s a locks
+      (c : Cursor) (locks j : ℕ) → Phase n rd d g c locks j → (s a : ℕ) → c ≡ on s 4 → op_at n rd d s ≡ Release a → AtLock s a locks
   at-lock c locks j ph s a q o = by (release-stands c locks j ph s 4 a q o) refl
     where
       by : {u : ℕ} → Stands s a locks u → u ≡ 4 → AtLock s a locks

@@ -27,9 +27,9 @@ use Rattle.plan.specs.Turn.{Outcome, stored, passed, waiting, resting, refused}
 use Rattle.working.specs.World.{World}
 use Rattle.intake.specs.Submit.{submit_answer, verdict_answer, free}
 use Rattle.claims.specs.Reference.{Given, given}
-use Rattle.claims.specs.Calls.{Traced, is_pc, turnBy, Call, submits, turns, runs, recovers, Move, move, play, from, of_move}
+use Rattle.claims.specs.Calls.{Traced, is_pc, turn_by, Call, submits, turns, runs, recovers, Move, move, play, from, of_move}
 use Rattle.claims.specs.Claims.{of_worker, after}
-use Rattle.told.specs.Once.{numbers_of, rising, last_or, up_from, among, Within, OnlyCall, Only, begunBy, startedAt, nextNumber, in_turn}
+use Rattle.told.specs.Once.{numbers_of, rising, last_or, up_from, among, Within, OnlyCall, Only, begun_by, started_at, next_number, in_turn}
 use Rattle.told.specs.Once.{Told, OnceAlways, ToldAlways, RetriedAlways, ExactlyOnce}
 use Rattle.claims.proofs.Pending.{Passes, Pends, pends-turn}
 use Rattle.told.proofs.Writes.{Writes, Says, turn-writes}
@@ -80,7 +80,7 @@ module _ (n d : ℕ) where
   abbrev NextMove : Move → Image → Type 0
   NextMove x m = NextCall (of_move x) m
 
-  next-call : (mark : ℕ) (c : Call) (w : Traced) → nextNumber mark n d c w ≡ true → NextCall c w.world.image
+  next-call : (mark : ℕ) (c : Call) (w : Traced) → next_number mark n d c w ≡ true → NextCall c w.world.image
   next-call mark (submits e k args ws) w h = λ i. rw i (eqb-true k _ (rw (eq-eqb e d i) at h))
   next-call mark (turns e) w h = tt
   next-call mark (runs r) w h = tt
@@ -90,7 +90,7 @@ module _ (n d : ℕ) where
   unfolding in_turn
   next-sorted mark [] w h = tt
   next-sorted mark (x ∷ xs) w h =
-      let a = nextNumber mark n d (of_move x) w in
+      let a = next_number mark n d (of_move x) w in
       let b = in_turn mark n d xs (move mark n x w) in
       (next-call mark (of_move x) w (and_left a b h), next-sorted mark xs (move mark n x w) (and_right a b h))
 
@@ -107,7 +107,7 @@ module _ (mark n D : ℕ) (cells : List ℕ) (start : ℕ → ℕ) (d : ℕ) (dl
 
   -- the numbers that worker d has begun are
   abbrev InRow : Traced → Type 0
-  InRow w = Row (begunBy mark n w d)
+  InRow w = Row (begun_by mark n w d)
 
   module _ (w : Traced) (e : ℕ) (r : Running mark n D cells w) (el : e < D) (x : Ledger w) (c : InRow w) where
     abbrev rd : Memory
@@ -120,20 +120,20 @@ module _ (mark n D : ℕ) (cells : List ℕ) (start : ℕ → ℕ) (d : ℕ) (dl
     last = w.trace.last e
 
     -- the sections begun behind a store of worker f's turn
-    abbrev begunNow : ℕ → Place → List Given
-    begunNow f p = begun_then w.trace.begun (w.trace.last f) (is_pc p) (eqb (rd (field Pc f)) 0)
+    abbrev begun_now : ℕ → Place → List Given
+    begun_now f p = begun_then w.trace.begun (w.trace.last f) (is_pc p) (eqb (rd (field Pc f)) 0)
 
     -- worker d's own store
     own_row :
         (p : Place) (v : ℕ) (y : Cursor) → Writes n rd d (w.trace.last d) p v
-        → Passes (rd (field Pc d)) (cursor_at w.world.cursors d) v y (is_pc p) → Row (numbers_of d (begunNow d p))
+        → Passes (rd (field Pc d)) (cursor_at w.world.cursors d) v y (is_pc p) → Row (numbers_of d (begun_now d p))
     own_row p v y s ps =
         rw (begun-own d w.trace.begun (w.trace.last d) (is_pc p) (rd (field Pc d)) (begins-own n rd d (w.trace.last d) p v s))
         (by (is_pc p) refl ps (eqb (rd (field Pc d)) 0) refl)
       where
         by :
             (a : Bool) → is_pc p ≡ a → Passes (rd (field Pc d)) (cursor_at w.world.cursors d) v y a → (b : Bool) → eqb (rd (field Pc d)) 0 ≡ b
-            → Row (begun_behind (begunBy mark n w d) (rd (field Pc d)) (w.trace.last d).number a)
+            → Row (begun_behind (begun_by mark n w d) (rd (field Pc d)) (w.trace.last d).number a)
         by false q k b z = c
         by true q k false z = rw z c
         by true q k true z =
@@ -141,13 +141,13 @@ module _ (mark n D : ℕ) (cells : List ℕ) (start : ℕ → ℕ) (d : ℕ) (dl
             let named = ((pc-writes n rd d (w.trace.last d) p v s q).0 pc).2 in
             let next = (x.newer d dl (k.0 ∙ z)).1 refl in
             let rests = (x.tells d dl).numbers.rests pc in
-            let e : (w.trace.last d).number ≡ last_or (start d) (begunBy mark n w d) + 1 = named ∙ (next ∙ ap (λ (j : ℕ). j + 1) rests) in
-            rw (z, e) (consecutive-snoc (start d) (begunBy mark n w d) c)
+            let e : (w.trace.last d).number ≡ last_or (start d) (begun_by mark n w d) + 1 = named ∙ (next ∙ ap (λ (j : ℕ). j + 1) rests) in
+            rw (z, e) (consecutive-snoc (start d) (begun_by mark n w d) c)
 
-    outcome-row : (o : Outcome) → Says n rd e last o → Pends (rd (field Pc e)) cursor o → Fed w o → InRow (turnBy mark n w e o)
+    outcome-row : (o : Outcome) → Says n rd e last o → Pends (rd (field Pc e)) cursor o → Fed w o → InRow (turn_by mark n w e o)
     outcome-row (stored p v y) s ps fed = rw (turn-begun mark n w e p v y (fed refl)) (by (ℕ_discrete e d))
       where
-        by : Dec (e ≡ d) → Row (numbers_of d (begunNow e p))
+        by : Dec (e ≡ d) → Row (numbers_of d (begun_now e p))
         by (yes i) = rw i (own_row p v y (rw i at s) (rw i at ps))
         by (no i) =
             rw (begun-other d w.trace.begun last (is_pc p) (rd (field Pc e)) (λ h z q. i (sym (begins-own n rd e last p v s h z) ∙ q))) c
@@ -156,14 +156,14 @@ module _ (mark n D : ℕ) (cells : List ℕ) (start : ℕ → ℕ) (d : ℕ) (dl
     outcome-row resting s ps fed = c
     outcome-row (refused q) s ps fed = c
 
-    turn-row : Fed w (next_turn n w e) → InRow (turnBy mark n w e (next_turn n w e))
+    turn-row : Fed w (next_turn n w e) → InRow (turn_by mark n w e (next_turn n w e))
     turn-row fed =
         let ph = r.live.phase e el in
         let says = turn-writes n rd e last cursor (r.locks e) (w.trace.jumps e) ph in
         let pends = pends-turn n rd e last cursor (r.locks e) (w.trace.jumps e) ph in
         outcome-row (next_turn n w e) says pends fed
 
-  still-row : (w : Traced) (e : ℕ) (o : Outcome) → w.world.left ≡ 0 → InRow w → InRow (turnBy mark n w e o)
+  still-row : (w : Traced) (e : ℕ) (o : Outcome) → w.world.left ≡ 0 → InRow w → InRow (turn_by mark n w e o)
   still-row w e (stored p v c) z x = rw (still mark n D cells w e p v c z).0 x
   still-row w e (passed why c) z x = x
   still-row w e (waiting b) z x = x
@@ -230,8 +230,8 @@ retried-always mark n wide narrow m rest xs h l d dl turn =
       finished = λ k above told.
           let a = told_below rd d k told in
           let b = finished-last n _ _ rd d tells in
-          let c : k ≤ last_or (f d) (up_from (f d) (length (begunBy mark n w d))) = subst (λ (bs : List ℕ). k ≤ last_or (f d) bs) kept.1 (omega arith) in
-          rw kept.1 (up-among (f d) (length (begunBy mark n w d)) k above c);
+          let c : k ≤ last_or (f d) (up_from (f d) (length (begun_by mark n w d))) = subst (λ (bs : List ℕ). k ≤ last_or (f d) bs) kept.1 (omega arith) in
+          rw kept.1 (up-among (f d) (length (begun_by mark n w d)) k above c);
       ended = λ k begun over. stands-finished n _ _ rd d tells k (finished-others n _ _ rd d tells k begun over);
     }
 
@@ -273,7 +273,7 @@ module _ (mark n D : ℕ) (cells : List ℕ) (d : ℕ) (g : Given) where
       by (yes i) = rw (of-snoc-same d gs (given e k args ws) i) (all_snoc g (of_worker d gs) (given e k args ws) a (o i))
       by (no i) = rw (of-snoc-other d gs (given e k args ws) i) a
 
-  turn_one : (w : Traced) (e : ℕ) (o : Outcome) → OneTaken w → OneTaken (turnBy mark n w e o)
+  turn_one : (w : Traced) (e : ℕ) (o : Outcome) → OneTaken w → OneTaken (turn_by mark n w e o)
   turn_one w e (stored p v c) x =
       rw (store_keeps w.trace e (is_pc p && not (eqb w.world.left 0)) (eqb (at n w.world.image (field Pc e)) 0)).0 x
   turn_one w e (passed why c) x = x
@@ -348,11 +348,11 @@ exactly-once mark n wide narrow m rest xs h l d dl g new only refusal =
     let one = (kept-sorted mark n wide narrow m rest _ _ (OnlyMove mark n D cells d g) (one-keeps mark n D cells d g) tt xs h l sorted).1 in
     let all = all-within g (of_worker d w.trace.begun) (of_worker d w.trace.taken) (once.within d) one in
     let low = refused-number mark n w.world d g.number g.code refusal in
-    one_only g (startedAt mark n m d) (of_worker d w.trace.begun) all (once.rises d dl)
+    one_only g (started_at mark n m d) (of_worker d w.trace.begun) all (once.rises d dl)
     (λ z. by (ℕ_discrete (at n w.world.image (field Pc d)) 0) (rw z) low told)
   where
     by :
-        Dec (at n (after mark n m xs).world.image (field Pc d) ≡ 0) → begunBy mark n (after mark n m xs) d ≡ []
+        Dec (at n (after mark n m xs).world.image (field Pc d) ≡ 0) → begun_by mark n (after mark n m xs) d ≡ []
         → g.number ≤ at n (after mark n m xs).world.image (field FinishedField d) → Told mark n m (after mark n m xs) d → ⊥
-    by (yes p) none low told = let e = told.at_rest p ∙ ap (last_or (startedAt mark n m d)) none in omega arith
+    by (yes p) none low told = let e = told.at_rest p ∙ ap (last_or (started_at mark n m d)) none in omega arith
     by (no p) none low told = (told.under-way p).0 none

@@ -12,21 +12,21 @@ use Rattle.image.proofs.Stores.{header-store, workers-store}
 use Rattle.plan.specs.Turn.{Outcome, stored, passed, waiting, resting, refused}
 use Rattle.turn.specs.Call.{outcome_at, outcome}
 use Rattle.run.specs.Run.{any_open}
-use Rattle.claims.specs.Calls.{Traced, turnBy, turnedAt, refuses, round, rounds, ranBy, call, turns, runs}
-use Rattle.claims.specs.Claims.{turnsBy, RunsAreTurns}
+use Rattle.claims.specs.Calls.{Traced, turn_by, turned_at, refuses, round, rounds, ran_by, call, turns, runs}
+use Rattle.claims.specs.Claims.{turns_by, RunsAreTurns}
 
 module _ (mark n : ℕ) where
   -- one world is left by turn calls from another
   abbrev ByTurns : Traced → Traced → Type 0
-  ByTurns w v = (ds : List ℕ) × (v ≡ turnsBy mark n ds w)
+  ByTurns w v = (ds : List ℕ) × (v ≡ turns_by mark n ds w)
 
   no-turns : (w : Traced) → ByTurns w w
-  unfolding turnsBy
+  unfolding turns_by
   no-turns w = ([], refl)
 
   one-turn : (d : ℕ) (w u v : Traced) → u ≡ call mark n (turns d) w → ByTurns u v → ByTurns w v
-  unfolding turnsBy
-  one-turn d w u v e t = (d ∷ t.0, t.1 ∙ ap (turnsBy mark n t.0) e)
+  unfolding turns_by
+  one-turn d w u v e t = (d ∷ t.0, t.1 ∙ ap (turns_by mark n t.0) e)
 
   -- a right header with D workers
   pub record Headed (D : ℕ) (w : Traced) : Type 0 where
@@ -34,7 +34,7 @@ module _ (mark n : ℕ) where
     pub many : workers w.world.image ≡ D
 
   module _ (D : ℕ) where
-    pub turn-headed : (w : Traced) (d : ℕ) (o : Outcome) → Headed D w → Headed D (turnBy mark n w d o)
+    pub turn-headed : (w : Traced) (d : ℕ) (o : Outcome) → Headed D w → Headed D (turn_by mark n w d o)
     turn-headed w d (stored p v c) h =
         record {
           header = header-store n mark w.world.left w.world.image p v ∙ h.header;
@@ -45,12 +45,12 @@ module _ (mark n : ℕ) where
     turn-headed w d resting h = h
     turn-headed w d (refused r) h = h
 
-    turned-headed : (w : Traced) (d : ℕ) → Headed D w → Headed D (turnedAt mark n w d)
-    unfolding turnedAt
+    turned-headed : (w : Traced) (d : ℕ) → Headed D w → Headed D (turned_at mark n w d)
+    unfolding turned_at
     turned-headed w d h = turn-headed w d (outcome_at n w.world d) h
 
-    turned-call : (w : Traced) (d : ℕ) → d < D → Headed D w → turnedAt mark n w d ≡ call mark n (turns d) w
-    unfolding turnedAt call outcome
+    turned-call : (w : Traced) (d : ℕ) → d < D → Headed D w → turned_at mark n w d ≡ call mark n (turns d) w
+    unfolding turned_at call outcome
     turned-call w d l h = rw (h.header, h.many, lt-ltb d D l)
 
     -- a round's turns, and those of the rest
@@ -60,13 +60,13 @@ module _ (mark n : ℕ) where
     unfolding round
     round-turns rest more zero d w l h = more w h
     round-turns rest more (suc k) d w l h =
-        by (refuses mark n (outcome_at n w.world d)) (round-turns rest more k (d + 1) (turnedAt mark n w d) (omega arith) (turned-headed w d h))
+        by (refuses mark n (outcome_at n w.world d)) (round-turns rest more k (d + 1) (turned_at mark n w d) (omega arith) (turned-headed w d h))
       where
         by :
-            (b : Bool) → ByTurns (turnedAt mark n w d) (round mark n rest (turnedAt mark n w d) (d + 1) k)
-            → ByTurns w (cond b w (round mark n rest (turnedAt mark n w d) (d + 1) k))
+            (b : Bool) → ByTurns (turned_at mark n w d) (round mark n rest (turned_at mark n w d) (d + 1) k)
+            → ByTurns w (cond b w (round mark n rest (turned_at mark n w d) (d + 1) k))
         by true t = no-turns w
-        by false t = one-turn d w (turnedAt mark n w d) _ (turned-call w d (omega arith) h) t
+        by false t = one-turn d w (turned_at mark n w d) _ (turned-call w d (omega arith) h) t
 
     rounds-turns : (r : ℕ) (w : Traced) → Headed D w → ByTurns w (rounds mark n r D w)
     unfolding rounds
@@ -78,7 +78,7 @@ module _ (mark n : ℕ) where
         by false t = no-turns w
 
   run-turns : (r : ℕ) (w : Traced) → ByTurns w (call mark n (runs r) w)
-  unfolding call ranBy
+  unfolding call ran_by
   run-turns r w = by (header_ok mark n w.world.image) refl
     where
       by : (b : Bool) → header_ok mark n w.world.image ≡ b → ByTurns w (cond b (rounds mark n r (workers w.world.image) w) w)

@@ -16,7 +16,7 @@ use Rattle.working.proofs.Placed.{idle-is}
 use Rattle.plan.specs.Turn.{Outcome}
 use Rattle.claims.specs.Reference.{Given, given}
 use Rattle.claims.specs.Events.{Event, taken, moved, waited, recorded, ended, lost}
-use Rattle.claims.specs.Calls.{Trace, Traced, turnBy, play, from, legal, ends_cut, machine}
+use Rattle.claims.specs.Calls.{Trace, Traced, turn_by, play, from, legal, ends_cut, machine}
 use Rattle.claims.specs.Claims.{of_worker, after}
 use Rattle.claims.proofs.Feeding.{of-snoc-same, of-snoc-other}
 use Rattle.claims.proofs.Called.{dl}
@@ -26,7 +26,7 @@ use Rattle.told.specs.Turns.{heed, heed_all, passage_of, All, UncutSpanned}
 use Rattle.told.specs.Spanned.{counted, owing, from_first, EverySpanned}
 use Rattle.told.proofs.Keeping.{next_turn, submitted, Keeps, Kept, play-keeps}
 use Rattle.told.proofs.FromRest.{Plain, plain-sorted, kept-uncut}
-use Rattle.told.proofs.Accounting.{eventsBy, events-by}
+use Rattle.told.proofs.Accounting.{events_by, events-by}
 use Rattle.told.proofs.Passages.{heed-none, heed-cons, heed-append, heed-taken, heed-aside}
 use Rattle.told.proofs.Spanning.{Spanning, Moored, spanning-keeps}
 use Rattle.told.proofs.Turns.{rested-spanning}
@@ -86,14 +86,14 @@ module _ (mark n D : ℕ) (cells : List ℕ) where
     spanning : Spanning mark n D cells w
     since : Since g w
 
-  turn-since : (g : Trace) (w : Traced) (d : ℕ) (o : Outcome) → Since g w → Since g (turnBy mark n w d o)
+  turn-since : (g : Trace) (w : Traced) (d : ℕ) (o : Outcome) → Since g w → Since g (turn_by mark n w d o)
   turn-since g w d o x =
       record {
         during = x.during;
         takes = turn-taken mark n w d o ∙ x.takes;
         stands = λ e l.
-            rw (events-by mark n w d o, heed-append e (passage 0 nowhere []) w.trace.events (eventsBy mark n w d o))
-            (quiet-all-stand e (passage_of e w.trace.events) (eventsBy mark n w d o) (turn-quiet mark n w d o) ∙ x.stands e l);
+            rw (events-by mark n w d o, heed-append e (passage 0 nowhere []) w.trace.events (events_by mark n w d o))
+            (quiet-all-stand e (passage_of e w.trace.events) (events_by mark n w d o) (turn-quiet mark n w d o) ∙ x.stands e l);
       }
 
   submitted-since :

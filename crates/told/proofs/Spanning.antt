@@ -21,14 +21,14 @@ use Rattle.intake.specs.declared.Submitted.TheVariants.{Taken}
 use Rattle.working.specs.Cursor.{Cursor, idle, on, cursor_at}
 use Rattle.worklog.specs.Log.{code_in}
 use Rattle.plan.specs.Turn.{Outcome, stored, passed, waiting, resting, refused}
-use Rattle.owed.specs.Owed.{namedStep, namedOp}
+use Rattle.owed.specs.Owed.{named_step, named_op}
 use Rattle.resuming.specs.Resumed.{target_turn, resumed}
 use Rattle.needs.specs.Left.{resumed_turns}
 use Rattle.claims.specs.Reference.{Given, given}
 use Rattle.claims.specs.Events.{Event, taken, moved, waited, lost, but}
-use Rattle.claims.specs.Calls.{Traced, step_of, turnBy, afterCut}
+use Rattle.claims.specs.Calls.{Traced, step_of, turn_by, after_cut}
 use Rattle.claims.specs.Claims.{of_worker}
-use Rattle.claims.proofs.Invariant.{opAt, logsHeld, Named}
+use Rattle.claims.proofs.Invariant.{op_at, logs_held, Named}
 use Rattle.claims.proofs.LiveTurn.{but_same, but-other}
 use Rattle.claims.proofs.Worlds.{Running}
 use Rattle.claims.proofs.Settling.{steps}
@@ -36,7 +36,7 @@ use Rattle.claims.proofs.Turning.{still}
 use Rattle.claims.proofs.Stages.{stays, plan-kept}
 use Rattle.claims.proofs.Covers.{crashed-parts}
 use Rattle.claims.proofs.Accepted.{ok_named, ok-entry}
-use Rattle.claims.proofs.Entries.{named_step}
+use Rattle.claims.proofs.Entries.{named_step_lem}
 use Rattle.claims.proofs.RecoveryImage.{recovery-at}
 use Rattle.claims.proofs.Submission.{aside}
 use Rattle.claims.proofs.Called.{TakenAs, accepts, crash}
@@ -48,16 +48,16 @@ use Rattle.told.proofs.Behind.{turn_memory, turn_cursor, turned-memory, turned-c
 use Rattle.told.proofs.Behind.{submitted-aside, submitted-cursors, recovered-fixed, recovered-cursors}
 use Rattle.told.proofs.FromRest.{Any}
 use Rattle.told.proofs.Writes.{turn-writes}
-use Rattle.told.proofs.Accounting.{eventsBy, events-by, own-by}
+use Rattle.told.proofs.Accounting.{events_by, events-by, own-by}
 use Rattle.told.proofs.Strides.{phase-stride}
 use Rattle.told.proofs.Pacing.{Anchored, turned-anchored}
 use Rattle.told.proofs.Strode.{taken-anchored, off-same, lost-anchored, lost-paced}
 use Rattle.told.proofs.Passages.{heed-none, heed-append, heed-aside, heed-moved, heed-waited, heed-taken, heed-lost}
-use Rattle.told.proofs.OnTrack.{anchor-same, track-same, pathsIn, Steady}
+use Rattle.told.proofs.OnTrack.{anchor-same, track-same, paths_in, Steady}
 use Rattle.told.proofs.TurnTrack.{own-track, other-track}
 
 -- a logged instruction that is resumed at its target store has so many turns left
-resumed-turns : (n : ℕ) (rd : Memory) (d s : ℕ) (x : Op) → logsHeld n rd d s x → (w : ℕ) → op_of w ≡ x → turns_of w ≡ resumed_turns x + target_turn x
+resumed-turns : (n : ℕ) (rd : Memory) (d s : ℕ) (x : Op) → logs_held n rd d s x → (w : ℕ) → op_of w ≡ x → turns_of w ≡ resumed_turns x + target_turn x
 resumed-turns n rd d s (Acquire a) h w o = turns-op w (Acquire a) o
 resumed-turns n rd d s (Release a) h w o = turns-op w (Release a) o
 resumed-turns n rd d s (Assign a e) h w o = turns-op w (Assign a e) o
@@ -74,7 +74,7 @@ module _ (mark n D : ℕ) (cells : List ℕ) where
 
   -- of what a cut leaves: worker e of a world, with this memory and this passage
   abbrev Tied : Traced → ℕ → Memory → Passage → Type 0
-  Tied w e rd c = Anchored (rd (field Pc e)) (rd (field Count e)) (code_in n rd e) (pathsIn mark n D cells w e) (of_worker e w.trace.begun) c
+  Tied w e rd c = Anchored (rd (field Pc e)) (rd (field Count e)) (code_in n rd e) (paths_in mark n D cells w e) (of_worker e w.trace.begun) c
 
   abbrev pub Moored : Traced → Type 0
   Moored w = (e : ℕ) → e < D → Tied w e (memory w) (passage_of e w.trace.events)
@@ -82,11 +82,11 @@ module _ (mark n D : ℕ) (cells : List ℕ) where
   -- ---- a turn
 
   turn-spanning :
-      (w : Traced) (d : ℕ) → Running mark n D cells w → d < D → Fed w (next_turn n w d) → Spanning w → Spanning (turnBy mark n w d (next_turn n w d))
+      (w : Traced) (d : ℕ) → Running mark n D cells w → d < D → Fed w (next_turn n w d) → Spanning w → Spanning (turn_by mark n w d (next_turn n w d))
   turn-spanning w d r dl fed x e l =
       rw (turned-memory mark n D cells w d r dl fed, turned-cursors mark n D cells w d r dl e l) (by (ℕ_discrete e d))
     where
-      by : Dec (e ≡ d) → Steady mark n D cells (turnBy mark n w d (next_turn n w d)) e (turn_memory (memory w) (next_turn n w d))
+      by : Dec (e ≡ d) → Steady mark n D cells (turn_by mark n w d (next_turn n w d)) e (turn_memory (memory w) (next_turn n w d))
           (but (cursor_at w.world.cursors) d (turn_cursor (cursor_at w.world.cursors d) (next_turn n w d)) e)
       by (yes i) =
           rw (i, but_same (cursor_at w.world.cursors) d (turn_cursor (cursor_at w.world.cursors d) (next_turn n w d)))
@@ -112,30 +112,30 @@ module _ (mark n D : ℕ) (cells : List ℕ) where
   -- any turn leaves its worker's passage anchored, and the others' as they are
   any-events :
       (w : Traced) (d : ℕ) (o : Outcome) (e : ℕ) (c : Passage)
-      → (d ≡ e → heed_all e c (eventsBy mark n w d o) ≡ turned c c.now) ⊎ (d ≡ e → heed_all e c (eventsBy mark n w d o) ≡ c)
-      → Tied w e (memory w) c → Tied w e (memory w) (heed_all e c (eventsBy mark n w d o))
+      → (d ≡ e → heed_all e c (events_by mark n w d o) ≡ turned c c.now) ⊎ (d ≡ e → heed_all e c (events_by mark n w d o) ≡ c)
+      → Tied w e (memory w) c → Tied w e (memory w) (heed_all e c (events_by mark n w d o))
   any-events w d o e c f a = by (ℕ_discrete e d) f
     where
       by :
-          Dec (e ≡ d) → (d ≡ e → heed_all e c (eventsBy mark n w d o) ≡ turned c c.now) ⊎ (d ≡ e → heed_all e c (eventsBy mark n w d o) ≡ c)
-          → Tied w e (memory w) (heed_all e c (eventsBy mark n w d o))
-      by (no i) g = rw (heed-aside e c (eventsBy mark n w d o) (own-by mark n w d o e i)) a
+          Dec (e ≡ d) → (d ≡ e → heed_all e c (events_by mark n w d o) ≡ turned c c.now) ⊎ (d ≡ e → heed_all e c (events_by mark n w d o) ≡ c)
+          → Tied w e (memory w) (heed_all e c (events_by mark n w d o))
+      by (no i) g = rw (heed-aside e c (events_by mark n w d o) (own-by mark n w d o e i)) a
       by (yes i) (inl g) =
           rw (g (sym i))
           (turned-anchored (memory w (field Pc e)) (memory w (field Count e)) (code_in n (memory w) e) _ _ 0 (w.trace.last e) c.ends c.now c.spans a)
       by (yes i) (inr g) = rw (g (sym i)) a
 
-  still-spanning : (w : Traced) (d : ℕ) (o : Outcome) → w.world.left ≡ 0 → Moored w → Moored (turnBy mark n w d o)
+  still-spanning : (w : Traced) (d : ℕ) (o : Outcome) → w.world.left ≡ 0 → Moored w → Moored (turn_by mark n w d o)
   still-spanning w d (stored p v c) z x =
       let s = still mark n D cells w d p v c z in
-      still-moored w (turnBy mark n w d (stored p v c)) d [] s.2 s.0 s.1
+      still-moored w (turn_by mark n w d (stored p v c)) d [] s.2 s.0 s.1
       (events-by mark n w d (stored p v c) ∙ ap (λ (l : List Event). w.trace.events ++ l) (rw (eq-eqb w.world.left 0 z)))
       (λ e b a. rw (heed-none e b) a) x
   still-spanning w d (passed why c) z x =
-      still-moored w (turnBy mark n w d (passed why c)) d (moved d (step_of mark n w d) ∷ []) refl refl refl refl
+      still-moored w (turn_by mark n w d (passed why c)) d (moved d (step_of mark n w d) ∷ []) refl refl refl refl
       (λ e b a. any-events w d (passed why c) e b (inl (λ i. rw i (heed-moved e b _))) a) x
   still-spanning w d (waiting b) z x =
-      still-moored w (turnBy mark n w d (waiting b)) d (waited d b ∷ []) refl refl refl refl
+      still-moored w (turn_by mark n w d (waiting b)) d (waited d b ∷ []) refl refl refl refl
       (λ e k a. any-events w d (waiting b) e k (inr (λ i. rw i (heed-waited e k b))) a) x
   still-spanning w d resting z x = x
   still-spanning w d (refused r) z x = x
@@ -194,10 +194,10 @@ module _ (mark n D : ℕ) (cells : List ℕ) where
       ≡ (let c = passage_of e w.trace.events in passage c.ends (losing c.now) c.spans)
   passage-lost w v e t = ap (passage_of e) t ∙ (heed-append e _ w.trace.events (lost ∷ []) ∙ heed-lost e (passage_of e w.trace.events))
 
-  cut-moored : (w : Traced) → Moored w → Moored (afterCut mark n w)
+  cut-moored : (w : Traced) → Moored w → Moored (after_cut mark n w)
   cut-moored w x e l =
       let c = passage_of e w.trace.events in
-      rw (passage-lost w (afterCut mark n w) e refl)
+      rw (passage-lost w (after_cut mark n w) e refl)
       (lost-anchored (memory w (field Pc e)) (memory w (field Count e)) (code_in n (memory w) e) _ _ c.ends c.now c.spans (x e l))
 
   module _ (w : Traced) (k : Worth mark n D cells w) where
@@ -245,20 +245,21 @@ module _ (mark n D : ℕ) (cells : List ℕ) where
       unfolding resumed
       resumed-off z = rw z
 
-      pub resumed-on : (s : ℕ) → rd (field Pc e) % 2 ^ 63 ≡ suc s → resumed n rd e ≡ on s (target_turn (namedOp n rd e))
+      pub resumed-on : (s : ℕ) → rd (field Pc e) % 2 ^ 63 ≡ suc s → resumed n rd e ≡ on s (target_turn (named_op n rd e))
       unfolding resumed
-      resumed-on s q = rw (ne_eqb (rd (field Pc e)) 0 (λ z. omega arith), named_step n rd e s q)
+      resumed-on s q = rw (ne_eqb (rd (field Pc e)) 0 (λ z. omega arith), named_step_lem n rd e s q)
 
-      entry : (s : ℕ) → rd (field Pc e) % 2 ^ 63 ≡ suc s → Named n rd e (namedStep n rd e)
+      entry : (s : ℕ) → rd (field Pc e) % 2 ^ 63 ≡ suc s → Named n rd e (named_step n rd e)
       entry s q =
           let c = crashed-parts n D rd k.crashed in
           ok-entry n rd e (ok_named n rd e (c.pc e l) (ne_eqb (rd (field Pc e)) 0 (λ z. omega arith)))
 
-      pub entry-turns : (s : ℕ) → rd (field Pc e) % 2 ^ 63 ≡ suc s → turns_of (rd (step e s)) ≡ resumed_turns (op_of (rd (step e s))) + target_turn (namedOp n rd e)
-      unfolding namedOp
+      pub entry-turns : (s : ℕ) → rd (field Pc e) % 2 ^ 63 ≡ suc s
+          → turns_of (rd (step e s)) ≡ resumed_turns (op_of (rd (step e s))) + target_turn (named_op n rd e)
+      unfolding named_op
       entry-turns s q =
-          let f = named_step n rd e s q in
-          rw f (resumed-turns n rd e s (opAt n rd e s) (rw f at (entry s q).logs) (rd (step e s)) refl)
+          let f = named_step_lem n rd e s q in
+          rw f (resumed-turns n rd e s (op_at n rd e s) (rw f at (entry s q).logs) (rd (step e s)) refl)
 
     -- the count of a begun section stays
     pub begun-below : (e : ℕ) → e < D → (s : ℕ) → memory w (field Pc e) % 2 ^ 63 ≡ suc s → s < memory mended (field Count e)
@@ -268,7 +269,7 @@ module _ (mark n D : ℕ) (cells : List ℕ) where
             (memory mended (field Count e) ≡ memory w (field Count e)) ⊎ ((memory w (field Pc e) ≡ 0) × (memory mended (field Count e) ≡ 0))
             → s < memory mended (field Count e)
         by (inl c) =
-            let f = named_step n (memory w) e s q in
+            let f = named_step_lem n (memory w) e s q in
             let b = (entry e l s q).below in
             omega arith
         by (inr (z, c)) = absurd (omega arith)
@@ -283,7 +284,7 @@ module _ (mark n D : ℕ) (cells : List ℕ) where
           pace =
               rw (passage-lost w mended e refl)
               (lost-paced (memory mended (field Pc e)) (memory mended (field Count e)) (code_in n (memory mended) e) _ _ c.ends c.now c.spans
-              (w.trace.last e) (resumed n (memory w) e) (target_turn (namedOp n (memory w) e)) (recovered-held e (x e l)) (λ z. resumed-off e l (sym pc ∙ z))
+              (w.trace.last e) (resumed n (memory w) e) (target_turn (named_op n (memory w) e)) (recovered-held e (x e l)) (λ z. resumed-off e l (sym pc ∙ z))
               (λ s q.
               let was : memory w (field Pc e) % 2 ^ 63 ≡ suc s = rw (← pc) q in
               (begun-below e l s was, resumed-on e l s was, rw (fixed (step e s) refl) (entry-turns e l s was))));

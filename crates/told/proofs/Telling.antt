@@ -22,7 +22,7 @@ use Rattle.plan.specs.Turn.{Outcome, stored, passed, waiting, resting, refused}
 use Rattle.resuming.specs.Resumed.{resumed}
 use Rattle.claims.specs.Reference.{Given}
 use Rattle.claims.specs.Events.{but}
-use Rattle.claims.specs.Calls.{Traced, is_pc, turnBy, recording, submits, Move, whole}
+use Rattle.claims.specs.Calls.{Traced, is_pc, turn_by, recording, submits, Move, whole}
 use Rattle.told.specs.Once.{numbers_of}
 use Rattle.claims.proofs.LiveTurn.{but_same, but-other}
 use Rattle.told.proofs.Writes.{WritesPc, Writes, Says, turn-writes}
@@ -49,7 +49,7 @@ begun_then begun g pc starts = cond pc (cond starts (begun ++ (g ∷ [])) begun)
 
 pub turn-begun :
     (mark n : ℕ) (w : Traced) (d : ℕ) (p : Place) (v : ℕ) (c : Cursor) → 0 < w.world.left
-    → (turnBy mark n w d (stored p v c)).trace.begun ≡ begun_then w.trace.begun (w.trace.last d) (is_pc p) (eqb (at n w.world.image (field Pc d)) 0)
+    → (turn_by mark n w d (stored p v c)).trace.begun ≡ begun_then w.trace.begun (w.trace.last d) (is_pc p) (eqb (at n w.world.image (field Pc d)) 0)
 turn-begun mark n w d p v c l = by (is_pc p)
   where
     left_over : eqb w.world.left 0 ≡ false
@@ -173,15 +173,15 @@ module _ (mark n D : ℕ) (cells : List ℕ) (start : ℕ → ℕ) (Q : ℕ → 
     New p = rd (field Pc d) ≡ 0 → is_pc p ≡ true → rd (field Finished d) < rd (field Number d)
 
     -- the sections begun behind a store
-    abbrev begunNow : Place → List Given
-    begunNow p = begun_then w.trace.begun last (is_pc p) (eqb (rd (field Pc d)) 0)
+    abbrev begun_now : Place → List Given
+    begun_now p = begun_then w.trace.begun last (is_pc p) (eqb (rd (field Pc d)) 0)
 
     -- what a store leaves, worker by worker
     stored_at :
-        (p : Place) (v : ℕ) → Writes n rd d last p v → New p → (e : ℕ) → e < D → TellsAt n (start e) (numbers_of e (begunNow p)) (upd rd p v) e
+        (p : Place) (v : ℕ) → Writes n rd d last p v → New p → (e : ℕ) → e < D → TellsAt n (start e) (numbers_of e (begun_now p)) (upd rd p v) e
     stored_at p v s new e l = by (ℕ_discrete e d)
       where
-        by : Dec (e ≡ d) → TellsAt n (start e) (numbers_of e (begunNow p)) (upd rd p v) e
+        by : Dec (e ≡ d) → TellsAt n (start e) (numbers_of e (begun_now p)) (upd rd p v) e
         by (yes i) =
             rw (i, begun-own d w.trace.begun last (is_pc p) (rd (field Pc d)) (begins-own n rd d last p v s))
             (stored-tells n (start d) (numbers_of d w.trace.begun) rd d last (x.tells d dl) p v s new)
@@ -226,8 +226,8 @@ module _ (mark n D : ℕ) (cells : List ℕ) (start : ℕ → ℕ) (Q : ℕ → 
 
     -- a turn, by its outcome: the memory and the cursors behind it are known
     outcome-telling :
-        (o : Outcome) → Says n rd d last o → Pends (rd (field Pc d)) cursor o → Fed w o → at n (turnBy mark n w d o).world.image ≡ turn_memory rd o
-        → ((e : ℕ) → e < D → cursor_at (turnBy mark n w d o).world.cursors e ≡ but cursors d (turn_cursor cursor o) e) → Telling (turnBy mark n w d o)
+        (o : Outcome) → Says n rd d last o → Pends (rd (field Pc d)) cursor o → Fed w o → at n (turn_by mark n w d o).world.image ≡ turn_memory rd o
+        → ((e : ℕ) → e < D → cursor_at (turn_by mark n w d o).world.cursors e ≡ but cursors d (turn_cursor cursor o) e) → Telling (turn_by mark n w d o)
     outcome-telling (stored p v c) s ps fed m cs =
         record {
           tells = λ e l. rw (turn-begun mark n w d p v c (fed refl), m) (stored_at p v s (stored-new p v c ps) e l);
@@ -238,7 +238,7 @@ module _ (mark n D : ℕ) (cells : List ℕ) (start : ℕ → ℕ) (Q : ℕ → 
     outcome-telling resting s ps fed m cs = record { tells = x.tells; newer = x.newer }
     outcome-telling (refused q) s ps fed m cs = record { tells = x.tells; newer = x.newer }
 
-    turn-telling : Fed w (next_turn n w d) → Telling (turnBy mark n w d (next_turn n w d))
+    turn-telling : Fed w (next_turn n w d) → Telling (turn_by mark n w d (next_turn n w d))
     turn-telling fed =
         let ph = r.live.phase d dl in
         let says = turn-writes n rd d last cursor (r.locks d) (w.trace.jumps d) ph in
@@ -246,7 +246,7 @@ module _ (mark n D : ℕ) (cells : List ℕ) (start : ℕ → ℕ) (Q : ℕ → 
         outcome-telling (next_turn n w d) says pends fed (turned-memory mark n D cells w d r dl fed) (turned-cursors mark n D cells w d r dl)
 
   -- with no store left
-  still-tells : (w : Traced) (d : ℕ) (o : Outcome) → w.world.left ≡ 0 → Tells w → Tells (turnBy mark n w d o)
+  still-tells : (w : Traced) (d : ℕ) (o : Outcome) → w.world.left ≡ 0 → Tells w → Tells (turn_by mark n w d o)
   still-tells w d (stored p v c) z t = let s = still mark n D cells w d p v c z in λ e l. rw (s.0, s.2) (t e l)
   still-tells w d (passed why c) z t = t
   still-tells w d (waiting b) z t = t

@@ -21,7 +21,7 @@ use Rattle.asking.specs.declared.Standing.TheVariants.{Finished}
 use Rattle.working.proofs.Placed.{idle-is}
 use Rattle.claims.specs.Reference.{Given, given}
 use Rattle.claims.specs.Events.{but}
-use Rattle.claims.specs.Calls.{Traced, is_pc, turnBy, Call, submits, callable, call, lent}
+use Rattle.claims.specs.Calls.{Traced, is_pc, turn_by, Call, submits, callable, call, lent}
 use Rattle.claims.specs.Calls.{Move, whole, move, play, from, legal, ends_cut, plain, machine}
 use Rattle.claims.specs.Claims.{Rested, after, mended, working, rounds_in}
 use Rattle.told.specs.Once.{Among, standing, ThroughAlways}
@@ -89,12 +89,12 @@ module _ (mark n D : ℕ) (cells : List ℕ) (d : ℕ) (dl : d < D) (g : Given) 
 
     -- a turn, by its outcome
     outcome-follows :
-        (o : Outcome) → Says n rd e last o → Pends (rd (field Pc e)) cursor o → Fed w o → at n (turnBy mark n w e o).world.image ≡ turn_memory rd o
-        → ((f : ℕ) → f < D → cursor_at (turnBy mark n w e o).world.cursors f ≡ but cursors e (turn_cursor cursor o) f) → Follows (turnBy mark n w e o)
+        (o : Outcome) → Says n rd e last o → Pends (rd (field Pc e)) cursor o → Fed w o → at n (turn_by mark n w e o).world.image ≡ turn_memory rd o
+        → ((f : ℕ) → f < D → cursor_at (turn_by mark n w e o).world.cursors f ≡ but cursors e (turn_cursor cursor o) f) → Follows (turn_by mark n w e o)
     outcome-follows (stored p v c) y ps fed m cs = by x (is_pc p) refl ps (ℕ_discrete d e)
       where
         behind : Traced
-        behind = turnBy mark n w e (stored p v c)
+        behind = turn_by mark n w e (stored p v c)
 
         begins : behind.trace.begun ≡ begun_then w.trace.begun last (is_pc p) (eqb (rd (field Pc e)) 0)
         begins = turn-begun mark n w e p v c (fed refl)
@@ -113,12 +113,12 @@ module _ (mark n D : ℕ) (cells : List ℕ) (d : ℕ) (dl : d < D) (g : Given) 
             let z : eqb (rd (field Pc e)) 0 ≡ true = sym k.0 ∙ (rw q at h) in
             let last : w.trace.last e ≡ g = rw q at t in
             inl (w.trace.begun, [], begins ∙ rw (i, z, last))
-    outcome-follows (passed why c) y ps fed m cs = ⊎_elim inl (λ h. inr (waits-on (turnBy mark n w e (passed why c)) c refl refl (cs d dl) (λ z. ps) h)) x
+    outcome-follows (passed why c) y ps fed m cs = ⊎_elim inl (λ h. inr (waits-on (turn_by mark n w e (passed why c)) c refl refl (cs d dl) (λ z. ps) h)) x
     outcome-follows (waiting b) y ps fed m cs = x
     outcome-follows resting y ps fed m cs = x
     outcome-follows (refused q) y ps fed m cs = x
 
-    turn-follows : Fed w (next_turn n w e) → Follows (turnBy mark n w e (next_turn n w e))
+    turn-follows : Fed w (next_turn n w e) → Follows (turn_by mark n w e (next_turn n w e))
     turn-follows fed =
         let ph = r.live.phase e el in
         let says = turn-writes n rd e last cursor (r.locks e) (w.trace.jumps e) ph in

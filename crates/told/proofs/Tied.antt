@@ -15,12 +15,12 @@ use Rattle.code.specs.declared.Op.TheVariants.{Acquire, Finish}
 use Rattle.section.specs.Check.{Code}
 use Rattle.working.specs.Cursor.{Cursor, on, cursor_at}
 use Rattle.worklog.specs.Log.{code_in}
-use Rattle.owed.specs.Owed.{namedStep}
-use Rattle.plan.specs.Turn.{stored, waiting, opTurn, turnAt, lockTurn}
+use Rattle.owed.specs.Owed.{named_step}
+use Rattle.plan.specs.Turn.{stored, waiting, op_turn, turn_at, lock_turn}
 use Rattle.claims.specs.Reference.{Given}
 use Rattle.claims.specs.Calls.{Traced, from}
 use Rattle.claims.specs.Claims.{of_worker, after}
-use Rattle.claims.proofs.Invariant.{opAt, Nearing}
+use Rattle.claims.proofs.Invariant.{op_at, Nearing}
 use Rattle.claims.proofs.Invariant.{Phase, resting, fresh as fresh-phase, due, unlocking, unlocked, between, ended as ended-phase}
 use Rattle.claims.proofs.Worlds.{Running}
 use Rattle.claims.proofs.Played.{outcome-below}
@@ -38,7 +38,7 @@ use Rattle.told.specs.Tied.{TiedAt, FreshTurn, FollowedAlways, ReadingsTied, Beg
 use Rattle.told.proofs.FromRest.{Any, any-sorted, kept-list}
 use Rattle.told.proofs.Resuming.{same_step}
 use Rattle.told.proofs.Pacing.{Anchored, Paced}
-use Rattle.told.proofs.OnTrack.{pathsIn}
+use Rattle.told.proofs.OnTrack.{paths_in}
 use Rattle.told.proofs.Spanning.{Spanning, Moored, spanning-keeps}
 use Rattle.told.proofs.Turns.{rested-spanning}
 use Rattle.told.proofs.Gathering.{all-each}
@@ -46,7 +46,7 @@ use Rattle.told.proofs.Gathering.{all-each}
 -- ---- the reference machine
 
 pub followed-always : (mark n : ℕ) → 8 ≤ n → n ≤ 64 → FollowedAlways mark n
-unfolding FollowedAlways namedStep
+unfolding FollowedAlways named_step
 followed-always mark n wide narrow m rest xs h l =
     let D = workers m in
     let cells = cells_of m in
@@ -91,14 +91,14 @@ readings-tied mark n wide narrow m rest xs h l d dl =
 -- ---- the fifth store
 
 module _ (n : ℕ) (rd : Memory) (d : ℕ) where
-  lock-fresh : (a : ℕ) → FreshTurn 1 (lockTurn n rd d a 0)
+  lock-fresh : (a : ℕ) → FreshTurn 1 (lock_turn n rd d a 0)
   lock-fresh a = by (eqb (rd (lock a)) 0)
     where
       by : (b : Bool) → FreshTurn 1 (cond b (stored (lock a) (d + 1) (on 0 2)) (waiting a))
       by true = (omega arith, refl, λ e. absurd (omega arith))
       by false = refl
 
-  acquire-fresh : (a t : ℕ) → t ≤ 4 → FreshTurn t (opTurn n rd d 0 t (Acquire a))
+  acquire-fresh : (a t : ℕ) → t ≤ 4 → FreshTurn t (op_turn n rd d 0 t (Acquire a))
   acquire-fresh a zero l = (omega arith, refl, λ e. absurd (omega arith))
   acquire-fresh a (suc zero) l = lock-fresh a
   acquire-fresh a (suc (suc zero)) l = (omega arith, addr-no-pc n rd d, λ e. absurd (omega arith))
@@ -113,11 +113,11 @@ module _ (n : ℕ) (rd : Memory) (d : ℕ) where
   named-not s q z = omega arith
 
   fresh-turn :
-      (g : Given) (c : Cursor) (locks j : ℕ) → Phase n rd d g c locks j → (u : ℕ) → c ≡ on 0 u → rd (field Pc d) ≡ 0 → FreshTurn u (turnAt n rd d c)
+      (g : Given) (c : Cursor) (locks j : ℕ) → Phase n rd d g c locks j → (u : ℕ) → c ≡ on 0 u → rd (field Pc d) ≡ 0 → FreshTurn u (turn_at n rd d c)
   fresh-turn g _ _ _ (resting k p i o) u e z = absurd (on-not-idle 0 u (sym e))
   fresh-turn g _ _ _ (fresh-phase t locks sec h p o m) u e z =
       let (a, f) = sec.valid.first in
-      let l = near-acquire t locks (opAt n rd d 0) a f m in
+      let l = near-acquire t locks (op_at n rd d 0) a f m in
       let low = sec.valid.least in
       let same = (same_step e).1 in
       rw (← same, turn-op n rd d 0 t (Acquire a) sec.valid (omega arith) f (omega arith)) (acquire-fresh a t l)
@@ -128,7 +128,7 @@ module _ (n : ℕ) (rd : Memory) (d : ℕ) where
   fresh-turn g _ _ _ (ended-phase s sec p w i l o) u e z =
       let (a, f) = sec.valid.first in
       let same : s ≡ 0 = (same_step e).0 in
-      let first : opAt n rd d 0 ≡ Finish = rw (← same) o in
+      let first : op_at n rd d 0 ≡ Finish = rw (← same) o in
       let y : ◌≡◌ {A = ℕ} 0 1 = cc in
       absurd (omega arith)
 
@@ -148,7 +148,7 @@ module _ (mark n D : ℕ) (cells : List ℕ) where
       let here = cursor_at w.world.cursors d in
       let z = anchored-fresh rd d (of_worker d w.trace.begun) c.ends c.now g u q
       (tied_at n rd d _ (of_worker d w.trace.begun) c.ends c.now c.spans (x d dl).anchor) in
-      let e = paced-fresh (rd (field Pc d)) (rd (field Count d)) (code_in n rd d) (pathsIn mark n D cells w d) (of_worker d w.trace.begun)
+      let e = paced-fresh (rd (field Pc d)) (rd (field Count d)) (code_in n rd d) (paths_in mark n D cells w d) (of_worker d w.trace.begun)
       (w.trace.jumps d) (w.trace.last d) here c.now g u q (x d dl).pace in
       rw (outcome-below mark n D cells w d r.reached dl) (fresh-turn n rd d _ here _ _ (r.live.phase d dl) u e z)
 

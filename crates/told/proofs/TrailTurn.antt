@@ -26,12 +26,12 @@ use Rattle.working.specs.Cursor.{Cursor, idle, on, step_no, cursor_at}
 use Rattle.worklog.specs.Log.{code_in, switched}
 use Rattle.worklog.specs.declared.Passing.{Passing}
 use Rattle.worklog.specs.declared.Passing.TheVariants.{Jump as PassedJump, AlreadyFree as PassedFree, Others as PassedOthers}
-use Rattle.plan.specs.Turn.{Outcome, stored, passed, waiting, resting, refused, ready, turnAt, opTurn}
+use Rattle.plan.specs.Turn.{Outcome, stored, passed, waiting, resting, refused, ready, turn_at, op_turn}
 use Rattle.claims.specs.Reference.{Given, initial}
 use Rattle.claims.specs.Events.{Event, moved, waited, ended}
-use Rattle.claims.specs.Calls.{Traced, is_pc, jumps_by, turnBy}
+use Rattle.claims.specs.Calls.{Traced, is_pc, jumps_by, turn_by}
 use Rattle.claims.specs.Claims.{of_worker}
-use Rattle.claims.proofs.Invariant.{opAt, Phase}
+use Rattle.claims.proofs.Invariant.{op_at, Phase}
 use Rattle.claims.proofs.Frame.{Agree}
 use Rattle.claims.proofs.Turns.{Touches, Stepped}
 use Rattle.claims.proofs.LiveTurn.{but_same, but-other, agrees, one-owner}
@@ -45,7 +45,7 @@ use Rattle.told.proofs.Behind.{turn_memory, turn_cursor}
 use Rattle.told.proofs.Writes.{Writes, Says}
 use Rattle.told.proofs.Telling.{begins-own}
 use Rattle.told.proofs.Resuming.{same_step}
-use Rattle.told.proofs.Accounting.{eventsBy, events-by, own-by, touch-code}
+use Rattle.told.proofs.Accounting.{events_by, events-by, own-by, touch-code}
 use Rattle.told.proofs.Chains.{chain, lands, phase-chain, own-chain}
 use Rattle.told.proofs.Walking.{walk-append}
 use Rattle.told.proofs.Strides.{is_head, head-pc, Coming, Stride, rested, waits, stores, frees, leaves, closes, jumps, begins, names}
@@ -54,7 +54,7 @@ use Rattle.told.proofs.WalkTurn.{longer, further-on, further-end, walk-later, ju
 use Rattle.told.proofs.Pacing.{Anchored, Paced}
 use Rattle.told.proofs.Strode.{named, finished}
 use Rattle.told.proofs.Passages.{heed-moved, heed-waited, heed-named, heed-finished}
-use Rattle.told.proofs.OnTrack.{OnTrack, pathsIn, plain-store, pc-store}
+use Rattle.told.proofs.OnTrack.{OnTrack, paths_in, plain-store, pc-store}
 use Rattle.told.proofs.TrailEvents.{tread-append, tread-one, tread-aside, tread-moved, tread-named, tread-finished}
 use Rattle.told.proofs.TurnTrack.{passage-by, first-path, same-begun, named-events, no_finish, path-aside, passage-aside}
 use Rattle.told.proofs.Trails.{Fits, TrailAt, CutAt, cut_at, stepped-overs, within-treads, closes-treads, jumps-treads, begins-treads, names-treads}
@@ -69,14 +69,15 @@ Made (waiting b) = Unit {0}
 Made resting = Unit {0}
 Made (refused r) = ⊥
 
-made-turn : (n : ℕ) (rd : Memory) (d s t : ℕ) (o : Outcome) → turnAt n rd d (on s t) ≡ o → Made o → t < turns_of (code_in n rd d s)
-unfolding turnAt ready
+made-turn : (n : ℕ) (rd : Memory) (d s t : ℕ) (o : Outcome) → turn_at n rd d (on s t) ≡ o → Made o → t < turns_of (code_in n rd d s)
+unfolding turn_at ready
 made-turn n rd d s t o e m = by (ready n rd d s t) refl e
   where
     count : ℕ
     count = rd (field Count d)
 
-    by : (b : Bool) → ready n rd d s t ≡ b → cond b (opTurn n rd d s t (op_of (code_in n rd d s))) (refused (CursorRefused d)) ≡ o → t < turns_of (code_in n rd d s)
+    by : (b : Bool) → ready n rd d s t ≡ b → cond b (op_turn n rd d s t (op_of (code_in n rd d s))) (refused (CursorRefused d)) ≡ o
+        → t < turns_of (code_in n rd d s)
     by true h q =
         ltb-true t (turns_of (code_in n rd d s))
         (and_right (leb 3 count && leb count 64 && ltb s count && well_formed n count s (code_in n rd d s)) (ltb t (turns_of (code_in n rd d s))) h)
@@ -116,7 +117,7 @@ agreed n rd rd' e g x locks j ph A P mine c t a k =
 module _ (mark n D : ℕ) (cells : List ℕ) where
   abbrev pub Treading : Traced → ℕ → Memory → Cursor → Type 0
   Treading w e rd x =
-      Trod n rd e (pathsIn mark n D cells w e) (w.trace.jumps e) x (trail_of e w.trace.events) (passage_of e w.trace.events)
+      Trod n rd e (paths_in mark n D cells w e) (w.trace.jumps e) x (trail_of e w.trace.events) (passage_of e w.trace.events)
 
 module _ (mark n D : ℕ) (cells : List ℕ) (w : Traced) (d : ℕ) (r : Running mark n D cells w) (dl : d < D) where
   abbrev rd : Memory
@@ -144,7 +145,7 @@ module _ (mark n D : ℕ) (cells : List ℕ) (w : Traced) (d : ℕ) (r : Running
   mine = of_worker d w.trace.begun
 
   abbrev way : Paths
-  way = pathsIn mark n D cells w d
+  way = paths_in mark n D cells w d
 
   abbrev last : Given
   last = w.trace.last d
@@ -155,17 +156,17 @@ module _ (mark n D : ℕ) (cells : List ℕ) (w : Traced) (d : ℕ) (r : Running
   abbrev hops : ℕ → List ℕ
   hops s = chain n rd d (suc s) jumped
 
-  trail-by : (o : Outcome) (es : List Event) (c : Trail) → eventsBy mark n w d o ≡ es → tread_all d now steps es ≡ c
-      → trail_of d (turnBy mark n w d o).trace.events ≡ c
+  trail-by : (o : Outcome) (es : List Event) (c : Trail) → events_by mark n w d o ≡ es → tread_all d now steps es ≡ c
+      → trail_of d (turn_by mark n w d o).trace.events ≡ c
   trail-by o es c e f =
-      ap (trail_of d) (events-by mark n w d o) ∙ (tread-append d _ _ w.trace.events (eventsBy mark n w d o) ∙ (ap (tread_all d now steps) e ∙ f))
+      ap (trail_of d) (events-by mark n w d o) ∙ (tread-append d _ _ w.trace.events (events_by mark n w d o) ∙ (ap (tread_all d now steps) e ∙ f))
 
   -- a store of neither pc nor count: what is left to show
   plain-treads :
       (p : Place) (v : ℕ) (c : Cursor) (l i t : ℕ) → cursor ≡ on i t → is_head p ≡ false → 0 < w.world.left → Touches n rd d (r.locks d) p v l
       → TrailAt words way (λ s. chain n (upd rd p v) d (suc s) jumped) c (stepped steps i now.now).steps (turned now now.now).now
       → CutAt way steps.steps now.now → Both (Fits way) now.spans steps.overs
-      → Treading mark n D cells (turnBy mark n w d (stored p v c)) d (upd rd p v) c
+      → Treading mark n D cells (turn_by mark n w d (stored p v c)) d (upd rd p v) c
   plain-treads p v c l i t q h left touch a z o =
       let s = plain-store mark n w d p v c left (head-pc p h) in
       let passage = passage-by mark n D cells w d r dl (stored p v c) _ _ s.events (heed-moved d now _) in
@@ -185,7 +186,7 @@ module _ (mark n D : ℕ) (cells : List ℕ) (w : Traced) (d : ℕ) (r : Running
       (why : Passing) (c : Cursor) (i t : ℕ) → cursor ≡ on i t
       → TrailAt words way (λ s. chain n rd d (suc s) (jumps_by why jumped)) c (stepped steps i now.now).steps (turned now now.now).now
       → CutAt way steps.steps now.now → Both (Fits way) now.spans steps.overs
-      → Treading mark n D cells (turnBy mark n w d (passed why c)) d rd c
+      → Treading mark n D cells (turn_by mark n w d (passed why c)) d rd c
   passed-treads why c i t q a z o =
       let passage = passage-by mark n D cells w d r dl (passed why c) _ _ refl (heed-moved d now _) in
       let trail = trail-by (passed why c) _ _ refl (tread-moved d now steps _) in
@@ -198,17 +199,17 @@ module _ (mark n D : ℕ) (cells : List ℕ) (w : Traced) (d : ℕ) (r : Running
       (v : ℕ) (c : Cursor) (P : Paths) (gs : List Given) (t : Trail) (b : Passage) → 0 < w.world.left
       → cond (eqb pc 0) (w.trace.begun ++ (last ∷ [])) w.trace.begun ≡ gs
       → paths_of d (initial n D cells gs) (w.trace.order ++ replicate (suc jumped) d) ≡ P
-      → trail_of d (turnBy mark n w d (stored (field Pc d) v c)).trace.events ≡ t
-      → passage_of d (turnBy mark n w d (stored (field Pc d) v c)).trace.events ≡ b
+      → trail_of d (turn_by mark n w d (stored (field Pc d) v c)).trace.events ≡ t
+      → passage_of d (turn_by mark n w d (stored (field Pc d) v c)).trace.events ≡ b
       → TrailAt words P (λ s. []) c t.steps b.now → Both (Fits P) b.spans t.overs
-      → Treading mark n D cells (turnBy mark n w d (stored (field Pc d) v c)) d (upd rd (field Pc d) v) c
+      → Treading mark n D cells (turn_by mark n w d (stored (field Pc d) v c)) d (upd rd (field Pc d) v) c
   pc-treads v c P gs t b left e q k m a o =
       let s = pc-store mark n w d (field Pc d) v c left refl in
       rw (s.begun, s.order, s.jumps, k, m, e, q, but_same w.trace.jumps d 0) (record { at = a; overs = o })
 
   -- the path behind the store of a later pc
   later-chain :
-      (x : Op) (s i t : ℕ) → Coming n rd d (r.locks d) s i t jumped → opAt n rd d i ≡ x
+      (x : Op) (s i t : ℕ) → Coming n rd d (r.locks d) s i t jumped → op_at n rd d i ≡ x
       → paths_of d (initial n D cells w.trace.begun) (w.trace.order ++ replicate (suc jumped) d) ≡ further (longer way (hops s)) i x
   later-chain x s i t C o =
       let S = r.reached.state in
@@ -232,8 +233,8 @@ module _ (mark n D : ℕ) (cells : List ℕ) (w : Traced) (d : ℕ) (r : Running
     ends_at e (closing k g b t) xs i hops' n l a q = tt
 
     pub own-treads :
-        (c : Cursor) (o : Outcome) → Stride n rd d last (r.locks d) jumped c o → cursor ≡ c → turnAt n rd d c ≡ o
-        → Stepped n rd d last (r.locks d) jumped o → Fed w o → Treading mark n D cells (turnBy mark n w d o) d (turn_memory rd o) (turn_cursor c o)
+        (c : Cursor) (o : Outcome) → Stride n rd d last (r.locks d) jumped c o → cursor ≡ c → turn_at n rd d c ≡ o
+        → Stepped n rd d last (r.locks d) jumped o → Fed w o → Treading mark n D cells (turn_by mark n w d o) d (turn_memory rd o) (turn_cursor c o)
     own-treads _ _ rested q e st fed = rw q at y
     own-treads _ _ (waits i t b) q e st fed =
         rw (passage-by mark n D cells w d r dl (waiting b) _ _ refl (heed-waited d now b), trail-by (waiting b) _ _ refl (tread-one d now steps (waited d b)))
@@ -288,7 +289,7 @@ module _ (mark n D : ℕ) (cells : List ℕ) (w : Traced) (d : ℕ) (r : Running
         let v = switched n rd d i in
         let left = fed refl in
         let P = paths_of d (initial n D cells w.trace.begun) (w.trace.order ++ replicate (suc jumped) d) in
-        let op = opAt n rd d i in
+        let op = op_at n rd d i in
         let grows : P ≡ longer (longer way (hops s)) (i ∷ []) =
         later-chain op s i t C refl ∙ further-on (longer way (hops s)) i op (no_finish mark n D cells w d r dl op o) in
         let events = named-events mark n D cells w d r dl v i t (on i (t + 1)) q (switched-some n rd d i) left in
@@ -308,7 +309,7 @@ module _ (mark n D : ℕ) (cells : List ℕ) (w : Traced) (d : ℕ) (r : Running
         let P = paths_of d (initial n D cells w.trace.begun) (w.trace.order ++ replicate (suc jumped) d) in
         let path = (way.under ++ hops s) ++ (i ∷ []) in
         let grows : P ≡ paths (way.ended ++ (path ∷ [])) [] = later-chain Finish s i 1 C o ∙ further-end (longer way (hops s)) i Finish refl in
-        let events : eventsBy mark n w d (stored (field Pc d) 0 (on i 2)) ≡ moved d i ∷ ended d ∷ [] =
+        let events : events_by mark n w d (stored (field Pc d) 0 (on i 2)) ≡ moved d i ∷ ended d ∷ [] =
         (pc-store mark n w d (field Pc d) 0 (on i 2) left refl).events ∙ rw q in
         let up : s < i = omega (arith, jumps-rise n rd d C.sectioned.valid (suc s) C.leaps) in
         let more = made-turn n rd d i 1 (stored (field Pc d) 0 (on i 2)) e tt in
@@ -335,16 +336,16 @@ module _ (mark n D : ℕ) (cells : List ℕ) (w : Traced) (d : ℕ) (r : Running
   -- ---- another's turn
 
   module _ (e : ℕ) (el : e < D) (i : e ≢ d) where
-    trail-aside : (o : Outcome) → trail_of e (turnBy mark n w d o).trace.events ≡ trail_of e w.trace.events
+    trail-aside : (o : Outcome) → trail_of e (turn_by mark n w d o).trace.events ≡ trail_of e w.trace.events
     trail-aside o =
         ap (trail_of e) (events-by mark n w d o)
-        ∙ (tread-append e _ _ w.trace.events (eventsBy mark n w d o) ∙ tread-aside e _ _ (eventsBy mark n w d o) (own-by mark n w d o e i))
+        ∙ (tread-append e _ _ w.trace.events (events_by mark n w d o) ∙ tread-aside e _ _ (events_by mark n w d o) (own-by mark n w d o e i))
 
     -- a store, of the pc or not, behind which the memory is this
     store-aside :
         (p : Place) (v : ℕ) (c x : Cursor) → 0 < w.world.left → Writes n rd d last p v → (b : Bool) → is_pc p ≡ b
-        → Trod n (upd rd p v) e (pathsIn mark n D cells w e) (w.trace.jumps e) x (trail_of e w.trace.events) (passage_of e w.trace.events)
-        → Treading mark n D cells (turnBy mark n w d (stored p v c)) e (upd rd p v) x
+        → Trod n (upd rd p v) e (paths_in mark n D cells w e) (w.trace.jumps e) x (trail_of e w.trace.events) (passage_of e w.trace.events)
+        → Treading mark n D cells (turn_by mark n w d (stored p v c)) e (upd rd p v) x
     store-aside p v c x left says false h k =
         let s = plain-store mark n w d p v c left h in
         rw (s.begun, s.order, s.jumps, passage-aside mark n D cells w d r dl e i (stored p v c), trail-aside (stored p v c)) k
@@ -364,10 +365,10 @@ module _ (mark n D : ℕ) (cells : List ℕ) (w : Traced) (d : ℕ) (r : Running
 
     pub other-treads :
         (o : Outcome) → Stepped n rd d last (r.locks d) jumped o → Says n rd d last o → Fed w o
-        → OnTrack n rd e (pathsIn mark n D cells w e) (of_worker e w.trace.begun) (passage_of e w.trace.events) (w.trace.jumps e) (w.trace.last e)
+        → OnTrack n rd e (paths_in mark n D cells w e) (of_worker e w.trace.begun) (passage_of e w.trace.events) (w.trace.jumps e) (w.trace.last e)
         (cursor_at w.world.cursors e)
         → Treading mark n D cells w e rd (cursor_at w.world.cursors e)
-        → Treading mark n D cells (turnBy mark n w d o) e (turn_memory rd o) (cursor_at w.world.cursors e)
+        → Treading mark n D cells (turn_by mark n w d o) e (turn_memory rd o) (cursor_at w.world.cursors e)
     other-treads (stored p v c) (l, touch, ph) says fed x k =
         let there = cursor_at w.world.cursors e in
         let pass = passage_of e w.trace.events in
@@ -376,7 +377,7 @@ module _ (mark n D : ℕ) (cells : List ℕ) (w : Traced) (d : ℕ) (r : Running
         let A = agrees n rd d (r.locks d) p v l touch e (r.locks e) i apart in
         store-aside p v c there (fed refl) says (is_pc p) refl
         (agreed n rd (upd rd p v) e (w.trace.last e) there (r.locks e) (w.trace.jumps e) (r.live.phase e el) A
-        (pathsIn mark n D cells w e) (of_worker e w.trace.begun) pass (trail_of e w.trace.events) x.anchor k)
+        (paths_in mark n D cells w e) (of_worker e w.trace.begun) pass (trail_of e w.trace.events) x.anchor k)
     other-treads (passed why c) st says fed x k =
         rw (
           passage-aside mark n D cells w d r dl e i (passed why c),

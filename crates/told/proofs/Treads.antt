@@ -17,11 +17,11 @@ use Rattle.intake.specs.declared.Submitted.TheVariants.{Taken}
 use Rattle.working.specs.Cursor.{Cursor, on, cursor_at}
 use Rattle.worklog.specs.Log.{code_in}
 use Rattle.plan.specs.Turn.{Outcome, stored, passed, waiting, resting, refused}
-use Rattle.owed.specs.Owed.{namedOp}
+use Rattle.owed.specs.Owed.{named_op}
 use Rattle.resuming.specs.Resumed.{target_turn, resumed}
 use Rattle.claims.specs.Reference.{Given, given}
 use Rattle.claims.specs.Events.{Event, taken, moved, waited, lost, but}
-use Rattle.claims.specs.Calls.{Traced, step_of, turnBy, afterCut, from}
+use Rattle.claims.specs.Calls.{Traced, step_of, turn_by, after_cut, from}
 use Rattle.claims.specs.Claims.{of_worker, after}
 use Rattle.claims.proofs.Frame.{Agree}
 use Rattle.claims.proofs.LiveTurn.{but_same, but-other}
@@ -43,7 +43,7 @@ use Rattle.told.proofs.Writes.{turn-writes}
 use Rattle.told.proofs.Accounting.{events-by}
 use Rattle.told.proofs.Strides.{phase-stride}
 use Rattle.told.proofs.Passages.{heed-none, heed-append, heed-aside, heed-moved, heed-waited, heed-taken}
-use Rattle.told.proofs.OnTrack.{pathsIn}
+use Rattle.told.proofs.OnTrack.{paths_in}
 use Rattle.told.proofs.Spanning.{Spanning, Moored, spanning-keeps, recovered-held, begun-below, entry-turns, resumed-on, passage-lost}
 use Rattle.told.proofs.Turns.{rested-spanning}
 use Rattle.told.proofs.Trails.{Fits, CutAt, cut_at, stepped-overs, stepped-cut, lost-treads, both-map}
@@ -68,7 +68,7 @@ module _ (mark n D : ℕ) (cells : List ℕ) where
   CutTrod P t c = CutAt P t.steps c.now × Both (Fits P) c.spans t.overs
 
   abbrev Cut : Traced → Type 0
-  Cut w = (e : ℕ) → e < D → CutTrod (pathsIn mark n D cells w e) (trail_of e w.trace.events) (passage_of e w.trace.events)
+  Cut w = (e : ℕ) → e < D → CutTrod (paths_in mark n D cells w e) (trail_of e w.trace.events) (passage_of e w.trace.events)
 
   record TreadsRun (w : Traced) : Type 0 where
     spanning : Spanning mark n D cells w
@@ -85,14 +85,14 @@ module _ (mark n D : ℕ) (cells : List ℕ) where
 
   turn-run :
       (w : Traced) (d : ℕ) → Running mark n D cells w → d < D → Fed w (next_turn n w d) → Spanning mark n D cells w → Run w
-      → Run (turnBy mark n w d (next_turn n w d))
+      → Run (turn_by mark n w d (next_turn n w d))
   turn-run w d r dl fed s x e l =
       rw (turned-memory mark n D cells w d r dl fed, turned-cursors mark n D cells w d r dl e l) (by (ℕ_discrete e d))
     where
       cs : ℕ → Cursor
       cs = cursor_at w.world.cursors
 
-      by : Dec (e ≡ d) → Treading mark n D cells (turnBy mark n w d (next_turn n w d)) e (turn_memory (memory w) (next_turn n w d))
+      by : Dec (e ≡ d) → Treading mark n D cells (turn_by mark n w d (next_turn n w d)) e (turn_memory (memory w) (next_turn n w d))
           (but (cursor_at w.world.cursors) d (turn_cursor (cursor_at w.world.cursors d) (next_turn n w d)) e)
       by (yes i) =
           rw (i, but_same (cursor_at w.world.cursors) d (turn_cursor (cursor_at w.world.cursors d) (next_turn n w d)))
@@ -112,7 +112,7 @@ module _ (mark n D : ℕ) (cells : List ℕ) where
       → ((e : ℕ) (P : Paths) (t : Trail) (c : Passage) → CutTrod P t c → CutTrod P (tread_all e c t es) (heed_all e c es)) → Cut w → Cut v
   still-by w v es b o t f x e l =
       rw (b, o, t, heed-append e (passage 0 nowhere []) w.trace.events es, tread-append e (passage 0 nowhere []) (trail [] []) w.trace.events es)
-      (f e (pathsIn mark n D cells w e) (trail_of e w.trace.events) (passage_of e w.trace.events) (x e l))
+      (f e (paths_in mark n D cells w e) (trail_of e w.trace.events) (passage_of e w.trace.events) (x e l))
 
   moved-cut : (d s e : ℕ) (P : Paths) (t : Trail) (c : Passage) → CutTrod P t c → CutTrod P (tread_all e c t (moved d s ∷ [])) (heed_all e c (moved d s ∷ []))
   moved-cut d s e P t c (a, o) = by (ℕ_discrete d e)
@@ -124,22 +124,23 @@ module _ (mark n D : ℕ) (cells : List ℕ) where
       by (no i) =
           rw (heed-aside e c (moved d s ∷ []) (rw (ne_eqb d e i)), tread-aside e c t (moved d s ∷ []) (rw (ne_eqb d e i))) (a, o)
 
-  waited-cut : (d b e : ℕ) (P : Paths) (t : Trail) (c : Passage) → CutTrod P t c → CutTrod P (tread_all e c t (waited d b ∷ [])) (heed_all e c (waited d b ∷ []))
+  waited-cut : (d b e : ℕ) (P : Paths) (t : Trail) (c : Passage) → CutTrod P t c
+      → CutTrod P (tread_all e c t (waited d b ∷ [])) (heed_all e c (waited d b ∷ []))
   waited-cut d b e P t c k = by (ℕ_discrete d e)
     where
       by : Dec (d ≡ e) → CutTrod P (tread_all e c t (waited d b ∷ [])) (heed_all e c (waited d b ∷ []))
       by (yes i) = rw (i, heed-waited e c b, tread-one e c t (waited e b)) k
       by (no i) = rw (heed-aside e c (waited d b ∷ []) (rw (ne_eqb d e i)), tread-aside e c t (waited d b ∷ []) (rw (ne_eqb d e i))) k
 
-  still-cut : (w : Traced) (d : ℕ) (o : Outcome) → w.world.left ≡ 0 → Cut w → Cut (turnBy mark n w d o)
+  still-cut : (w : Traced) (d : ℕ) (o : Outcome) → w.world.left ≡ 0 → Cut w → Cut (turn_by mark n w d o)
   still-cut w d (stored p v c) z x =
       let s = still mark n D cells w d p v c z in
-      still-by w (turnBy mark n w d (stored p v c)) [] s.0 s.1
+      still-by w (turn_by mark n w d (stored p v c)) [] s.0 s.1
       (events-by mark n w d (stored p v c) ∙ ap (λ (l : List Event). w.trace.events ++ l) (rw (eq-eqb w.world.left 0 z)))
       (λ e P t b a. rw (heed-none e b, tread-none e b t) a) x
   still-cut w d (passed why c) z x =
-      still-by w (turnBy mark n w d (passed why c)) (moved d (step_of mark n w d) ∷ []) refl refl refl (λ e P t b a. moved-cut d _ e P t b a) x
-  still-cut w d (waiting b) z x = still-by w (turnBy mark n w d (waiting b)) (waited d b ∷ []) refl refl refl (λ e P t c a. waited-cut d b e P t c a) x
+      still-by w (turn_by mark n w d (passed why c)) (moved d (step_of mark n w d) ∷ []) refl refl refl (λ e P t b a. moved-cut d _ e P t b a) x
+  still-cut w d (waiting b) z x = still-by w (turn_by mark n w d (waiting b)) (waited d b ∷ []) refl refl refl (λ e P t c a. waited-cut d b e P t c a) x
   still-cut w d resting z x = x
   still-cut w d (refused r) z x = x
 
@@ -186,7 +187,7 @@ module _ (mark n D : ℕ) (cells : List ℕ) where
             ∙ tread-aside e c u (taken new ∷ []) (rw (ne_eqb d e (λ q. i (sym q)))) in
             rw (but-other (cursor_at w.world.cursors) d (on 0 0) e i, none, same, but-other w.trace.jumps d 0 e i)
             (agreed n (memory w) (memory behind) e (w.trace.last e) (cursor_at w.world.cursors e) (r.locks e) (w.trace.jumps e) (r.live.phase e l)
-            (agree e (r.locks e) i) (pathsIn mark n D cells w e) (of_worker e w.trace.begun) c u (s e l).anchor (x e l))
+            (agree e (r.locks e) i) (paths_in mark n D cells w e) (of_worker e w.trace.begun) c u (s e l).anchor (x e l))
 
   -- ---- a loss
 
@@ -203,7 +204,7 @@ module _ (mark n D : ℕ) (cells : List ℕ) where
       → Cut w → Cut v
   lost-cut w v b o t x e l =
       rw (b, o, passage-lost mark n D cells w v e t, trail-lost w v e t)
-      (losing-cut (pathsIn mark n D cells w e) (passage_of e w.trace.events).now, (x e l).1)
+      (losing-cut (paths_in mark n D cells w e) (passage_of e w.trace.events).now, (x e l).1)
 
   recovered-run : (w : Traced) → Worth mark n D cells w → Moored mark n D cells w → Cut w → Run (recovered mark n w)
   recovered-run w k m x e l =
@@ -213,8 +214,8 @@ module _ (mark n D : ℕ) (cells : List ℕ) where
       rw (recovered-cursors mark n D cells w k e l, passage-lost mark n D cells w v e refl, trail-lost w v e refl)
       (record {
         at =
-            lost-treads (memory v (field Pc e)) (memory v (field Count e)) (code_in n (memory v) e) (pathsIn mark n D cells w e) (of_worker e w.trace.begun) 0
-            (w.trace.last e) (λ s. []) (λ s. []) [] [] c.ends c.now c.spans (resumed n (memory w) e) (target_turn (namedOp n (memory w) e))
+            lost-treads (memory v (field Pc e)) (memory v (field Count e)) (code_in n (memory v) e) (paths_in mark n D cells w e) (of_worker e w.trace.begun) 0
+            (w.trace.last e) (λ s. []) (λ s. []) [] [] c.ends c.now c.spans (resumed n (memory w) e) (target_turn (named_op n (memory w) e))
             (recovered-held mark n D cells w k e (m e l))
             (λ s q.
             let was : memory w (field Pc e) % 2 ^ 63 ≡ suc s = rw (← pc) q in (
@@ -246,7 +247,7 @@ module _ (mark n D : ℕ) (cells : List ℕ) where
             };
         recover = λ w k left a x. record { spanning = K.recover w k left a x.moored; run = recovered-run w k x.moored x.cut };
         recover-cut = λ w j k a x. record { moored = K.recover-cut w j k a x.moored; cut = lost-cut w (recovered mark n w) refl refl refl x.cut };
-        cut_off = λ w x. record { moored = K.cut_off w x.moored; cut = lost-cut w (afterCut mark n w) refl refl refl x.cut };
+        cut_off = λ w x. record { moored = K.cut_off w x.moored; cut = lost-cut w (after_cut mark n w) refl refl refl x.cut };
       }
 
 pub steps-exact : (mark n : ℕ) → 8 ≤ n → n ≤ 64 → StepsExact mark n
@@ -261,5 +262,5 @@ steps-exact mark n wide narrow m rest xs h l d low =
       run = λ e q. rw (heed-none e (passage 0 nowhere []), tread-none e (passage 0 nowhere []) (trail [] [])) (record { at = tt; overs = tt });
     } in
     let k = kept-list mark n wide narrow m rest (TreadsRun mark n D cells) (TreadsCut mark n D cells) (treads-keep mark n D cells wide) start xs h l in
-    both-map (Fits (pathsIn mark n D cells w d)) (StepExact mark n m w d) (passage_of d w.trace.events).spans (trail_of d w.trace.events).overs
+    both-map (Fits (paths_in mark n D cells w d)) (StepExact mark n m w d) (passage_of d w.trace.events).spans (trail_of d w.trace.events).overs
     (λ x us f. f.1) (k.1.cut d low).1

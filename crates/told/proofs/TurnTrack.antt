@@ -26,9 +26,9 @@ use Rattle.worklog.specs.declared.Passing.TheVariants.{Jump as PassedJump, Alrea
 use Rattle.plan.specs.Turn.{Outcome, stored, passed, waiting, resting, refused}
 use Rattle.claims.specs.Reference.{Given, follow, enqueue, initial}
 use Rattle.claims.specs.Events.{Event, moved, recorded, ended}
-use Rattle.claims.specs.Calls.{Traced, is_pc, jumps_by, turnBy}
+use Rattle.claims.specs.Calls.{Traced, is_pc, jumps_by, turn_by}
 use Rattle.claims.specs.Claims.{of_worker}
-use Rattle.claims.proofs.Invariant.{opAt, Sectioned, Lodged}
+use Rattle.claims.proofs.Invariant.{op_at, Sectioned, Lodged}
 use Rattle.claims.proofs.Turns.{Touches, Stepped}
 use Rattle.claims.proofs.Machine.{initial-more}
 use Rattle.claims.proofs.Entries.{apart_of}
@@ -42,7 +42,7 @@ use Rattle.told.proofs.Keeping.{Fed}
 use Rattle.told.proofs.Behind.{turn_memory, turn_cursor}
 use Rattle.told.proofs.Writes.{Writes, Says}
 use Rattle.told.proofs.Telling.{begins-own}
-use Rattle.told.proofs.Accounting.{eventsBy, events-by, own-by, touch-code, touch-other}
+use Rattle.told.proofs.Accounting.{events_by, events-by, own-by, touch-code, touch-other}
 use Rattle.told.proofs.Walking.{walk-append, walk-other, walk_more}
 use Rattle.told.proofs.Strides.{is_head, head-pc, is_logged, Coming, Stride, rested, waits, stores, frees, leaves, closes, jumps, begins, names}
 use Rattle.told.proofs.Strides.{finishes, ends}
@@ -50,7 +50,7 @@ use Rattle.told.proofs.WalkTurn.{longer, further-on, further-end, walk_first, wa
 use Rattle.told.proofs.Pacing.{Anchored, Paced, turned-anchored, within-paced, closes-paced}
 use Rattle.told.proofs.Strode.{named, finished, Adds, jumps-paced, begins-anchored, begins-paced, names-on, finishes-on, ends_on}
 use Rattle.told.proofs.Passages.{heed-append, heed-aside, heed-moved, heed-waited, heed-named, heed-finished}
-use Rattle.told.proofs.OnTrack.{OnTrack, track-same, pathsIn, Steady, plain-store, pc-store}
+use Rattle.told.proofs.OnTrack.{OnTrack, track-same, paths_in, Steady, plain-store, pc-store}
 
 -- ---- a worker's own turn
 
@@ -77,7 +77,7 @@ module _ (mark n D : ℕ) (cells : List ℕ) (w : Traced) (d : ℕ) (r : Running
   mine = of_worker d w.trace.begun
 
   abbrev trail : Paths
-  trail = pathsIn mark n D cells w d
+  trail = paths_in mark n D cells w d
 
   abbrev last : Given
   last = w.trace.last d
@@ -86,15 +86,15 @@ module _ (mark n D : ℕ) (cells : List ℕ) (w : Traced) (d : ℕ) (r : Running
   jumped = w.trace.jumps d
 
   -- the passage behind a turn
-  pub passage-by : (o : Outcome) (es : List Event) (c : Passage) → eventsBy mark n w d o ≡ es → heed_all d now es ≡ c
-      → passage_of d (turnBy mark n w d o).trace.events ≡ c
+  pub passage-by : (o : Outcome) (es : List Event) (c : Passage) → events_by mark n w d o ≡ es → heed_all d now es ≡ c
+      → passage_of d (turn_by mark n w d o).trace.events ≡ c
   passage-by o es c e f =
-      ap (passage_of d) (events-by mark n w d o) ∙ (heed-append d _ w.trace.events (eventsBy mark n w d o) ∙ (ap (heed_all d now) e ∙ f))
+      ap (passage_of d) (events-by mark n w d o) ∙ (heed-append d _ w.trace.events (events_by mark n w d o) ∙ (ap (heed_all d now) e ∙ f))
 
   -- a store of neither pc nor count
   plain-track :
       (p : Place) (v : ℕ) (c : Cursor) (l : ℕ) → is_head p ≡ false → 0 < w.world.left → Touches n rd d (r.locks d) p v l
-      → OnTrack n rd d trail mine (turned now now.now) jumped last c → Steady mark n D cells (turnBy mark n w d (stored p v c)) d (upd rd p v) c
+      → OnTrack n rd d trail mine (turned now now.now) jumped last c → Steady mark n D cells (turn_by mark n w d (stored p v c)) d (upd rd p v) c
   plain-track p v c l h left touch x =
       let s = plain-store mark n w d p v c left (head-pc p h) in
       let passage = passage-by (stored p v c) _ _ s.events (heed-moved d now _) in
@@ -105,7 +105,7 @@ module _ (mark n D : ℕ) (cells : List ℕ) (w : Traced) (d : ℕ) (r : Running
   -- a turn that passes
   passed-track :
       (why : Passing) (c : Cursor) → OnTrack n rd d trail mine (turned now now.now) (jumps_by why jumped) last c
-      → Steady mark n D cells (turnBy mark n w d (passed why c)) d rd c
+      → Steady mark n D cells (turn_by mark n w d (passed why c)) d rd c
   passed-track why c x =
       let passage = passage-by (passed why c) _ _ refl (heed-moved d now _) in
       rw (passage, but_same w.trace.jumps d (jumps_by why jumped)) x
@@ -115,9 +115,9 @@ module _ (mark n D : ℕ) (cells : List ℕ) (w : Traced) (d : ℕ) (r : Running
     pc-track :
         cond (eqb pc 0) (w.trace.begun ++ (last ∷ [])) w.trace.begun ≡ gs
         → paths_of d (initial n D cells gs) (w.trace.order ++ replicate (suc jumped) d) ≡ P
-        → passage_of d (turnBy mark n w d (stored (field Pc d) v c)).trace.events ≡ b
+        → passage_of d (turn_by mark n w d (stored (field Pc d) v c)).trace.events ≡ b
         → Anchored v count words P (of_worker d gs) b → Paced v count words P (of_worker d gs) 0 last c b.now
-        → Steady mark n D cells (turnBy mark n w d (stored (field Pc d) v c)) d (upd rd (field Pc d) v) c
+        → Steady mark n D cells (turn_by mark n w d (stored (field Pc d) v c)) d (upd rd (field Pc d) v) c
     pc-track e q k a m =
         let s = pc-store mark n w d (field Pc d) v c left refl in
         rw (s.begun, s.order, s.jumps, s.last, k, e, q, but_same w.trace.jumps d 0)
@@ -130,7 +130,7 @@ module _ (mark n D : ℕ) (cells : List ℕ) (w : Traced) (d : ℕ) (r : Running
   fed-followed m = initial-more n D cells w.trace.begun last w.trace.order r.reached.state r.reached.followed (rw m dl)
 
   pub first-path :
-      (a : ℕ) → last.worker ≡ d → get_or last.code 0 0 ≡ rd (step d 0) → pc ≡ 0 → opAt n rd d 0 ≡ Acquire a
+      (a : ℕ) → last.worker ≡ d → get_or last.code 0 0 ≡ rd (step d 0) → pc ≡ 0 → op_at n rd d 0 ≡ Acquire a
       → paths_of d (initial n D cells (w.trace.begun ++ (last ∷ []))) (w.trace.order ++ (d ∷ [])) ≡ longer trail (0 ∷ [])
   first-path a m code z o =
       let s = r.reached.state in
@@ -142,7 +142,7 @@ module _ (mark n D : ℕ) (cells : List ℕ) (w : Traced) (d : ℕ) (r : Running
       last a m code z o)
 
   later-path :
-      (x : Op) (s i t : ℕ) → Coming n rd d (r.locks d) s i t jumped → opAt n rd d i ≡ x
+      (x : Op) (s i t : ℕ) → Coming n rd d (r.locks d) s i t jumped → op_at n rd d i ≡ x
       → Adds pc count words trail mine jumped last
       (paths_of d (initial n D cells w.trace.begun) (w.trace.order ++ replicate (suc jumped) d)) s i (λ steps. further (longer trail steps) i x)
   later-path x s i t C o ws same =
@@ -174,16 +174,16 @@ module _ (mark n D : ℕ) (cells : List ℕ) (w : Traced) (d : ℕ) (r : Running
   -- the events of a store that names a step
   pub named-events :
       (v i t : ℕ) (c : Cursor) → cursor ≡ on i t → v ≢ 0 → 0 < w.world.left
-      → eventsBy mark n w d (stored (field Pc d) v c) ≡ moved d i ∷ recorded d i ∷ []
+      → events_by mark n w d (stored (field Pc d) v c) ≡ moved d i ∷ recorded d i ∷ []
   named-events v i t c q z left = (pc-store mark n w d (field Pc d) v c left refl).events ∙ here
     where
       here : moved d (step_no cursor) ∷ cond (eqb v 0) (ended d) (recorded d (step_no cursor)) ∷ [] ≡ moved d i ∷ recorded d i ∷ []
       here = rw (ne_eqb v 0 z, q)
 
   begins-track :
-      (a : ℕ) → cursor ≡ on 0 4 → 0 < w.world.left → pc ≡ 0 → Sectioned n rd d → Lodged n rd d last → opAt n rd d 0 ≡ Acquire a → jumped ≡ 0
+      (a : ℕ) → cursor ≡ on 0 4 → 0 < w.world.left → pc ≡ 0 → Sectioned n rd d → Lodged n rd d last → op_at n rd d 0 ≡ Acquire a → jumped ≡ 0
       → OnTrack n rd d trail mine now jumped last (on 0 4)
-      → Steady mark n D cells (turnBy mark n w d (stored (field Pc d) (switched n rd d 0) (on 0 5))) d (upd rd (field Pc d) (switched n rd d 0)) (on 0 5)
+      → Steady mark n D cells (turn_by mark n w d (stored (field Pc d) (switched n rd d 0) (on 0 5))) d (upd rd (field Pc d) (switched n rd d 0)) (on 0 5)
   begins-track a q left z sec H o none x =
       let v = switched n rd d 0 in
       let c : 3 ≤ count = sec.valid.least in
@@ -206,9 +206,9 @@ module _ (mark n D : ℕ) (cells : List ℕ) (w : Traced) (d : ℕ) (r : Running
   same-begun s e = rw (ne_eqb pc 0 (λ z. omega arith))
 
   names-track :
-      (s i t : ℕ) → cursor ≡ on i t → 0 < w.world.left → Coming n rd d (r.locks d) s i t jumped → is_logged (opAt n rd d i) ≡ true
+      (s i t : ℕ) → cursor ≡ on i t → 0 < w.world.left → Coming n rd d (r.locks d) s i t jumped → is_logged (op_at n rd d i) ≡ true
       → OnTrack n rd d trail mine now jumped last (on i t)
-      → Steady mark n D cells (turnBy mark n w d (stored (field Pc d) (switched n rd d i) (on i (t + 1)))) d (upd rd (field Pc d) (switched n rd d i))
+      → Steady mark n D cells (turn_by mark n w d (stored (field Pc d) (switched n rd d i) (on i (t + 1)))) d (upd rd (field Pc d) (switched n rd d i))
       (on i (t + 1))
   names-track s i t q left C o k =
       let v = switched n rd d i in
@@ -217,7 +217,7 @@ module _ (mark n D : ℕ) (cells : List ℕ) (w : Traced) (d : ℕ) (r : Running
       let P = paths_of d (initial n D cells w.trace.begun) (w.trace.order ++ replicate (suc jumped) d) in
       let events = named-events v i t (on i (t + 1)) q (switched-some n rd d i) left in
       let up : s < i = omega (arith, jumps-rise n rd d C.sectioned.valid (suc s) C.leaps) in
-      let x = opAt n rd d i in
+      let x = op_at n rd d i in
       let adds = adds_on P s i _ _ (λ l. further-on (longer trail l) i x (no_finish x o)) (later-path x s i t C refl) in
       let y = names-on pc count words trail mine jumped last v P s i t C.named.pc up C.below
       (switched-names n rd d i (omega arith)) o adds now.ends now.now now.spans k.anchor k.pace in
@@ -225,9 +225,9 @@ module _ (mark n D : ℕ) (cells : List ℕ) (w : Traced) (d : ℕ) (r : Running
       (passage-by (stored (field Pc d) v (on i (t + 1))) _ _ events (heed-named d now i i)) y.0 y.1
 
   finishes-track :
-      (s i : ℕ) → cursor ≡ on i 1 → 0 < w.world.left → Coming n rd d (r.locks d) s i 1 jumped → opAt n rd d i ≡ Finish
+      (s i : ℕ) → cursor ≡ on i 1 → 0 < w.world.left → Coming n rd d (r.locks d) s i 1 jumped → op_at n rd d i ≡ Finish
       → OnTrack n rd d trail mine now jumped last (on i 1)
-      → Steady mark n D cells (turnBy mark n w d (stored (field Pc d) 0 (on i 2))) d (upd rd (field Pc d) 0) (on i 2)
+      → Steady mark n D cells (turn_by mark n w d (stored (field Pc d) 0 (on i 2))) d (upd rd (field Pc d) 0) (on i 2)
   finishes-track s i q left C o x =
       let P = paths_of d (initial n D cells w.trace.begun) (w.trace.order ++ replicate (suc jumped) d) in
       let events = (pc-store mark n w d (field Pc d) 0 (on i 2) left refl).events in
@@ -240,7 +240,7 @@ module _ (mark n D : ℕ) (cells : List ℕ) (w : Traced) (d : ℕ) (r : Running
 
   pub own-track :
       (c : Cursor) (o : Outcome) → Stride n rd d last (r.locks d) jumped c o → cursor ≡ c → Stepped n rd d last (r.locks d) jumped o → Fed w o
-      → OnTrack n rd d trail mine now jumped last c → Steady mark n D cells (turnBy mark n w d o) d (turn_memory rd o) (turn_cursor c o)
+      → OnTrack n rd d trail mine now jumped last c → Steady mark n D cells (turn_by mark n w d o) d (turn_memory rd o) (turn_cursor c o)
   own-track _ _ rested q st fed x = x
   own-track _ _ (waits i t b) q st fed x = rw (passage-by (waiting b) _ _ refl (heed-waited d now b)) x
   own-track _ _ (stores i t p v h more) q (l, touch, ph) fed x =
@@ -291,7 +291,7 @@ module _ (mark n D : ℕ) (cells : List ℕ) (w : Traced) (d : ℕ) (r : Running
     pub path-aside :
         (starts : Bool) → (starts ≡ true → last.worker ≡ d) → (k : ℕ)
         → paths_of e (initial n D cells (cond starts (w.trace.begun ++ (last ∷ [])) w.trace.begun)) (w.trace.order ++ replicate k d)
-        ≡ pathsIn mark n D cells w e
+        ≡ paths_in mark n D cells w e
     path-aside true m k =
         let s = r.reached.state in
         walk-append e (paths [] []) (initial n D cells (w.trace.begun ++ (last ∷ []))) (enqueue n s last) w.trace.order (replicate k d)
@@ -309,15 +309,15 @@ module _ (mark n D : ℕ) (cells : List ℕ) (w : Traced) (d : ℕ) (r : Running
     begun-aside true m = of-snoc-other e w.trace.begun last (λ q. i (sym q ∙ m refl))
     begun-aside false m = refl
 
-    pub passage-aside : (o : Outcome) → passage_of e (turnBy mark n w d o).trace.events ≡ passage_of e w.trace.events
+    pub passage-aside : (o : Outcome) → passage_of e (turn_by mark n w d o).trace.events ≡ passage_of e w.trace.events
     passage-aside o =
         ap (passage_of e) (events-by mark n w d o)
-        ∙ (heed-append e _ w.trace.events (eventsBy mark n w d o) ∙ heed-aside e _ (eventsBy mark n w d o) (own-by mark n w d o e i))
+        ∙ (heed-append e _ w.trace.events (events_by mark n w d o) ∙ heed-aside e _ (events_by mark n w d o) (own-by mark n w d o e i))
 
     -- a store, of the pc or not
     store-aside :
         (p : Place) (v : ℕ) (c x : Cursor) → 0 < w.world.left → Writes n rd d last p v → (b : Bool) → is_pc p ≡ b → Steady mark n D cells w e (upd rd p v) x
-        → Steady mark n D cells (turnBy mark n w d (stored p v c)) e (upd rd p v) x
+        → Steady mark n D cells (turn_by mark n w d (stored p v c)) e (upd rd p v) x
     store-aside p v c x left says false h k =
         let s = plain-store mark n w d p v c left h in rw (s.begun, s.order, s.jumps, s.last, passage-aside (stored p v c)) k
     store-aside p v c x left says true h k =
@@ -337,7 +337,7 @@ module _ (mark n D : ℕ) (cells : List ℕ) (w : Traced) (d : ℕ) (r : Running
 
     pub other-track :
         (o : Outcome) (x : Cursor) → Stepped n rd d last (r.locks d) jumped o → Says n rd d last o → Fed w o → Steady mark n D cells w e rd x
-        → Steady mark n D cells (turnBy mark n w d o) e (turn_memory rd o) x
+        → Steady mark n D cells (turn_by mark n w d o) e (turn_memory rd o) x
     other-track (stored p v c) x (l, touch, ph) says fed k =
         store-aside p v c x (fed refl) says (is_pc p) refl
         (track-same n rd (upd rd p v) e (touch-other n rd d (r.locks d) p v l touch e i Pc) (touch-other n rd d (r.locks d) p v l touch e i Count)

@@ -15,7 +15,7 @@ use Rattle.told.proofs.Walking.{walk_none}
 use Rattle.told.proofs.WalkTurn.{all_map}
 use Rattle.told.proofs.Pacing.{StartsOn, Accords}
 use Rattle.told.proofs.Passages.{heed-none}
-use Rattle.told.proofs.OnTrack.{pathsIn}
+use Rattle.told.proofs.OnTrack.{paths_in}
 use Rattle.told.proofs.Spanning.{Spanning, Moored, spanning-keeps}
 
 module _ (mark n : ℕ) (wide : 8 ≤ n) (narrow : n ≤ 64) (m : Image) (rest : Rested mark n m) where
@@ -35,7 +35,7 @@ on-path : (code : Code) (p : List ℕ) (b : Start) → StartsOn code b p → OnP
 on-path code p first c = tt
 on-path code p (resumed s) c = c.0
 
-accords-exact : (mark n : ℕ) (m : Image) (w : Traced) (d : ℕ) (x : Span) → Accords (pathsIn mark n (workers m) (cells_of m) w d) (of_worker d w.trace.begun) x
+accords-exact : (mark n : ℕ) (m : Image) (w : Traced) (d : ℕ) (x : Span) → Accords (paths_in mark n (workers m) (cells_of m) w d) (of_worker d w.trace.begun) x
     → Exact mark n m w d x
 accords-exact mark n m w d x (l, g, k, t, c) = record { begun = (l, g); ended = k; named = on-path _ _ x.start c; turns = t }
 

@@ -22,17 +22,17 @@ use Rattle.working.specs.declared.Cursors.{Cursors}
 use Rattle.intake.specs.declared.Submitted.{Submitted}
 use Rattle.intake.specs.declared.Submitted.TheVariants.{Taken, Refused}
 use Rattle.working.specs.Cursor.{cursor_at}
-use Rattle.plan.specs.Turn.{stored, turnAt}
+use Rattle.plan.specs.Turn.{stored, turn_at}
 use Rattle.intake.specs.Submit.{assigns, submission, submit_answer, submit_leaves}
 use Rattle.repair.specs.Plan.{◌≔◌, when, rows, unbegun, intended, intend, withdraw, relock, relocks, unlock, plan}
 use Rattle.owed.specs.Owed.{owed}
 use Rattle.recovery.specs.Recovery.{Recovered, accepted, rejected, by_first, recovery}
-use Rattle.resuming.specs.Resumed.{resumedAll}
+use Rattle.resuming.specs.Resumed.{resumed_all}
 use Rattle.soundness.specs.declared.Refusal.TheVariants.{Image as ImageRefused, Record, Lock}
-use Rattle.soundness.specs.Sound.{badLock, unsound}
-use Rattle.claims.specs.Calls.{Traced, recoveredBy, Call, submits, turns, runs, recovers}
+use Rattle.soundness.specs.Sound.{bad_lock, unsound}
+use Rattle.claims.specs.Calls.{Traced, recovered_by, Call, submits, turns, runs, recovers}
 use Rattle.claims.specs.Calls.{Move, whole, cut, call, lent, move, recovering, from, legal, callable, machine}
-use Rattle.told.specs.Moments.{moment, Each, turnless, inRounds, inCall, inMove, inList, Guarded, UntouchedAlways}
+use Rattle.told.specs.Moments.{moment, Each, turnless, in_rounds, in_call, in_move, in_list, Guarded, UntouchedAlways}
 use Rattle.claims.proofs.Turns.{Touches, own_cell, Stepped}
 use Rattle.claims.proofs.OwnTurn.{own_turn}
 use Rattle.told.proofs.Writes.{Says, turn-writes}
@@ -124,9 +124,9 @@ module _ (mark n : ℕ) where
   recovery-aside m =
       let rd = at n m in
       let D = workers m in
-      found-aside (header_ok mark n m) (unsound n rd D 0 D) (badLock n rd D 0 64) (plan n rd D) (resumedAll n rd D) (plan-aside n rd D)
+      found-aside (header_ok mark n m) (unsound n rd D 0 D) (bad_lock n rd D 0 64) (plan n rd D) (resumed_all n rd D) (plan-aside n rd D)
 
-  recover-leaves : (w : Traced) (x : Recovered) → AsideOf x → cells_of (recoveredBy mark n w x).world.image ≡ cells_of w.world.image
+  recover-leaves : (w : Traced) (x : Recovered) → AsideOf x → cells_of (recovered_by mark n w x).world.image ≡ cells_of w.world.image
   recover-leaves w (accepted ss cs) a = a w.world.left w.world.image
   recover-leaves w (rejected r) a = refl
 
@@ -151,7 +151,7 @@ module _ (mark n D : ℕ) (cells : List ℕ) where
       let cursor = cursor_at w.world.cursors d in
       let j = w.trace.jumps d in
       let ph = r.live.phase d l in
-      let here : turnAt n rd d cursor ≡ stored (cell x) v c = sym (outcome-below mark n D cells w d r.reached l) ∙ e in
+      let here : turn_at n rd d cursor ≡ stored (cell x) v c = sym (outcome-below mark n D cells w d r.reached l) ∙ e in
       let stepped = own_turn n rd d g cursor (r.locks d) j ph (λ b k h. r.live.locked b d k l h) (λ b k h. (r.live.owner b d k h).1) in
       let (locks', touches, then) = subst (Stepped n rd d g (r.locks d) j) here stepped in
       let (below, held) = touched-cell n rd d (r.locks d) x v locks' touches in
@@ -164,7 +164,7 @@ module _ (mark n D : ℕ) (cells : List ℕ) where
 
   -- ---- runs and calls
 
-  rounds-guarded : (r : ℕ) (w : Traced) → Cutting mark n D cells w → Each (Guarded mark n) (inRounds mark n r D w)
+  rounds-guarded : (r : ℕ) (w : Traced) → Cutting mark n D cells w → Each (Guarded mark n) (in_rounds mark n r D w)
   rounds-guarded =
       rounds-each mark n D (Cutting mark n D cells) (Guarded mark n) (λ w d l c. cutting-turned mark n D cells w d l c)
       (λ w d l c. caught-guarded w d l c)
@@ -176,8 +176,8 @@ module _ (mark n D : ℕ) (cells : List ℕ) where
       by true h = running-guarded w d r (ltb-true d D h)
       by false h = λ x v c e left. let a = outcome-above mark n D cells w d r.reached h in let z : ◌≡◌ {A = ℕ} 0 1 = cc in absurd (omega arith)
 
-  call-guarded : (c : Call) (w : Traced) → Running mark n D cells w → Each (Guarded mark n) (inCall mark n c w)
-  unfolding inCall
+  call-guarded : (c : Call) (w : Traced) → Running mark n D cells w → Each (Guarded mark n) (in_call mark n c w)
+  unfolding in_call
   call-guarded (submits d k args ws) w r = tt
   call-guarded (turns d) w r = (turn-guarded w d r, tt)
   call-guarded (runs t) w r = rw (r.reached.header, r.reached.many) (rounds-guarded t w (inl r))
@@ -188,29 +188,29 @@ module _ (mark n D : ℕ) (cells : List ℕ) where
   -- a call lent k stores; where a recovery is owing the call is one, and makes no turn
   lent-guarded :
       (b : Bool) (k : ℕ) (c : Call) (w : Traced) → (not b || recovering c) ≡ true → Good mark n D cells b w
-      → Each (Guarded mark n) (inCall mark n c (lent mark n k w))
-  unfolding inCall
+      → Each (Guarded mark n) (in_call mark n c (lent mark n k w))
+  unfolding in_call
   lent-guarded false k c w h g = call-guarded c (lent mark n k w) (running-lent mark n D cells k w g)
   lent-guarded true k c w h g = rw (recovers-only mark n D cells true c h refl) tt
 
   list-guarded :
       (b : Bool) (xs : List Move) (w : Traced) → 8 ≤ n → n ≤ 64 → machine xs ≡ true → legal b xs ≡ true → Good mark n D cells b w
-      → Each (Guarded mark n) (inList mark n xs w)
-  unfolding inList inMove legal machine
+      → Each (Guarded mark n) (in_list mark n xs w)
+  unfolding in_list in_move legal machine
   list-guarded b [] w wide narrow h l g = tt
   list-guarded b (whole c ∷ xs) w wide narrow h l g =
       let p = and_left (callable c) (machine xs) h in
       let ps = and_right (callable c) (machine xs) h in
       let q = and_left (not b || recovering c) (legal false xs) l in
       let qs = and_right (not b || recovering c) (legal false xs) l in
-      each_append (Guarded mark n) (inMove mark n (whole c) w) (inList mark n xs (move mark n (whole c) w)) (lent-guarded b (plenty mark n D cells) c w q g)
+      each_append (Guarded mark n) (in_move mark n (whole c) w) (in_list mark n xs (move mark n (whole c) w)) (lent-guarded b (plenty mark n D cells) c w q g)
       (list-guarded false xs (move mark n (whole c) w) wide narrow ps qs (whole-good mark n D cells b c w wide narrow p q g))
   list-guarded b (cut k c ∷ xs) w wide narrow h l g =
       let p = and_left (callable c) (machine xs) h in
       let ps = and_right (callable c) (machine xs) h in
       let q = and_left (not b || recovering c) (legal true xs) l in
       let qs = and_right (not b || recovering c) (legal true xs) l in
-      each_append (Guarded mark n) (inMove mark n (cut k c) w) (inList mark n xs (move mark n (cut k c) w)) (lent-guarded b k c w q g)
+      each_append (Guarded mark n) (in_move mark n (cut k c) w) (in_list mark n xs (move mark n (cut k c) w)) (lent-guarded b k c w q g)
       (list-guarded true xs (move mark n (cut k c) w) wide narrow ps qs (cut-good mark n D cells b k c w wide p q g))
 
 pub untouched-always : (mark n : ℕ) → 8 ≤ n → n ≤ 64 → UntouchedAlways mark n

@@ -24,9 +24,9 @@ use Rattle.working.specs.Cursor.{Cursor}
 use Rattle.worklog.specs.Log.{code_in, word_in}
 use Rattle.needs.specs.Path.{turns_along}
 use Rattle.claims.specs.Reference.{Given, Job, job, State, state, read_in, onto, advance, follow, start, enqueue}
-use Rattle.claims.proofs.Invariant.{opAt, held_at, Jumps, stay, leap, Live, JobOf, Mirrors}
+use Rattle.claims.proofs.Invariant.{op_at, held_at, Jumps, stay, leap, Live, JobOf, Mirrors}
 use Rattle.claims.proofs.Jumping.{standing, jumps-follow}
-use Rattle.claims.proofs.Entries.{named-pc, named_step}
+use Rattle.claims.proofs.Entries.{named-pc, named_step_lem}
 use Rattle.claims.proofs.Apart.{Busy, busy-between, reads_same}
 use Rattle.told.specs.Paths.{Paths, paths, further, gone, entered, then_on, walk}
 use Rattle.told.specs.Turns.{All}
@@ -94,7 +94,7 @@ longer p xs = paths p.ended (p.under ++ xs)
 
 module _ (n : ℕ) (rd : Memory) (d : ℕ) (val : Valid n (rd (field Count d)) (code_in n rd d)) (i : ℕ) where
   -- a jump goes forward
-  leap-on : (k a b : ℕ) → k < rd (field Count d) → opAt n rd d k ≡ Jump a b → k < cond (eqb (word_in n rd d a) 0) b (suc k)
+  leap-on : (k a b : ℕ) → k < rd (field Count d) → op_at n rd d k ≡ Jump a b → k < cond (eqb (word_in n rd d a) 0) b (suc k)
   leap-on k a b l o = by (eqb (word_in n rd d a) 0)
     where
       by : (z : Bool) → k < cond z b (suc k)
@@ -121,7 +121,7 @@ module _ (n : ℕ) (rd : Memory) (d : ℕ) (val : Valid n (rd (field Count d)) (
     at-step k = get_or-set_same S.queues d (job c k o h ∷ []) [] room
 
     -- one more step, with its instruction
-    pub gone_at : (q : Paths) (k : ℕ) (x : Op) → k < rd (field Count d) → opAt n rd d k ≡ x → gone q (get_or (standing S d c o h k).queues d []) ≡ further q k x
+    pub gone_at : (q : Paths) (k : ℕ) (x : Op) → k < rd (field Count d) → op_at n rd d k ≡ x → gone q (get_or (standing S d c o h k).queues d []) ≡ further q k x
     gone_at q k x l e = rw (at-step k, code k l, e)
 
     jumped : {j k : ℕ} → Jumps n rd d i j k → Jumped j k
@@ -150,7 +150,7 @@ module _ (n D : ℕ) (rd : Memory) (cursor : ℕ → Cursor) (locks jumps : ℕ 
     (S : State) (M : Mirrors n D rd S) (p : Paths) where
   -- a section's first instruction, with which it is fed
   pub walk_first :
-      (g : Given) (a : ℕ) → g.worker ≡ d → get_or g.code 0 0 ≡ rd (step d 0) → rd (field Pc d) ≡ 0 → opAt n rd d 0 ≡ Acquire a
+      (g : Given) (a : ℕ) → g.worker ≡ d → get_or g.code 0 0 ≡ rd (step d 0) → rd (field Pc d) ≡ 0 → op_at n rd d 0 ≡ Acquire a
       → walk d p (enqueue n S g) (d ∷ []) ≡ longer p (0 ∷ [])
   walk_first g a mine code z o =
       let q : get_or (enqueue n S g).queues d [] ≡ start n g ∷ [] =
@@ -162,7 +162,7 @@ module _ (n D : ℕ) (rd : Memory) (cursor : ℕ → Cursor) (locks jumps : ℕ 
   module _ (words : Code) (same : (x : ℕ) → x < rd (field Count d) → words x ≡ rd (step d x)) where
     pub record PathGrows (s i j : ℕ) : Type 0 where
       pub steps : List ℕ
-      pub walks : walk d p S (replicate (suc j) d) ≡ further (longer p steps) i (opAt n rd d i)
+      pub walks : walk d p S (replicate (suc j) d) ≡ further (longer p steps) i (op_at n rd d i)
       pub turns : turns_along words steps ≡ j
       pub inside : All (FromTo (suc s) i) steps
       pub chained : steps ≡ chain n rd d (suc s) j
@@ -178,7 +178,7 @@ module _ (n D : ℕ) (rd : Memory) (cursor : ℕ → Cursor) (locks jumps : ℕ 
             let val = C.sectioned.valid in
             let room : d < length S.queues = rw M.workers l in
             let e : onto S d b [] ≡ S = ap (state S.cells) (rw (← q) (set-get_or S.queues d [])) in
-            let f : b.next ≡ suc s = J.next ∙ ap suc (named_step n rd d s C.named.pc) in
+            let f : b.next ≡ suc s = J.next ∙ ap suc (named_step_lem n rd d s C.named.pc) in
             let here : S ≡ standing S d b.code b.own b.held (suc s) =
             sym e ∙ ap (λ (x : ℕ). onto S d (job b.code x b.own b.held) []) f in
             let reads = reads_same n D rd cursor locks jumps given L d s l B C.made S b M J in
@@ -190,7 +190,7 @@ module _ (n D : ℕ) (rd : Memory) (cursor : ℕ → Cursor) (locks jumps : ℕ 
                   ap (λ (y : State). walk d p y (replicate (suc j) d)) here
                   ∙ (walk-last d p j (standing S d b.code b.own b.held (suc s)) (standing S d b.code b.own b.held i) follows
                   ∙ rw x.walks
-                  (gone_at n rd d val (suc s) S b.code b.own b.held room J.code reads words same p (longer p x.steps) i (opAt n rd d i)
+                  (gone_at n rd d val (suc s) S b.code b.own b.held room J.code reads words same p (longer p x.steps) i (op_at n rd d i)
                   C.below refl));
               turns = x.turns;
               inside = x.inside;

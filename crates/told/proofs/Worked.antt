@@ -13,17 +13,17 @@ use Rattle.code.specs.Op.{op_of, eval}
 use Rattle.code.specs.Form.{in_range, well_formed, held_after}
 use Rattle.section.specs.Check.{held_before, first_of, form_of, use_of, check}
 use Rattle.working.specs.Cursor.{cursor_at, set_at, all_idle}
-use Rattle.worklog.specs.Log.{operand, second, spareAddr, spareVal, activeAddr, activeVal, switched}
-use Rattle.plan.specs.Turn.{ready, turnAt}
+use Rattle.worklog.specs.Log.{operand, second, spare_addr, spare_val, active_addr, active_val, switched}
+use Rattle.plan.specs.Turn.{ready, turn_at}
 use Rattle.working.specs.World.{world}
 use Rattle.turn.specs.Call.{outcome_at, outcome}
 use Rattle.formatting.specs.Format.{formatted}
 use Rattle.intake.specs.Submit.{assigns, submission, free, submit_answer}
-use Rattle.owed.specs.Owed.{covers, namedStep, namedOp, owed, claimants}
-use Rattle.soundness.specs.Sound.{sectionOk, pcOk, sound, unsound, lock_ok, badLock}
+use Rattle.owed.specs.Owed.{covers, named_step, named_op, owed, claimants}
+use Rattle.soundness.specs.Sound.{section_ok, pc_ok, sound, unsound, lock_ok, bad_lock}
 use Rattle.resuming.specs.Resumed.{resumed}
 use Rattle.repair.specs.Plan.{intended}
-use Rattle.resuming.specs.Resumed.{resumedAll}
+use Rattle.resuming.specs.Resumed.{resumed_all}
 use Rattle.repair.specs.Plan.{rows, intend, withdraw, relocks, unlock, plan}
 use Rattle.recovery.specs.Recovery.{recovery}
 use Rattle.claims.specs.Calls.{Traced, traced, forgetful, submits, turns, recovers, whole, cut, call, move}
@@ -42,11 +42,11 @@ unfolding entry highest op_of eval in_range well_formed held_after held_before f
 in_section = 0
 
 in_turn : ℕ
-unfolding cursor_at set_at all_idle operand second spareAddr spareVal activeAddr activeVal switched ready turnAt outcome_at outcome call move
+unfolding cursor_at set_at all_idle operand second spare_addr spare_val active_addr active_val switched ready turn_at outcome_at outcome call move
 in_turn = 0
 
 in_recovery : ℕ
-unfolding covers namedStep namedOp owed sectionOk pcOk sound resumed unsound claimants lock_ok badLock resumedAll intended
+unfolding covers named_step named_op owed section_ok pc_ok sound resumed unsound claimants lock_ok bad_lock resumed_all intended
 in_recovery = 0
 
 -- the plan in one pass
@@ -62,10 +62,10 @@ plan-rows rd = refl
 abbrev by_plan : Traced → Traced
 by_plan w =
     let rd = at 8 w.world.image in
-    traced (world (put_all 8 (2 ^ 64 - 1) w.world.image (plan_rows rd)) (resumedAll 8 rd 1) (2 ^ 64 - 1 - length (plan_rows rd))) (forgetful w.trace)
+    traced (world (put_all 8 (2 ^ 64 - 1) w.world.image (plan_rows rd)) (resumed_all 8 rd 1) (2 ^ 64 - 1 - length (plan_rows rd))) (forgetful w.trace)
 
 recovered : (w : Traced) → workers w.world.image ≡ 1 → header_ok 1 8 w.world.image ≡ true
-    → unsound 8 (at 8 w.world.image) 1 0 1 ≡ [] → badLock 8 (at 8 w.world.image) 1 0 64 ≡ []
+    → unsound 8 (at 8 w.world.image) 1 0 1 ≡ [] → bad_lock 8 (at 8 w.world.image) 1 0 64 ≡ []
     → move 1 8 (whole recovers) w ≡ by_plan w
 unfolding move call recovery
 recovered w one h s l = rw (h, one, s, l, plan-rows (at 8 w.world.image))

@@ -5,7 +5,7 @@ use Rattle.std.specs.Prelude.{ℕ, ◌<◌, ◌≤◌, ◌≡◌, ◌≢◌, tru
 use Rattle.image.specs.Place.{Place, field, Store}
 use Rattle.image.specs.Image.{Image, index_of, at, workers}
 use Rattle.formatting.specs.Format.{formatted}
-use Rattle.worklog.specs.Log.{activeAddr, activeVal}
+use Rattle.worklog.specs.Log.{active_addr, active_val}
 use Rattle.working.specs.declared.Cursors.{Cursors}
 use Rattle.working.specs.Cursor.{Cursor, all_idle}
 use Rattle.plan.specs.Turn.{stored}
@@ -13,7 +13,7 @@ use Rattle.turn.specs.Call.{outcome}
 use Rattle.recovery.specs.Recovery.{accepted, recovery}
 use Rattle.claims.specs.Calls.{Traced, recovers, Move, call, lent, from, legal, ends_cut, machine}
 use Rattle.claims.specs.Claims.{Rested, Idle, Settled, Always, after}
-use Rattle.told.specs.Once.{last_or, pcOf, finished_of, startedAt, begunBy}
+use Rattle.told.specs.Once.{last_or, pc_of, finished_of, started_at, begun_by}
 
 -- mark: word 0 of an image; n: own words in a record
 module _ (mark n : ℕ) where
@@ -26,7 +26,7 @@ module _ (mark n : ℕ) where
   pub record ChangedOver (m : Image) (w : Traced) : Type 0 where
     pub settled : Settled mark n m w
     pub as_many : workers w.world.image ≡ workers m
-    pub finished : (d : ℕ) → d < workers m → finished_of mark n w d ≡ last_or (startedAt mark n m d) (begunBy mark n w d)
+    pub finished : (d : ℕ) → d < workers m → finished_of mark n w d ≡ last_or (started_at mark n m d) (begun_by mark n w d)
     pub record-idle : w.world.cursors ≡ all_idle
 
   unfoldable pub ChangesOver : Type 0
@@ -53,9 +53,9 @@ module _ (mark n : ℕ) where
   unfoldable pub LoggedStored : Type 0
   LoggedStored =
       (w : Traced) (ss : List Store) (cs : Cursors) → recovery mark n w.world.image ≡ accepted ss cs
-      → (d : ℕ) → d < workers w.world.image → pcOf mark n w d ≢ 0
+      → (d : ℕ) → d < workers w.world.image → pc_of mark n w d ≢ 0
       → let rd = at n w.world.image in
       (p : Place)
       × (c : Cursor)
-      × (outcome mark n (call mark n recovers w).world d ≡ stored p (rd (field (activeVal n rd d) d)) c)
-      × (index_of n p ≡ rd (field (activeAddr n rd d) d))
+      × (outcome mark n (call mark n recovers w).world d ≡ stored p (rd (field (active_val n rd d) d)) c)
+      × (index_of n p ≡ rd (field (active_addr n rd d) d))

@@ -7,7 +7,7 @@ use Rattle.working.specs.Cursor.{Cursor}
 use Rattle.plan.specs.Turn.{stored}
 use Rattle.turn.specs.Call.{outcome_at, outcome}
 use Rattle.run.specs.Run.{any_open}
-use Rattle.claims.specs.Calls.{Traced, Call, submits, turns, runs, recovers, Move, whole, cut, call, move, lent, turnedAt, refuses, from}
+use Rattle.claims.specs.Calls.{Traced, Call, submits, turns, runs, recovers, Move, whole, cut, call, move, lent, turned_at, refuses, from}
 use Rattle.claims.specs.Claims.{Always}
 
 -- a world, and the worker whose turn is next
@@ -32,27 +32,27 @@ turnless recovers = true
 -- mark: word 0 of an image; n: own words in a record
 module _ (mark n : ℕ) where
   -- the turns of k workers from d on, and then the rest's; a refused turn ends the run
-  unfoldable pub inRound : (Traced → List Moment) → Traced → ℕ → ℕ → List Moment
-  inRound rest w d zero = rest w
-  inRound rest w d (suc k) = moment w d ∷ cond (refuses mark n (outcome_at n w.world d)) [] (inRound rest (turnedAt mark n w d) (d + 1) k)
+  unfoldable pub in_round : (Traced → List Moment) → Traced → ℕ → ℕ → List Moment
+  in_round rest w d zero = rest w
+  in_round rest w d (suc k) = moment w d ∷ cond (refuses mark n (outcome_at n w.world d)) [] (in_round rest (turned_at mark n w d) (d + 1) k)
 
-  unfoldable pub inRounds : ℕ → ℕ → Traced → List Moment
-  inRounds zero D w = []
-  inRounds (suc r) D w = cond (any_open D 0 w.world.cursors) (inRound (inRounds r D) w 0 D) []
+  unfoldable pub in_rounds : ℕ → ℕ → Traced → List Moment
+  in_rounds zero D w = []
+  in_rounds (suc r) D w = cond (any_open D 0 w.world.cursors) (in_round (in_rounds r D) w 0 D) []
 
-  unfoldable pub inCall : Call → Traced → List Moment
-  inCall (submits d k args ws) w = []
-  inCall (turns d) w = moment w d ∷ []
-  inCall (runs r) w = cond (header_ok mark n w.world.image) (inRounds r (workers w.world.image) w) []
-  inCall recovers w = []
+  unfoldable pub in_call : Call → Traced → List Moment
+  in_call (submits d k args ws) w = []
+  in_call (turns d) w = moment w d ∷ []
+  in_call (runs r) w = cond (header_ok mark n w.world.image) (in_rounds r (workers w.world.image) w) []
+  in_call recovers w = []
 
-  unfoldable pub inMove : Move → Traced → List Moment
-  inMove (whole c) w = inCall c (lent mark n (2 ^ 64 - 1) w)
-  inMove (cut k c) w = inCall c (lent mark n k w)
+  unfoldable pub in_move : Move → Traced → List Moment
+  in_move (whole c) w = in_call c (lent mark n (2 ^ 64 - 1) w)
+  in_move (cut k c) w = in_call c (lent mark n k w)
 
-  unfoldable pub inList : List Move → Traced → List Moment
-  inList [] w = []
-  inList (x ∷ xs) w = inMove x w ++ inList xs (move mark n x w)
+  unfoldable pub in_list : List Move → Traced → List Moment
+  in_list [] w = []
+  in_list (x ∷ xs) w = in_move x w ++ in_list xs (move mark n x w)
 
   -- if the turn changes a cell, its worker's section is begun, and the owner word of the cell's lock names the worker
   abbrev pub Guarded : Moment → Type 0
@@ -62,7 +62,7 @@ module _ (mark n : ℕ) where
 
   -- every turn of the list is such, and no other call changes a cell, however many stores it is lent
   pub record Untouched (m : Image) (xs : List Move) : Type 0 where
-    pub turns : Each Guarded (inList xs (from m))
+    pub turns : Each Guarded (in_list xs (from m))
     pub others : (c : Call) → turnless c ≡ true → (w : Traced) → cells_of (call mark n c w).world.image ≡ cells_of w.world.image
 
   unfoldable pub UntouchedAlways : Type 0

@@ -67,8 +67,8 @@ Only d g (x ∷ xs) = OnlyCall d g (of_move x) × Only d g xs
 -- mark: word 0 of an image; n: own words in a record
 module _ (mark n : ℕ) where
   -- of worker d in a world: its pc, the number of its section, its last finished number, and what it answers about number k
-  abbrev pub pcOf : Traced → ℕ → ℕ
-  pcOf w d = at n w.world.image (field Pc d)
+  abbrev pub pc_of : Traced → ℕ → ℕ
+  pc_of w d = at n w.world.image (field Pc d)
 
   abbrev pub number_of : Traced → ℕ → ℕ
   number_of w d = at n w.world.image (field Number d)
@@ -80,11 +80,11 @@ module _ (mark n : ℕ) where
   standing w d k = standing_in (at n w.world.image) d k
 
   -- the number that worker d had finished last at the start, and the numbers it has begun
-  abbrev pub startedAt : Image → ℕ → ℕ
-  startedAt m d = at n m (field FinishedField d)
+  abbrev pub started_at : Image → ℕ → ℕ
+  started_at m d = at n m (field FinishedField d)
 
-  abbrev pub begunBy : Traced → ℕ → List ℕ
-  begunBy w d = numbers_of d w.trace.begun
+  abbrev pub begun_by : Traced → ℕ → List ℕ
+  begun_by w d = numbers_of d w.trace.begun
 
   -- ---- once
 
@@ -94,18 +94,18 @@ module _ (mark n : ℕ) where
     pub read : w.trace.begun ≡ begun_in w.trace.events
     pub within : (d : ℕ) → Within (of_worker d w.trace.begun) (of_worker d w.trace.taken)
     -- the numbers begun of one worker rise strictly, all above the finished number it started with
-    pub rises : (d : ℕ) → d < workers m → rising (startedAt m d) (begunBy w d) ≡ true
+    pub rises : (d : ℕ) → d < workers m → rising (started_at m d) (begun_by w d) ≡ true
 
   -- ---- told
 
   pub record Told (m : Image) (w : Traced) (d : ℕ) : Type 0 where
     -- the finished number is that of the last section begun, or the one it started with
-    pub at_rest : pcOf w d ≡ 0 → finished_of w d ≡ last_or (startedAt m d) (begunBy w d)
+    pub at_rest : pc_of w d ≡ 0 → finished_of w d ≡ last_or (started_at m d) (begun_by w d)
     -- the record's number is that of the last section begun
-    pub under-way : pcOf w d ≢ 0 → (begunBy w d ≢ []) × (number_of w d ≡ last_or (startedAt m d) (begunBy w d))
+    pub under-way : pc_of w d ≢ 0 → (begun_by w d ≢ []) × (number_of w d ≡ last_or (started_at m d) (begun_by w d))
     -- and where it is told to be finished, nothing of it is left to the reference machine but its finish
     pub to-finish :
-        pcOf w d ≢ 0 → number_of w d ≤ finished_of w d
+        pc_of w d ≢ 0 → number_of w d ≤ finished_of w d
         → (s : State)
         × (j : Job)
         × (follow (initial n (workers m) (cells_of m) w.trace.begun) w.trace.order ≡ some s)
@@ -115,9 +115,9 @@ module _ (mark n : ℕ) where
   -- ---- asked
 
   pub record Asked (m : Image) (w : Traced) (d k : ℕ) : Type 0 where
-    pub not-begun : standing w d k ≡ NotBegun → among k (begunBy w d) ≡ false
-    pub begun : standing w d k ≡ Begun → among k (begunBy w d) ≡ true
-    pub either : among k (begunBy w d) ≡ true → (standing w d k ≡ Begun) ⊎ (standing w d k ≡ Finished)
+    pub not-begun : standing w d k ≡ NotBegun → among k (begun_by w d) ≡ false
+    pub begun : standing w d k ≡ Begun → among k (begun_by w d) ≡ true
+    pub either : among k (begun_by w d) ≡ true → (standing w d k ≡ Begun) ⊎ (standing w d k ≡ Finished)
 
   -- demand 3, to a planner: after any list of calls and cuts, also right after a cut
   unfoldable pub OnceAlways : Type 0
@@ -134,7 +134,7 @@ module _ (mark n : ℕ) where
   BegunFinishes =
       Always mark n (λ m xs.
       (ys : List Move) → working ys ≡ true → 384 * workers m ≤ rounds_in ys
-      → (d k : ℕ) → d < workers m → among k (begunBy (after mark n m xs) d) ≡ true → standing (after mark n m (mended mark n xs ++ ys)) d k ≡ Finished)
+      → (d k : ℕ) → d < workers m → among k (begun_by (after mark n m xs) d) ≡ true → standing (after mark n m (mended mark n xs ++ ys)) d k ≡ Finished)
 
   -- ---- through: a section taken by an uncut submit, with no cut and no recovery behind it, is begun and finished
 
@@ -149,23 +149,23 @@ module _ (mark n : ℕ) where
   -- ---- retried
 
   -- a submit to worker d has the number one above its finished one
-  abbrev pub nextNumber : ℕ → Call → Traced → Bool
-  nextNumber d (submits e k args ws) w = not (eqb e d) || eqb k (finished_of w d + 1)
-  nextNumber d (turns e) w = true
-  nextNumber d (runs r) w = true
-  nextNumber d recovers w = true
+  abbrev pub next_number : ℕ → Call → Traced → Bool
+  next_number d (submits e k args ws) w = not (eqb e d) || eqb k (finished_of w d + 1)
+  next_number d (turns e) w = true
+  next_number d (runs r) w = true
+  next_number d recovers w = true
 
   -- and so has every one of the list, at its moment
   unfoldable pub in_turn : ℕ → List Move → Traced → Bool
   in_turn d [] w = true
-  in_turn d (x ∷ xs) w = nextNumber d (of_move x) w && in_turn d xs (move mark n x w)
+  in_turn d (x ∷ xs) w = next_number d (of_move x) w && in_turn d xs (move mark n x w)
 
   pub record Retried (m : Image) (w : Traced) (d : ℕ) : Type 0 where
     -- the numbers begun are consecutive
-    pub consecutive : begunBy w d ≡ up_from (startedAt m d) (length (begunBy w d))
+    pub consecutive : begun_by w d ≡ up_from (started_at m d) (length (begun_by w d))
     -- what is said to be finished is begun (and `Told` says what is left of it); what is begun and not under way is said to be finished
-    pub finished : (k : ℕ) → startedAt m d < k → standing w d k ≡ Finished → among k (begunBy w d) ≡ true
-    pub ended : (k : ℕ) → among k (begunBy w d) ≡ true → (pcOf w d ≡ 0) ⊎ (number_of w d ≢ k) → standing w d k ≡ Finished
+    pub finished : (k : ℕ) → started_at m d < k → standing w d k ≡ Finished → among k (begun_by w d) ≡ true
+    pub ended : (k : ℕ) → among k (begun_by w d) ≡ true → (pc_of w d ≡ 0) ⊎ (number_of w d ≢ k) → standing w d k ≡ Finished
 
   unfoldable pub RetriedAlways : Type 0
   RetriedAlways = Always mark n (λ m xs. (d : ℕ) → d < workers m → in_turn d xs (from m) ≡ true → Retried m (after mark n m xs) d)
@@ -174,6 +174,6 @@ module _ (mark n : ℕ) where
   unfoldable pub ExactlyOnce : Type 0
   ExactlyOnce =
       Always mark n (λ m xs.
-      (d : ℕ) → d < workers m → (g : Given) → startedAt m d < g.number → Only d g xs
+      (d : ℕ) → d < workers m → (g : Given) → started_at m d < g.number → Only d g xs
       → submit_answer mark n (after mark n m xs).world d g.number g.code ≡ Refused NumberRefused
       → of_worker d (after mark n m xs).trace.begun ≡ g ∷ [])

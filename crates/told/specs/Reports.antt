@@ -16,7 +16,7 @@ use Rattle.turn.specs.Call.{outcome}
 use Rattle.claims.specs.Events.{Event, taken, moved, waited, recorded, ended, lost}
 use Rattle.claims.specs.Calls.{Traced, step_of, Move, whole, cut, lent, move, from, plain, machine}
 use Rattle.claims.specs.Claims.{Rested, Always}
-use Rattle.told.specs.Moments.{Moment, Each, inCall}
+use Rattle.told.specs.Moments.{Moment, Each, in_call}
 
 -- an event of worker d, or a loss
 abbrev pub concerns : ℕ → Event → Bool
@@ -41,10 +41,10 @@ pub record SinceLoss (d : ℕ) (mine es : List Event) : Type 0 where
 -- mark: word 0 of an image; n: own words in a record
 module _ (mark n : ℕ) where
   -- the turns of a list's uncut calls
-  unfoldable pub inUncut : List Move → Traced → List Moment
-  inUncut [] w = []
-  inUncut (whole c ∷ xs) w = inCall mark n c (lent mark n (2 ^ 64 - 1) w) ++ inUncut xs (move mark n (whole c) w)
-  inUncut (cut k c ∷ xs) w = inUncut xs (move mark n (cut k c) w)
+  unfoldable pub in_uncut : List Move → Traced → List Moment
+  in_uncut [] w = []
+  in_uncut (whole c ∷ xs) w = in_call mark n c (lent mark n (2 ^ 64 - 1) w) ++ in_uncut xs (move mark n (whole c) w)
+  in_uncut (cut k c ∷ xs) w = in_uncut xs (move mark n (cut k c) w)
 
   -- if the turn is a release's that reports: the pc names its step, and since the last loss its worker has made the step's target store and
   -- nothing else
@@ -55,7 +55,7 @@ module _ (mark n : ℕ) where
       × SinceLoss t.worker (moved t.worker (step_of mark n t.now t.worker) ∷ []) t.now.trace.events
 
   unfoldable pub ReportsExplained : Type 0
-  ReportsExplained = Always mark n (λ m xs. Each Explained (inUncut xs (from m)))
+  ReportsExplained = Always mark n (λ m xs. Each Explained (in_uncut xs (from m)))
 
   -- a release's lock turn frees the lock
   abbrev pub Frees : Moment → Type 0
@@ -70,4 +70,4 @@ module _ (mark n : ℕ) where
 
   unfoldable pub ReleasesFree : Type 0
   ReleasesFree =
-      (m : Image) → Rested mark n m → (xs : List Move) → machine xs ≡ true → plain xs ≡ true → Each (λ t. Frees t × Quiet t) (inUncut xs (from m))
+      (m : Image) → Rested mark n m → (xs : List Move) → machine xs ≡ true → plain xs ≡ true → Each (λ t. Frees t × Quiet t) (in_uncut xs (from m))

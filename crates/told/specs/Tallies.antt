@@ -6,7 +6,7 @@ use Rattle.turn.specs.Call.{answer_of, outcome_at}
 use Rattle.turn.specs.Counted.{counted}
 use Rattle.run.specs.Run.{run_of}
 use Rattle.claims.specs.Calls.{Traced, runs}
-use Rattle.told.specs.Moments.{Moment, inCall}
+use Rattle.told.specs.Moments.{Moment, in_call}
 
 -- mark: word 0 of an image; n: own words in a record
 module _ (mark n : ℕ) where
@@ -17,4 +17,4 @@ module _ (mark n : ℕ) where
 
   -- in any world
   unfoldable pub RunsTallied : Type 0
-  RunsTallied = (r : ℕ) (w : Traced) → (run_of mark n w.world r).after.tally ≡ tallied none (inCall mark n (runs r) w)
+  RunsTallied = (r : ℕ) (w : Traced) → (run_of mark n w.world r).after.tally ≡ tallied none (in_call mark n (runs r) w)

@@ -7,7 +7,7 @@ use lib.Dec.{ltb}
 use borrow.Author.Tests.{lt-ltb}
 use Rattle.section.specs.declared.Verdict.{Verdict}
 use Rattle.section.specs.declared.Verdict.TheVariants.{Pass, Length, Malformed, Unbracketed, Unordered, Unguarded, Unlevel}
-use Rattle.section.specs.Check.{cause_of as verdictCause}
+use Rattle.section.specs.Check.{cause_of as verdict_cause}
 use Rattle.working.specs.declared.Refusal.{Refusal}
 use Rattle.working.specs.declared.Refusal.TheVariants.{Worker, Busy, Number, Section, Image, Cursor}
 use Rattle.working.specs.Refusal.{cause_of}
@@ -16,7 +16,7 @@ use Rattle.turn.specs.declared.Answer.TheVariants.{Stored, Passed, Waiting, Idle
 use Rattle.turn.specs.Call.{is_refused}
 use Rattle.turn.specs.Codes.{turn_code}
 
-pub verdict-below : (v : Verdict) → verdictCause v < 32
+pub verdict-below : (v : Verdict) → verdict_cause v < 32
 verdict-below Pass = omega arith
 verdict-below Length = omega arith
 verdict-below (Malformed i) = omega arith

@@ -15,7 +15,7 @@ use Rattle.code.specs.Inner.Fits.{fits}
 use Rattle.working.specs.Cursor.{Cursor, idle, on, step_no, turn_no, set_at, holding}
 use Rattle.working.specs.World.{World, world}
 use Rattle.worklog.specs.Log.{operand, code_in}
-use Rattle.plan.specs.Turn.{Outcome, stored, passed, waiting, resting, refused, logged, acquireTurn, finishTurn, opTurn, ready, turnAt}
+use Rattle.plan.specs.Turn.{Outcome, stored, passed, waiting, resting, refused, logged, acquire_turn, finish_turn, op_turn, ready, turn_at}
 use Rattle.worklog.specs.declared.Plan.TheVariants.{Take, Free}
 use Rattle.plan.specs.Inner.Plan.{store_plan, plan_of}
 use Rattle.plan.proofs.Planned.{ready-says}
@@ -45,12 +45,12 @@ module _ (n : ℕ) (rd : Memory) (d s : ℕ) where
   within-logged t p v next (suc (suc zero)) h = tt
   within-logged t p v next (suc (suc (suc j))) h = h
 
-  within-acquire : (a t : ℕ) → a < 64 → Within (acquireTurn n rd d a s t)
+  within-acquire : (a t : ℕ) → a < 64 → Within (acquire_turn n rd d a s t)
   within-acquire a zero h = tt
   within-acquire a (suc zero) h = either Within (eqb (rd (lock a)) 0) _ _ (λ e. h) (λ e. h)
   within-acquire a (suc (suc j)) h = within-logged (suc (suc j)) _ _ _ j tt
 
-  within-finish : (t : ℕ) → Within (finishTurn n rd d s t)
+  within-finish : (t : ℕ) → Within (finish_turn n rd d s t)
   within-finish zero = tt
   within-finish (suc zero) = tt
   within-finish (suc (suc t)) = tt
@@ -63,7 +63,7 @@ module _ (n : ℕ) (rd : Memory) (d s : ℕ) where
       by true e = ltb-true a 512 e
       by false e = tt
 
-  within-op : (t : ℕ) (x : Op) → fits n x → Within (opTurn n rd d s t x)
+  within-op : (t : ℕ) (x : Op) → fits n x → Within (op_turn n rd d s t x)
   within-op t (Acquire a) f = within-acquire a t f
   within-op t (Release a) f =
       either Within (ltb t 4) _ _ (λ e. within-logged t _ _ _ t tt)
@@ -74,8 +74,8 @@ module _ (n : ℕ) (rd : Memory) (d s : ℕ) where
   within-op t Unknown f = tt
 
 -- at any cursor: where it is not ready nothing is stored
-pub within-turn : (n : ℕ) (rd : Memory) (d : ℕ) (c : Cursor) → Within (turnAt n rd d c)
-unfolding turnAt
+pub within-turn : (n : ℕ) (rd : Memory) (d : ℕ) (c : Cursor) → Within (turn_at n rd d c)
+unfolding turn_at
 within-turn n rd d idle = tt
 within-turn n rd d (on s t) =
     either Within (ready n rd d s t) _ _ (λ e. within-op n rd d s t (op_of (code_in n rd d s)) (ready-says n rd d s t e).form) (λ e. tt)

@@ -10,7 +10,7 @@ use Rattle.working.specs.declared.Cursors.{Cursors}
 use Rattle.working.specs.Inner.At.{At}
 use Rattle.working.specs.Cursor.{on, set_at, holding}
 use Rattle.working.specs.World.{world}
-use Rattle.plan.specs.Turn.{ready, turnAt}
+use Rattle.plan.specs.Turn.{ready, turn_at}
 use Rattle.plan.specs.Inner.Plan.{plan_of}
 use Rattle.turn.specs.declared.Acted.{Acted}
 use Rattle.turn.specs.Call.{outcome_at}
@@ -19,9 +19,9 @@ use Rattle.working.proofs.Placed.{on-is, open_turn}
 use Rattle.plan.proofs.Planned.{ready-says}
 use Rattle.turn.proofs.Holding.{within-turn, plan-leaves, plan-in}
 
-module _ (n : ℕ) (m : Image) (d s t : ℕ) (p : Plan) (e : p ≡ plan_of n (turnAt n (at n m) d (on s t))) where
+module _ (n : ℕ) (m : Image) (d s t : ℕ) (p : Plan) (e : p ≡ plan_of n (turn_at n (at n m) d (on s t))) where
   pub plan-lock : did_lock (plan_did p)
-  plan-lock = rw e (plan-in n (turnAt n (at n m) d (on s t)) (within-turn n (at n m) d (on s t)))
+  plan-lock = rw e (plan-in n (turn_at n (at n m) d (on s t)) (within-turn n (at n m) d (on s t)))
 
   -- the image was m with so many stores left, and is v with the rest
   pub plan-acts : (left : ℕ) (x : Acted) (v : Image) (rest : ℕ) → ready n (at n m) d s t ≡ true → x.did ≡ plan_did p

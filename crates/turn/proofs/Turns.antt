@@ -20,7 +20,7 @@ use Rattle.working.specs.declared.Refusal.{Refusal}
 use Rattle.working.specs.declared.Refusal.TheVariants.{Worker, Image as ImageRefused, Cursor as CursorRefused}
 use Rattle.working.specs.Cursor.{Cursor, on, is_idle, step_no, turn_no, cursor_at, placed}
 use Rattle.worklog.specs.Log.{code_in}
-use Rattle.plan.specs.Turn.{Outcome, stored, passed, waiting, resting, refused, logged, acquireTurn, finishTurn, opTurn, ready, turnAt}
+use Rattle.plan.specs.Turn.{Outcome, stored, passed, waiting, resting, refused, logged, acquire_turn, finish_turn, op_turn, ready, turn_at}
 use Rattle.working.specs.World.{World}
 use Rattle.turn.specs.Call.{answer_of, leaves, outcome_at, outcome, is_refused}
 use Rattle.worklog.specs.declared.Plan.TheVariants.{Take, Free}
@@ -48,17 +48,17 @@ module _ (n : ℕ) (rd : Memory) (d s t : ℕ) where
   made-logged p v next (suc (suc (suc j))) = tt
 
 module _ (n : ℕ) (rd : Memory) (d s : ℕ) where
-  made-acquire : (a t : ℕ) → Made (acquireTurn n rd d a s t)
+  made-acquire : (a t : ℕ) → Made (acquire_turn n rd d a s t)
   made-acquire a zero = tt
   made-acquire a (suc zero) = either Made (eqb (rd (lock a)) 0) _ _ (λ e. tt) (λ e. tt)
   made-acquire a (suc (suc j)) = made-logged n rd d s (suc (suc j)) _ _ _ j
 
-  made-finish : (t : ℕ) → Made (finishTurn n rd d s t)
+  made-finish : (t : ℕ) → Made (finish_turn n rd d s t)
   made-finish zero = tt
   made-finish (suc zero) = tt
   made-finish (suc (suc t)) = tt
 
-  made-op : (t : ℕ) (x : Op) → fits n x → Made (opTurn n rd d s t x)
+  made-op : (t : ℕ) (x : Op) → fits n x → Made (op_turn n rd d s t x)
   made-op t (Acquire a) f = made-acquire a t
   made-op t (Release a) f =
       either Made (ltb t 4) _ _ (λ e. made-logged n rd d s t _ _ _ t)
@@ -69,13 +69,13 @@ module _ (n : ℕ) (rd : Memory) (d s : ℕ) where
   made-op t Unknown f = absurd f
 
   -- a turn that is ready is made
-  pub made-ready : (t : ℕ) → ready n rd d s t ≡ true → Made (turnAt n rd d (on s t))
-  unfolding turnAt
+  pub made-ready : (t : ℕ) → ready n rd d s t ≡ true → Made (turn_at n rd d (on s t))
+  unfolding turn_at
   made-ready t e = rw e (made-op t (op_of (code_in n rd d s)) (ready-says n rd d s t e).form)
 
 module _ (n : ℕ) where
   pub rests : (w : World) (d : ℕ) → is_idle (cursor_at w.cursors d) ≡ true → outcome_at n w d ≡ resting
-  unfolding outcome_at turnAt
+  unfolding outcome_at turn_at
   rests w d e = rw (idle-is (cursor_at w.cursors d) e)
 
   private-lock : (b v s t : ℕ) (z : Bool) → did_answer n (plan_did (cond z (Free b s t) (Take b v s t))) ≡ Stored (index_of n (lock b))
@@ -141,7 +141,7 @@ module _ (own : ℕ) (w : World) (d : ℕ) (f : Full w.cursors) (h : d < 8) wher
 
   -- not ready, it is refused
   pub refused-at : get_or w.cursors.turn d 0 ≢ 255 → tested own w.image w.cursors d ≡ false → outcome_at own w d ≡ refused (CursorRefused d)
-  unfolding outcome_at turnAt
+  unfolding outcome_at turn_at
   refused-at o e = rw (private-on o, e)
 
   -- so a worker that gets a turn is ready

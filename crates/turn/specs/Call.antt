@@ -6,7 +6,7 @@ use Rattle.image.specs.Image.{index_of, at, workers, header_ok, put}
 use Rattle.working.specs.declared.Refusal.TheVariants.{Worker, Image as ImageRefused}
 use Rattle.working.specs.Cursor.{cursor_at, holding, placed}
 use Rattle.working.specs.World.{World, world}
-use Rattle.plan.specs.Turn.{Outcome, stored, passed, waiting, resting, refused, turnAt}
+use Rattle.plan.specs.Turn.{Outcome, stored, passed, waiting, resting, refused, turn_at}
 use Rattle.turn.specs.declared.Answer.{Answer}
 use Rattle.turn.specs.declared.Answer.TheVariants.{Stored, Passed, Waiting, Idle, Refused}
 
@@ -37,7 +37,7 @@ leaves n w d (refused r) = w
 
 -- what worker d's turn does in a world whose header is right
 unfoldable pub outcome_at : ℕ → World → ℕ → Outcome
-outcome_at n w d = turnAt n (at n w.image) d (cursor_at w.cursors d)
+outcome_at n w d = turn_at n (at n w.image) d (cursor_at w.cursors d)
 
 -- and in any world: causes 10, 1, 11
 unfoldable pub outcome : ℕ → ℕ → World → ℕ → Outcome

@@ -2,17 +2,17 @@
 #![tactic(auto)]
 
 use code::Op;
-use worklog::{Passing, Plan};
 use plan::steps;
 use tally::Tally;
 use working::{Cursors, Refusal};
+use worklog::{Passing, Plan};
 
 pub mod codes;
 
 ghost use Rattle.std.specs.Prelude.{◌≡◌, true, ℕ, ◌≤◌};
 ghost use Rattle.image.specs.Image.{at};
 ghost use Rattle.image.specs.Inner.Inside.{Inside};
-ghost use Rattle.plan.specs.Turn.{ready, turnAt};
+ghost use Rattle.plan.specs.Turn.{ready, turn_at};
 ghost use Rattle.plan.specs.Inner.Plan.{plan_of};
 ghost use Rattle.working.specs.Inner.At.{At};
 ghost use Rattle.working.specs.Cursor.{on, set_at, holding};
@@ -129,7 +129,7 @@ pub fn turn_on(image: &mut [u64], d: usize, s: u8, t: u8, own: usize, left: &mut
 // What worker d's turn is to do at step s, turn t, which is ready: what `plan::next` says, by the same functions.
 fn planned(image: &[u64], d: usize, own: usize, s: u8, t: u8) -> Plan
     requires { (Inside own image.now d) × (ready own (at own image.now) d s t ≡ true) }
-    ensures { result ≡ plan_of own (turnAt own (at own image.now) d (on s t)) }
+    ensures { result ≡ plan_of own (turn_at own (at own image.now) d (on s t)) }
 {
     let w = image::read_step(image, d, s as usize, own);
     match code::op_of(w) {

@@ -1,6 +1,6 @@
 -- Document 01's numbers and values for refusals.
 use Rattle.std.specs.Prelude.{ℕ}
-use Rattle.section.specs.Check.{cause_of as sectionCause, step_of}
+use Rattle.section.specs.Check.{cause_of as section_cause, step_of}
 use Rattle.working.specs.declared.Refusal.{Refusal}
 use Rattle.working.specs.declared.Refusal.TheVariants.{Worker, Busy, Number, Section, Image, Cursor}
 
@@ -9,7 +9,7 @@ abbrev pub cause_of : Refusal → ℕ
 cause_of Worker = 1
 cause_of Busy = 2
 cause_of Number = 3
-cause_of (Section v) = sectionCause v
+cause_of (Section v) = section_cause v
 cause_of Image = 10
 cause_of (Cursor d) = 11
 

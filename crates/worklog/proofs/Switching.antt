@@ -5,7 +5,7 @@ use Rattle.image.specs.declared.Field.TheVariants.{Pc, Addr0, Val0, Addr1, Val1}
 use Rattle.image.specs.Place.{field, Memory}
 use Rattle.image.specs.Image.{index_of}
 use Rattle.image.proofs.Apart.{value-behind}
-use Rattle.worklog.specs.Log.{second, spareAddr, spareVal, activeAddr, activeVal, switched}
+use Rattle.worklog.specs.Log.{second, spare_addr, spare_val, active_addr, active_val, switched}
 
 private-top : (s : ℕ) (b : Bool) → s < 64 → not (eqb (cond b (s + 1) (s + 1 + 2 ^ 63) / 2 ^ 63) 0) ≡ not b
 private-top s true l = ap not (eq-eqb ((s + 1) / 2 ^ 63) 0 (omega arith))
@@ -20,15 +20,15 @@ module _ (n : ℕ) (rd : Memory) (d s : ℕ) (small : s < 64) (re : Memory) (e :
   unfolding switched second
   switched-second = rw e (private-top s (second n rd d) small)
 
-  pub switched-addr : activeAddr n re d ≡ spareAddr n rd d
-  unfolding activeAddr spareAddr
+  pub switched-addr : active_addr n re d ≡ spare_addr n rd d
+  unfolding active_addr spare_addr
   switched-addr = rw switched-second (private-turned Addr1 Addr0 (second n rd d))
 
-  pub switched-val : activeVal n re d ≡ spareVal n rd d
-  unfolding activeVal spareVal
+  pub switched-val : active_val n re d ≡ spare_val n rd d
+  unfolding active_val spare_val
   switched-val = rw switched-second (private-turned Val1 Val0 (second n rd d))
 
 -- the spare entry's value word stands behind its address word
-pub spare-behind : (n : ℕ) (rd : Memory) (d : ℕ) → index_of n (field (spareVal n rd d) d) ≡ index_of n (field (spareAddr n rd d) d) + 1
-unfolding spareAddr spareVal
+pub spare-behind : (n : ℕ) (rd : Memory) (d : ℕ) → index_of n (field (spare_val n rd d) d) ≡ index_of n (field (spare_addr n rd d) d) + 1
+unfolding spare_addr spare_val
 spare-behind n rd d = value-behind n (second n rd d) d

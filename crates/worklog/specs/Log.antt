@@ -25,17 +25,17 @@ module _ (n : ℕ) (rd : Memory) (d : ℕ) where
   second = not (rd (field Pc d) / 2 ^ 63 == 0)
 
   -- the words of the log entry that is not active, and of the one that is
-  unfoldable pub spareAddr : Field
-  spareAddr = cond second Addr0 Addr1
+  unfoldable pub spare_addr : Field
+  spare_addr = cond second Addr0 Addr1
 
-  unfoldable pub spareVal : Field
-  spareVal = cond second Val0 Val1
+  unfoldable pub spare_val : Field
+  spare_val = cond second Val0 Val1
 
-  unfoldable pub activeAddr : Field
-  activeAddr = cond second Addr1 Addr0
+  unfoldable pub active_addr : Field
+  active_addr = cond second Addr1 Addr0
 
-  unfoldable pub activeVal : Field
-  activeVal = cond second Val1 Val0
+  unfoldable pub active_val : Field
+  active_val = cond second Val1 Val0
 
   -- the pc that names step s and the entry that is not active now
   unfoldable pub switched : ℕ → ℕ

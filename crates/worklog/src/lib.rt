@@ -8,7 +8,7 @@ ghost use Rattle.std.specs.Prelude.{◌≡◌, ℕ, ◌+◌, ◌<◌};
 ghost use Rattle.image.specs.Place.{field};
 ghost use Rattle.image.specs.Image.{at};
 ghost use Rattle.image.specs.Inner.Inside.{Inside};
-ghost use Rattle.worklog.specs.Log.{second, spareAddr, spareVal, activeAddr, activeVal, switched};
+ghost use Rattle.worklog.specs.Log.{second, spare_addr, spare_val, active_addr, active_val, switched};
 ghost use Rattle.worklog.specs.Inner.Logged.{logged_plan};
 
 use image::Field;
@@ -61,7 +61,7 @@ fn second(image: &[u64], d: usize, own: usize) -> bool
 // The address word of the entry that is not active.
 pub fn spare_addr(image: &[u64], d: usize, own: usize) -> Field
     requires { Inside own image.now d }
-    ensures { result ≡ spareAddr own (at own image.now) d }
+    ensures { result ≡ spare_addr own (at own image.now) d }
 {
     if second(image, d, own) {
         return Field::Addr0;
@@ -72,7 +72,7 @@ pub fn spare_addr(image: &[u64], d: usize, own: usize) -> Field
 // Its value word.
 fn spare_val(image: &[u64], d: usize, own: usize) -> Field
     requires { Inside own image.now d }
-    ensures { result ≡ spareVal own (at own image.now) d }
+    ensures { result ≡ spare_val own (at own image.now) d }
 {
     if second(image, d, own) {
         return Field::Val0;
@@ -83,7 +83,7 @@ fn spare_val(image: &[u64], d: usize, own: usize) -> Field
 // The address word of the active entry.
 fn active_addr(image: &[u64], d: usize, own: usize) -> Field
     requires { Inside own image.now d }
-    ensures { result ≡ activeAddr own (at own image.now) d }
+    ensures { result ≡ active_addr own (at own image.now) d }
 {
     if second(image, d, own) {
         return Field::Addr1;
@@ -94,7 +94,7 @@ fn active_addr(image: &[u64], d: usize, own: usize) -> Field
 // Its value word.
 fn active_val(image: &[u64], d: usize, own: usize) -> Field
     requires { Inside own image.now d }
-    ensures { result ≡ activeVal own (at own image.now) d }
+    ensures { result ≡ active_val own (at own image.now) d }
 {
     if second(image, d, own) {
         return Field::Val1;
@@ -105,7 +105,7 @@ fn active_val(image: &[u64], d: usize, own: usize) -> Field
 // The address that the active entry logs.
 pub fn logged_addr(image: &[u64], d: usize, own: usize) -> u64
     requires { Inside own image.now d }
-    ensures { result ≡ at own image.now (field (activeAddr own (at own image.now) d) d) }
+    ensures { result ≡ at own image.now (field (active_addr own (at own image.now) d) d) }
 {
     image::read_field(image, active_addr(image, d, own), d, own)
 }
@@ -113,7 +113,7 @@ pub fn logged_addr(image: &[u64], d: usize, own: usize) -> u64
 // The value that it logs.
 pub fn logged_value(image: &[u64], d: usize, own: usize) -> u64
     requires { Inside own image.now d }
-    ensures { result ≡ at own image.now (field (activeVal own (at own image.now) d) d) }
+    ensures { result ≡ at own image.now (field (active_val own (at own image.now) d) d) }
 {
     image::read_field(image, active_val(image, d, own), d, own)
 }

@@ -14,7 +14,7 @@ use Rattle.code.specs.declared.Op.TheVariants.{Acquire, Release, Assign, Jump, F
 use Rattle.section.specs.declared.Verdict.{Verdict}
 use Rattle.section.specs.declared.Verdict.TheVariants.{Pass, Length, Malformed, Unbracketed, Unordered, Unguarded, Unlevel}
 use Rattle.code.specs.Op.{op_of}
-use Rattle.section.specs.Check.{code_of, check, passes, cause_of as checkCause}
+use Rattle.section.specs.Check.{code_of, check, passes, cause_of as check_cause}
 use Rattle.tally.specs.Tally.{none}
 use Rattle.working.specs.declared.Refusal.TheVariants.{Image as ImageRefused}
 use Rattle.turn.specs.declared.Answer.{Answer}
@@ -30,13 +30,13 @@ use Rattle.working.specs.Refusal.{cause_of}
 use Rattle.turn.specs.Call.{is_refused}
 use Rattle.working.specs.Cursor.{Cursor, idle, on, cursor_at}
 use Rattle.worklog.specs.Log.{code_in}
-use Rattle.plan.specs.Turn.{Outcome, stored, passed, waiting, resting, refused, logged, opTurn, ready, turnAt}
+use Rattle.plan.specs.Turn.{Outcome, stored, passed, waiting, resting, refused, logged, op_turn, ready, turn_at}
 use Rattle.plan.proofs.Outcomes.{either, unlock-either}
 use Rattle.working.specs.World.{World}
 use Rattle.turn.specs.Call.{outcome_at}
 use Rattle.formatting.specs.Format.{formattable, format_answer}
 use Rattle.intake.specs.Submit.{verdict_answer, is_taken, free, submit_answer}
-use Rattle.run.specs.Run.{Counting, counting, Course, Sweep, through, halted, any_open, turned, swept, sweep, afterSweep, roundsOf, run_of}
+use Rattle.run.specs.Run.{Counting, counting, Course, Sweep, through, halted, any_open, turned, swept, sweep, after_sweep, rounds_of, run_of}
 use Rattle.formatting.specs.Codes.{format_code}
 use Rattle.intake.specs.Codes.{submit_code}
 use Rattle.intake.proofs.Submission.{verdict-taken}
@@ -80,7 +80,7 @@ format-zero m D = by (formattable own_words m D)
     by true = refl
     by false = refl
 
-pub check-zero : (v : Verdict) → passes v ≡ eqb (checkCause v) 0
+pub check-zero : (v : Verdict) → passes v ≡ eqb (check_cause v) 0
 check-zero Pass = refl
 check-zero Length = refl
 check-zero (Malformed i) = refl
@@ -135,7 +135,7 @@ module _ (n : ℕ) (rd : Memory) (d : ℕ) where
   private-logged s t p v next (suc (suc zero)) = tt
   private-logged s t p v next (suc (suc (suc j))) = tt
 
-  private-op : (s t : ℕ) (x : Op) → Caused (opTurn n rd d s t x)
+  private-op : (s t : ℕ) (x : Op) → Caused (op_turn n rd d s t x)
   private-op s zero (Acquire a) = tt
   private-op s (suc zero) (Acquire a) = either Caused (eqb (rd (lock a)) 0) _ _ (λ e. tt) (λ e. tt)
   private-op s (suc (suc j)) (Acquire a) = private-logged s (suc (suc j)) _ _ _ j
@@ -149,8 +149,8 @@ module _ (n : ℕ) (rd : Memory) (d : ℕ) where
   private-op s (suc (suc t)) Finish = tt
   private-op s t Unknown = refl
 
-  private-turn : (x : Cursor) → Caused (turnAt n rd d x)
-  unfolding turnAt
+  private-turn : (x : Cursor) → Caused (turn_at n rd d x)
+  unfolding turn_at
   private-turn idle = tt
   private-turn (on s t) = either Caused (ready n rd d s t) _ _ (λ e. private-op s t (op_of (code_in n rd d s))) (λ e. refl)
 
@@ -186,16 +186,16 @@ module _ (n : ℕ) where
       private-swept (outcome_at n s.world d) s _ (private-turn n (at n s.world.image) d (cursor_at s.world.cursors d))
       (private-sweep k (d + 1) (turned n s d))
 
-  private-after : (more : Counting → Course) (x : Sweep) → ((s : Counting) → Ending (more s)) → Halting x → Ending (afterSweep n more x)
-  unfolding afterSweep
+  private-after : (more : Counting → Course) (x : Sweep) → ((s : Counting) → Ending (more s)) → Halting x → Ending (after_sweep n more x)
+  unfolding after_sweep
   private-after more (through s) g h = g s
   private-after more (halted r s) g h = rw h
 
-  private-rounds : (r D : ℕ) (s : Counting) → Ending (roundsOf n r D s)
-  unfolding roundsOf
+  private-rounds : (r D : ℕ) (s : Counting) → Ending (rounds_of n r D s)
+  unfolding rounds_of
   private-rounds zero D s = private-ending (any_open D 0 s.world.cursors) _ _ refl refl
   private-rounds (suc r) D s =
-      private-ending (any_open D 0 s.world.cursors) _ _ (private-after (roundsOf n r D) (sweep n D 0 s) (private-rounds r D) (private-sweep D 0 s)) refl
+      private-ending (any_open D 0 s.world.cursors) _ _ (private-after (rounds_of n r D) (sweep n D 0 s) (private-rounds r D) (private-sweep D 0 s)) refl
 
 pub run-zero : (w : World) (rounds : ℕ) → is_all_idle (running w rounds).end ≡ eqb (end_code (running w rounds).end) 0
 unfolding run_of

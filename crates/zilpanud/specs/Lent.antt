@@ -22,7 +22,7 @@ use Rattle.working.specs.Cursor.{cursors, all_idle}
 use Rattle.run.specs.Run.{Course, run_of}
 use Rattle.soundness.specs.declared.Answer.{Answer as Recovery}
 use Rattle.recovery.specs.Recovery.{recovery}
-use Rattle.recovery.specs.Recover.{answer_of as recoveryAnswer, cursors_of, recovery_leaves, recovery_left}
+use Rattle.recovery.specs.Recover.{answer_of as recovery_answer, cursors_of, recovery_leaves, recovery_left}
 
 abbrev pub lent : Image → List ℕ → List ℕ → ℕ → ℕ → World
 lent image step turn held left = world image (cursors step turn held) left
@@ -83,7 +83,7 @@ counts t = t.turns ∷ t.waits ∷ t.stores ∷ t.free ∷ t.others ∷ []
 -- ---- recovery, of which the record lent does not matter
 
 abbrev pub recovering : Image → Recovery
-recovering m = recoveryAnswer (recovery mark own_words m)
+recovering m = recovery_answer (recovery mark own_words m)
 
 abbrev pub recovers_to : Image → ℕ → World
 recovers_to m left =

@@ -10,21 +10,17 @@ use std::io::{self, Write};
 const USAGE: &str = "\
 stow: tickets in words, days explained, boards as pictures
 
-  stow run [--pause MS] BOARD [DAY]     plays a day on a board's file, and says what became of every ticket
-  stow run --resume BOARD               goes on with the day that was cut
-  stow next BOARD                       where each desk stands, and the number for its next ticket
-  stow explain [--brief|--turns] [DAY]  what happens in a day
-  stow show [--svg FILE] [--watch] BOARD
+  stow ticket [--anyway] [FILE]         tickets in words to frame lines
+  stow words [FILE]                     frame lines to words
+  stow explain [--brief|--turns] [DAY]  what happens in a day of frame lines
+  stow show [--svg FILE] [--watch] IMAGE
                                         what a board's file shows
   stow waits [--svg FILE] [DAY]         how long desks waited for bays
-  stow ticket [--anyway] [FILE]         tickets in words to the frame lines that programs read
-  stow words [FILE]                     frame lines to words
-  stow help [COMMAND|language]          these lines, the page of a command, or the language of tickets on a card
-  stow version                          its version
+  stow run [--pause MS] IMAGE [DAY]     plays a day on a board's file
+  stow help [language], stow version    these lines, or the language of tickets on a card
 
-A DAY is in words or in frame lines. Without a FILE or DAY, or with '-' for it, standard input is read. All but 'next'
-take --names FILE, with names for words and bays ('let shed = word 24'). The status is 0; 1 if what was given is wrong;
-2 if it cannot be had; 3 if a ticket is left to be looked after.
+Without a FILE or DAY, or with '-' for it, standard input is read. All take --names FILE, with names for words and bays
+('let shed = word 24'). The status is 0; 1 if what was given is wrong; 2 if it cannot be had.
 stow(1) and docs/STOW.md have examples.
 ";
 
@@ -36,53 +32,33 @@ struct Command {
     /// The last file may be left out, for standard input.
     reads_input: bool,
     does: fn(&Arguments) -> Result<(), Trouble>,
-    /// What `stow help` and the command's name print.
-    page: &'static str,
 }
 
 const NAMES: Known = value("--names");
 const SVG: Known = value("--svg");
 
-const COMMANDS: [Command; 7] = [
+const COMMANDS: [Command; 6] = [
     Command {
         name: "ticket",
-        options: &[NAMES, value("--board"), flag("--anyway")],
+        options: &[NAMES, flag("--anyway")],
         files: &["FILE"],
         reads_input: true,
         does: commands::ticket,
-        page: include_str!("help/ticket.txt"),
     },
-    Command {
-        name: "words",
-        options: &[NAMES],
-        files: &["FILE"],
-        reads_input: true,
-        does: commands::words,
-        page: include_str!("help/words.txt"),
-    },
+    Command { name: "words", options: &[NAMES], files: &["FILE"], reads_input: true, does: commands::words },
     Command {
         name: "explain",
         options: &[NAMES, flag("--brief"), flag("--turns")],
         files: &["DAY"],
         reads_input: true,
         does: commands::explain,
-        page: include_str!("help/explain.txt"),
     },
     Command {
         name: "show",
         options: &[NAMES, SVG, flag("--watch")],
-        files: &["BOARD"],
+        files: &["IMAGE"],
         reads_input: false,
         does: commands::show,
-        page: include_str!("help/show.txt"),
-    },
-    Command {
-        name: "next",
-        options: &[],
-        files: &["BOARD"],
-        reads_input: false,
-        does: commands::next,
-        page: include_str!("help/next.txt"),
     },
     Command {
         name: "waits",
@@ -90,15 +66,13 @@ const COMMANDS: [Command; 7] = [
         files: &["DAY"],
         reads_input: true,
         does: commands::waits,
-        page: include_str!("help/waits.txt"),
     },
     Command {
         name: "run",
-        options: &[NAMES, flag("--resume"), flag("--again"), value("--pause")],
-        files: &["BOARD", "DAY"],
+        options: &[NAMES, value("--pause")],
+        files: &["IMAGE", "DAY"],
         reads_input: true,
         does: commands::run,
-        page: include_str!("help/run.txt"),
     },
 ];
 
@@ -145,12 +119,10 @@ fn help(about: Option<OsString>) -> Result<(), Trouble> {
     match about.as_ref().map(|about| about.to_string_lossy()).as_deref() {
         None => commands::print(USAGE),
         Some("language") => commands::print(language::CARD),
-        Some(about) => match COMMANDS.iter().find(|command| command.name == about) {
-            Some(command) => commands::print(command.page),
-            None => {
-                Err(Trouble::cannot(format!("there is no help on '{about}'; 'stow help' lists the commands")))
-            }
-        },
+        Some(about) if COMMANDS.iter().any(|command| command.name == about) => commands::print(USAGE),
+        Some(about) => {
+            Err(Trouble::cannot(format!("there is no help on '{about}'; 'stow help' lists the commands")))
+        }
     }
 }
 
@@ -158,7 +130,7 @@ impl Command {
     fn carry_out(&self, arguments: impl IntoIterator<Item = OsString>) -> Result<(), Trouble> {
         let arguments: Vec<OsString> = arguments.into_iter().collect();
         if arguments.iter().any(|argument| argument == "--help" || argument == "-h") {
-            return commands::print(self.page);
+            return commands::print(USAGE);
         }
         let arguments = Arguments::read(self.options, arguments)?;
         let (least, most) = (self.files.len() - self.reads_input as usize, self.files.len());
@@ -168,7 +140,7 @@ impl Command {
         }
     }
 
-    /// `usage: stow run [OPTION ..] BOARD [DAY]`
+    /// `usage: stow run [OPTION ..] IMAGE [DAY]`
     fn usage(&self) -> String {
         let last = self.files.len() - 1;
         let file = |(at, file): (usize, &&str)| match self.reads_input && at == last {
@@ -177,39 +149,5 @@ impl Command {
         };
         let files: String = self.files.iter().enumerate().map(file).collect();
         format!("usage: stow {} [OPTION ..]{files}", self.name)
-    }
-}
-
-#[cfg(test)]
-mod tests {
-    use super::*;
-
-    /// Each page has the command's usage, a line for each of its options, its statuses and an example.
-    #[test]
-    fn every_command_has_its_page() {
-        for Command { name, options, files, page, .. } in COMMANDS {
-            let usage = page.lines().next().unwrap();
-            let in_usage = |word: &str| usage.split([' ', '[', ']']).any(|found| found == word);
-            let told: Vec<&str> = page.lines().filter_map(|line| line.strip_prefix("  --")).collect();
-            assert!(usage.starts_with(&format!("stow {name} ")), "{usage}");
-            assert!(files.iter().all(|file| in_usage(file)), "{usage}");
-            assert_eq!(told.len(), options.len(), "{page}");
-            for option in options {
-                let is_told =
-                    told.iter().any(|line| line.split(' ').next() == option.name.strip_prefix("--"));
-                assert!(in_usage(option.name) && is_told, "{} is not on the page of {name}", option.name);
-            }
-            let example = format!("\n\nExample:\n  stow {name} ");
-            assert!(page.contains("\n\nStatus: 0 if ") && page.contains(&example), "{page}");
-            assert!(page.ends_with('\n') && page.lines().all(|line| line.chars().count() <= 120), "{page}");
-        }
-    }
-
-    #[test]
-    fn every_command_is_in_the_overview() {
-        for command in COMMANDS {
-            assert!(USAGE.contains(&format!("\n  stow {} ", command.name)), "{}", command.name);
-        }
-        assert!(USAGE.lines().all(|line| line.chars().count() <= 120));
     }
 }

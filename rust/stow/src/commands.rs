@@ -1,25 +1,21 @@
 //! What each command does, with files and standard input and output.
 
 use crate::arguments::Arguments;
-use crate::day::{no_board, Script};
-use crate::day_file::Underway;
-use crate::done::Done;
 use crate::explain::{End, How};
 use crate::frame;
 use crate::language::names::Names;
 use crate::language::names_file;
 use crate::look::Look;
-use crate::player::Player;
-use crate::refusal::unsound;
-use crate::run::{resume, Played, Run, Wanted};
+use crate::refusal::of_image;
+use crate::run::Run;
 use crate::trouble::{located, Trouble};
-use crate::{day_file, files, picture, system, terminal};
+use crate::{day_file, picture, system, terminal};
 use std::fs;
 use std::io::{self, BufWriter, IsTerminal, Read, Write};
 use std::path::{Path, PathBuf};
 use std::thread;
 use std::time::Duration;
-use zilpanud::{image_len, Cause, WORKERS};
+use zilpanud::{image_len, DayEnd, WORKERS};
 
 /// The bytes of a file, or of standard input, and the name that mistakes are told by.
 fn input(file: Option<&PathBuf>) -> Result<(String, Vec<u8>), Trouble> {
@@ -52,25 +48,10 @@ pub fn print(text: &str) -> Result<(), Trouble> {
     Ok(out.flush()?)
 }
 
-/// A day, in words or as frame lines; the names that it gives itself are put beside the others.
-fn script(file: Option<&PathBuf>, names: &mut Names) -> Result<Script, Trouble> {
-    let (source, bytes) = input(file)?;
-    Script::of(&source, &bytes, names)
-}
-
-/// The board in a file, as its next recovery finds it. Nothing is changed.
-fn found(path: &Path) -> Result<Player, Trouble> {
-    let words = image(path)?;
-    let look = look(path, &words, &Names::default())?;
-    Player::recovered(words, look.desks.len())
-        .map_err(|cause| Trouble::wrong(format!("{}: {}", path.display(), unsound(cause, &Names::default()))))
-}
-
 pub fn ticket(arguments: &Arguments) -> Result<(), Trouble> {
     let mut names = names(arguments)?;
     let (source, bytes) = input(arguments.files.first())?;
-    let board = arguments.value("--board").map(|path| found(Path::new(path))).transpose()?;
-    let (lines, refusals) = crate::ticket::ticket(&source, &bytes, &mut names, board.as_ref())?;
+    let (lines, refusals) = crate::ticket::ticket(&source, &bytes, &mut names)?;
     if refusals.is_empty() || arguments.has("--anyway") {
         print(&lines)?;
     }
@@ -89,29 +70,31 @@ pub fn words(arguments: &Arguments) -> Result<(), Trouble> {
 }
 
 pub fn explain(arguments: &Arguments) -> Result<(), Trouble> {
-    let mut names = names(arguments)?;
+    let names = names(arguments)?;
+    let (source, day) = input(arguments.files.first())?;
     let how = match (arguments.has("--brief"), arguments.has("--turns")) {
         (true, true) => return Err(Trouble::cannot("--brief and --turns are two different things")),
         (true, false) => How::Brief,
         (false, true) => How::Turns,
         (false, false) => How::Steps,
     };
-    let day = script(arguments.files.first(), &mut names)?.fresh();
     let mut out = BufWriter::new(io::stdout().lock());
     let end = crate::explain::explain(&day, &names, how, &mut out)?;
     out.flush()?;
     let what = match end {
-        End::Read if day.frames.is_empty() => "there is no line in it".to_string(),
+        End::Read if day.is_empty() => "there is no line in it".to_string(),
         End::Read => return Ok(()),
         End::Malformed { line, why } => {
-            let hint = frame::hint(why);
+            let hint = frame::hint(line, why);
             format!("line {line} {why} (cause 14); nothing behind it is played{hint}")
         }
         End::NoBoard { desks } => {
-            format!("{}; nothing behind it is played", no_board(day.line(1), desks as usize))
+            format!(
+                "line 1: no board has {desks} desks (cause 10): it has 1 to 8; nothing behind it is played"
+            )
         }
     };
-    Err(Trouble::wrong(located(&day.source, what)))
+    Err(Trouble::wrong(located(&source, what)))
 }
 
 /// The words of an image's file.
@@ -127,8 +110,11 @@ fn image(path: &Path) -> Result<Vec<u64>, Trouble> {
 }
 
 fn look(path: &Path, words: &[u64], names: &Names) -> Result<Look, Trouble> {
-    Look::of(words)
-        .map_err(|cause| Trouble::wrong(located(&path.display().to_string(), unsound(cause, names))))
+    Look::of(words).map_err(|cause| {
+        let told = of_image(cause, names);
+        let what = format!("refused with {}: {}; {}", cause.number(), told.what, told.remedy);
+        Trouble::wrong(located(&path.display().to_string(), what))
+    })
 }
 
 /// Writes a picture, if one is asked for: whole, and over nothing but another picture.
@@ -146,31 +132,20 @@ fn draw(arguments: &Arguments, picture: impl FnOnce() -> String) -> Result<(), T
             file.display()
         )));
     }
-    files::replace(file, picture().as_bytes(), false).map_err(|error| Trouble::file(file, &error))
+    let mut other = file.as_os_str().to_os_string();
+    other.push(".new");
+    let drawn = fs::write(&other, picture()).and_then(|()| fs::rename(&other, file));
+    drawn.map_err(|error| Trouble::file(file, &error))
 }
 
-/// That a day is under way on a board, if one is.
-fn under_way(path: &Path, kept: Option<&Underway>) -> String {
-    match kept {
-        Some(kept) => format!("a day is under way on this board: {}; {}\n", kept.name(), resume(path)),
-        None if day_file::path(path).exists() => {
-            format!(
-                "a day is under way on this board, in a damaged file: {}\n",
-                day_file::path(path).display()
-            )
-        }
-        None => String::new(),
-    }
-}
-
-/// What a board shows, behind what is to be known of its file. Of a finished ticket the day that is under way, or else the
-/// one before, knows what it did.
+/// What a board shows, behind what is to be known of its file.
 fn shown(path: &Path, look: &Look, names: &Names) -> String {
-    let kept = Underway::read(path).ok().flatten();
-    let text = under_way(path, kept.as_ref());
-    let done = [Done::of(kept), Done::of(Underway::last(path))];
-    let outcome = |desk, number| done.iter().find_map(|done| done.outcome(desk, number));
-    text + &crate::show::text(look, names, &outcome)
+    let day = day_file::path(path);
+    let under_way = match day.exists() {
+        true => format!("a day is under way on this board: {}\n", day.display()),
+        false => String::new(),
+    };
+    under_way + &crate::show::text(look, names)
 }
 
 pub fn show(arguments: &Arguments) -> Result<(), Trouble> {
@@ -183,12 +158,10 @@ pub fn show(arguments: &Arguments) -> Result<(), Trouble> {
     let look = look(path, &image(path)?, &names)?;
     draw(arguments, || picture::board(&look, &names, &title))?;
     print(&shown(path, &look, &names))?;
-    sound(path, &look)
-}
-
-fn sound(path: &Path, look: &Look) -> Result<(), Trouble> {
-    let refused = |cause: Cause| format!("{}: a recovery is refused with {}", path.display(), cause.number());
-    look.unsound.map_or(Ok(()), |cause| Err(Trouble::wrong(refused(cause))))
+    match look.unsound {
+        None => Ok(()),
+        Some(cause) => Err(Trouble::wrong(format!("{title}: a recovery is refused with {}", cause.number()))),
+    }
 }
 
 /// Redraws what a board shows whenever it has changed, until the program is ended. A file that cannot be read is waited
@@ -220,36 +193,18 @@ fn watch(arguments: &Arguments, path: &Path, names: &Names) -> Result<(), Troubl
     }
 }
 
-pub fn next(arguments: &Arguments) -> Result<(), Trouble> {
-    let path = arguments.files[0].as_path();
-    let look = look(path, &image(path)?, &Names::default())?;
-    let kept = Underway::read(path).ok().flatten();
-    print(&(under_way(path, kept.as_ref()) + &crate::next::text(&look)))?;
-    sound(path, &look)
-}
-
 pub fn waits(arguments: &Arguments) -> Result<(), Trouble> {
-    let mut names = names(arguments)?;
-    let day = script(arguments.files.first(), &mut names)?.fresh();
-    if day.frames.is_empty() {
-        return Err(Trouble::wrong(located(&day.source, "there is no line in it")));
-    }
-    let sums = zilpanud::day_sums(&day.frames);
-    draw(arguments, || picture::waits(&sums, &names, &day.source))?;
+    let names = names(arguments)?;
+    let (source, day) = input(arguments.files.first())?;
+    let sums = zilpanud::day_sums(&day);
+    draw(arguments, || picture::waits(&sums, &names, &source))?;
     print(&crate::waits::text(&sums, &names))?;
-    match crate::waits::stopped(&day, sums.end) {
-        None => Ok(()),
-        Some(why) => Err(Trouble::wrong(located(&day.source, why))),
+    match sums.end {
+        DayEnd::Read => Ok(()),
+        end => {
+            Err(Trouble::wrong(located(&source, format_args!("{end}; the numbers are those up to there"))))
+        }
     }
-}
-
-/// The names of the day that is under way, beside those that are given. A name that is given stands for what it was given.
-fn kept_names(path: &Path, names: &mut Names) -> Result<(), Trouble> {
-    let kept = Underway::read(path)?.map(|kept| kept.names).unwrap_or_default();
-    for line in kept.lines() {
-        let _ = names_file(line.as_bytes(), names);
-    }
-    Ok(())
 }
 
 pub fn run(arguments: &Arguments) -> Result<(), Trouble> {
@@ -259,27 +214,12 @@ pub fn run(arguments: &Arguments) -> Result<(), Trouble> {
             Some(Some(pause)) => Duration::from_millis(pause),
             Some(None) => return Err(Trouble::cannot("--pause wants a number of milliseconds")),
         };
-    let (path, mut names) = (arguments.files[0].as_path(), names(arguments)?);
-    let script = match (arguments.has("--resume"), arguments.files.get(1)) {
-        (true, Some(_)) => {
-            return Err(Trouble::cannot("--resume goes on with the day that was cut, and takes no other"))
-        }
-        (true, None) => {
-            kept_names(path, &mut names)?;
-            None
-        }
-        (false, day) => Some(script(day, &mut names)?),
-    };
-    let wanted = match &script {
-        Some(script) => Wanted::Given { script, again: arguments.has("--again") },
-        None => Wanted::Kept,
-    };
-    let run = Run { path, wanted, names: &names, pause };
-    let played = run.play(|Played { went_on, report }| print(&report.text(path, *went_on, &names)))?;
-    let report = played.report;
-    match report.refused.is_empty() {
-        false => Err(Trouble::Wrong(report.refused)),
-        true if report.leaves_something() => Err(Trouble::Left),
-        true => Ok(()),
+    let (path, names) = (arguments.files[0].as_path(), names(arguments)?);
+    let (source, day) = input(arguments.files.get(1))?;
+    let run = Run { path, day: &day, source: &source, names: &names, pause };
+    let played = run.play(|played| print(&crate::run::text(path, played)))?;
+    match played.report.refused {
+        refused if refused.is_empty() => Ok(()),
+        refused => Err(Trouble::Wrong(refused)),
     }
 }

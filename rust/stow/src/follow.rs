@@ -9,14 +9,10 @@
 //! That is argued and tested, not proved: the tests cut a day after each of its stores and, when it is played again, at one
 //! more place for each. Where a day ends with tickets under way, what a recovery does before its time may be done.
 
-use crate::day::Line;
-use crate::done::{same_by_record, Done, Tickets};
-use crate::frame::Ticket;
+use crate::frame::{Frame, Ticket};
 use crate::language::names::Names;
-use crate::outcome::Outcome;
-use crate::player::{at, At, Event, Met, Player, Watch};
+use crate::player::{at, At, Event, Player, Watch};
 use crate::refusal::{of_ticket, of_turn};
-use crate::report::{next_number, Fate, Report, Row, Stage};
 use crate::trouble::Trouble;
 use std::collections::BTreeMap;
 use zilpanud::{cell_index, Board, Cause, Cursors, Record, Refusal, Turn, CELLS};
@@ -87,32 +83,29 @@ impl Kept for Player {
     }
 }
 
+/// What a day came to.
+#[derive(Clone, PartialEq, Eq, Debug, Default)]
+pub struct Report {
+    pub taken: u64,
+    /// Of those taken.
+    pub finished: u64,
+    /// Hand-ins of tickets that were finished before.
+    pub finished_before: u64,
+    /// Tickets that a cut of the day withdrew, a line each.
+    pub withdrawn: Vec<String>,
+    /// Refused tickets and turns, a line each.
+    pub refused: Vec<String>,
+    /// What the desks still have at the day's end.
+    pub open: Vec<String>,
+}
+
 /// What is heard of a day while it is followed.
 #[derive(Clone, Copy, PartialEq, Eq, Debug)]
 pub enum Heard {
-    /// So many lines are played, and another comes next.
-    Lines(usize),
+    /// A line of this number comes next.
+    Line(usize),
     /// A turn was made on the board.
     Turn,
-}
-
-/// A day that a board follows.
-pub struct Course<'a> {
-    /// The board as the day found it, before it was recovered.
-    pub start: &'a [u64],
-    pub desks: usize,
-    /// Behind the first.
-    pub lines: &'a [Line],
-    pub names: &'a Names,
-    /// The tickets that the day before this one has finished.
-    pub before: &'a Done,
-}
-
-impl Course<'_> {
-    /// What the day begins with, in memory.
-    fn player(&self) -> Result<Player, Trouble> {
-        Player::recovered(self.start.to_vec(), self.desks).map_err(|cause| Trouble::wrong(cause.to_string()))
-    }
 }
 
 /// A board at its day.
@@ -120,14 +113,9 @@ struct Following<'a, K> {
     board: &'a mut K,
     names: &'a Names,
     hear: &'a mut dyn FnMut(Heard),
-    line: u64,
-    /// The tickets that the desks of the day have.
-    tickets: Tickets,
-    /// The row of the ticket that a desk has had last.
-    rows: BTreeMap<usize, usize>,
-    /// The tickets that this day has finished, and those of the day before it.
-    done: BTreeMap<(usize, u64), Ticket>,
-    before: &'a Done,
+    line: usize,
+    /// The tickets that the day has taken and not ended, by desk.
+    open: BTreeMap<usize, u64>,
     report: Report,
 }
 
@@ -141,39 +129,11 @@ impl<K: Kept> Following<'_, K> {
         at(self.board.record(desk)?, self.board.cursors(), desk)
     }
 
-    fn row(&mut self, line: Option<u64>, desk: usize, number: u64, fate: Fate) {
-        self.report.rows.push(Row { line, desk, number, fate });
-    }
-
-    /// What the recovery that opened the board found.
-    fn opened(&mut self, start: &[u64], player: &Player) {
-        for desk in 0..player.desks {
-            let Some((number, met)) = player.met(start, desk) else {
-                continue;
-            };
-            self.rows.insert(desk, self.report.rows.len());
-            let fate = match met {
-                Met::Resumed => Fate::Open(Stage::NotBegun), // until the day's end
-                Met::Ended => Fate::Finished { line: None, outcome: Outcome::default() },
-                Met::Withdrawn => Fate::Withdrawn { line: None, again: None },
-            };
-            self.row(None, desk, number, fate);
-        }
-    }
-
     /// A ticket that the day takes is handed in, unless the board has it or is past it.
     fn hand_in(&mut self, ticket: &Ticket) -> Result<(), Trouble> {
-        let (desk, number, line) = (ticket.desk as usize, ticket.number, self.line);
-        for row in &mut self.report.rows {
-            if let (true, Fate::Withdrawn { again: again @ None, .. }) =
-                ((row.desk, row.number) == (desk, number), &mut row.fate)
-            {
-                *again = Some(line);
-            }
-        }
-        self.tickets.handed_in(ticket);
-        self.rows.insert(desk, self.report.rows.len());
-        self.row(Some(line), desk, number, Fate::Open(Stage::NotBegun));
+        let (desk, number) = (ticket.desk as usize, ticket.number);
+        self.report.taken += 1;
+        self.open.insert(desk, number);
         let finished = self.board.record(desk).map_or(0, |record| record.finished);
         if number <= finished || self.at(desk).is_some() {
             return Ok(());
@@ -182,35 +142,14 @@ impl<K: Kept> Following<'_, K> {
         taken.map_err(|Refusal(cause)| refused(&format!("ticket {number} of desk {desk}"), cause))
     }
 
-    /// Whether a ticket whose number is finished is the one that was; none if nobody can say.
-    fn is_done(&self, ticket: &Ticket, player: &Player) -> Option<bool> {
-        let (desk, number) = (ticket.desk as usize, ticket.number);
-        let of_this_day = self.done.get(&(desk, number));
-        let by_record = || same_by_record(ticket, &player.record(desk)?);
-        let before = || self.before.ticket(desk, number).map(|done| done == ticket);
-        of_this_day.map(|done| done == ticket).or_else(before).or_else(by_record)
-    }
-
-    /// A ticket that the day refuses is told; one whose number is finished, as done or as another.
+    /// A ticket that the day refuses is told, unless it is done.
     fn leave_out(&mut self, ticket: &Ticket, cause: Cause, player: &Player) {
         let (desk, number) = (ticket.desk as usize, ticket.number);
-        let finished = player.record(desk).map_or(0, |record| record.finished);
-        let words = match (cause, self.is_done(ticket, player)) {
-            (Cause::Number, _) if number == 0 => of_ticket(cause, ticket, player, self.names),
-            (Cause::Number, Some(true)) => {
-                self.report.done.push(ticket.clone());
-                return self.row(Some(self.line), desk, number, Fate::Done);
-            }
-            (Cause::Number, None) => {
-                return self.row(Some(self.line), desk, number, Fate::LeftOut { finished });
-            }
-            (Cause::Number, Some(false)) => format!(
-                "refused with 3: desk {desk} has finished another ticket under this number, and this one was not \
-                 run; {}",
-                next_number(finished)
-            ),
-            _ => of_ticket(cause, ticket, player, self.names),
-        };
+        if cause == Cause::Number && number != 0 {
+            self.report.finished_before += 1;
+            return;
+        }
+        let words = of_ticket(cause, ticket, player, self.names);
         self.tell(format!("desk {desk}, ticket {number}: {words}"));
     }
 
@@ -220,18 +159,16 @@ impl<K: Kept> Following<'_, K> {
 
     /// A desk of the day that is idle has ended its ticket, or a cut has withdrawn it.
     fn ended(&mut self, desk: usize, player: &Player) {
-        let Some((open, is_finished)) = self.tickets.ended(desk, player) else {
+        let Some(number) = self.open.get(&desk).copied().filter(|_| player.at(desk).is_none()) else {
             return;
         };
-        let line = Some(self.line);
-        if let Some(row) = self.rows.get(&desk).and_then(|row| self.report.rows.get_mut(*row)) {
-            row.fate = match is_finished {
-                true => Fate::Finished { line, outcome: open.outcome },
-                false => Fate::Withdrawn { line, again: None },
-            };
-        }
-        if let (true, Some(ticket)) = (is_finished, open.ticket) {
-            self.done.insert((desk, open.number), ticket);
+        self.open.remove(&desk);
+        match player.record(desk).is_some_and(|record| number <= record.finished) {
+            true => self.report.finished += 1,
+            false => self.report.withdrawn.push(format!(
+                "line {}: the cut withdrew ticket {number} of desk {desk}, which was not begun; hand it in again",
+                self.line
+            )),
         }
     }
 
@@ -244,16 +181,6 @@ impl<K: Kept> Following<'_, K> {
         (self.hear)(Heard::Turn);
         Ok(())
     }
-
-    /// How far the tickets are that the day leaves with their desks.
-    fn left(&mut self, player: &Player) {
-        for desk in 0..player.desks {
-            let row = self.rows.get(&desk).and_then(|row| self.report.rows.get_mut(*row));
-            if let (Some(stage), Some(row)) = (player.stage(desk), row) {
-                row.fate = Fate::Open(stage);
-            }
-        }
-    }
 }
 
 impl<K: Kept> Watch for Following<'_, K> {
@@ -264,8 +191,7 @@ impl<K: Kept> Watch for Following<'_, K> {
             Event::HandedIn { ticket, refused: None } => self.hand_in(ticket)?,
             Event::HandedIn { ticket, refused: Some(cause) } => self.leave_out(ticket, cause, player),
             Event::Turned { answer: Turn::Waiting(_) | Turn::Idle, .. } | Event::Cut => {}
-            Event::Turned { at, answer, .. } => {
-                self.tickets.turned(at, answer, player);
+            Event::Turned { at, .. } => {
                 self.turn(at)?;
                 self.ended(at.desk, player);
             }
@@ -299,29 +225,30 @@ fn differs(board: &impl Kept, player: &Player) -> Option<String> {
     Some(format!("desk {desk} does not stand where the day leaves it"))
 }
 
-/// Plays a day on a board, from the start that it had. Where the board is then not the day's, that is wrong.
+/// Plays the lines of a day behind the first on a board, from the start that the day had. Where the board is then not the
+/// day's, that is wrong.
 pub fn follow<K: Kept>(
-    course: &Course<'_>,
+    start: Player,
+    frames: &[Frame],
+    names: &Names,
     board: &mut K,
     hear: &mut dyn FnMut(Heard),
 ) -> Result<Report, Trouble> {
-    let Course { start, lines, names, before, .. } = *course;
-    let mut player = course.player()?;
-    let (tickets, rows, done) = (Tickets::of(&player), BTreeMap::new(), BTreeMap::new());
-    let report = Report::default();
-    let mut following = Following { board, names, hear, line: 1, tickets, rows, done, before, report };
-    following.opened(start, &player);
-    for (at, Line { number, frame }) in lines.iter().enumerate() {
-        following.line = *number;
-        (following.hear)(Heard::Lines(at + 1));
+    let (mut player, open, report) = (start, BTreeMap::new(), Report::default());
+    let mut following = Following { board, names, hear, line: 1, open, report };
+    for (number, frame) in (2..).zip(frames) {
+        following.line = number;
+        (following.hear)(Heard::Line(number));
         player.play(frame, &mut following)?;
     }
-    following.left(&player);
-    let report = following.report;
-    match differs(board, &player) {
-        None => Ok(report),
-        Some(what) => Err(Trouble::wrong(format!(
+    let mut report = following.report;
+    if let Some(what) = differs(board, &player) {
+        return Err(Trouble::wrong(format!(
             "{what}: something else changed the board while the day was under way"
-        ))),
+        )));
     }
+    let open = (0..player.desks).filter_map(|desk| player.at(desk));
+    report.open =
+        open.map(|at| format!("desk {} is at step {} of ticket {}", at.desk, at.step, at.number)).collect();
+    Ok(report)
 }

@@ -8,10 +8,6 @@ use std::fmt;
 /// The most digits of a line.
 pub const LONGEST: usize = 4_096;
 
-/// The rounds, or turns, that are `until idle`: as many as a line can have. Rounds end when all desks are idle, and turns
-/// when the desk is or waits.
-pub const UNTIL_IDLE: u16 = u16::MAX;
-
 /// The digits of a hand-in before its steps: its kind, desk, number and eight arguments.
 const HEAD: usize = 2 + 2 + 16 + ARGS * 16;
 
@@ -53,8 +49,6 @@ pub enum Malformed {
         column: usize,
         byte: u8,
     },
-    /// Its last byte is a carriage return, and it is the first that is no digit.
-    CarriageReturn,
     TooLong {
         digits: usize,
     },
@@ -127,21 +121,14 @@ fn hand_in(rest: &[u8], digits: usize) -> Result<Frame, Malformed> {
     Ok(Frame::HandIn(Ticket { desk: number(desk) as u8, number: number_of, args, steps: words.collect() }))
 }
 
-/// What to do about a malformed line.
-pub fn hint(why: Malformed) -> &'static str {
+/// What to do where a text in words is read as frame lines.
+pub fn hint(line: u64, why: Malformed) -> &'static str {
     match why {
-        Malformed::CarriageReturn => {
-            "; save the file with LF at the end of its lines, or make such a one: tr -d '\\r' <DAY >OTHER"
+        Malformed::Character { byte: b' '..=b'~' | b'\t', .. } if line == 1 => {
+            "; a day in words is made to frame lines by 'stow ticket'"
         }
         _ => "",
     }
-}
-
-/// Why a line of a day is malformed, which is given by its number; none where it is not.
-pub fn why_malformed(day: &[u8], line: u64) -> Option<Malformed> {
-    let at = usize::try_from(line).ok()?.checked_sub(1)?;
-    let bytes = lines(day).nth(at)?;
-    if at == 0 { first_line(bytes) } else { frame(bytes) }.err()
 }
 
 /// The bytes of a line, if they are digits and not too many.
@@ -151,10 +138,7 @@ fn digits(line: &[u8]) -> Result<&[u8], Malformed> {
         return Err(Malformed::Empty);
     }
     if let Some(at) = line.iter().position(|byte| !is_digit(byte)) {
-        return Err(match line[at..] {
-            [b'\r'] => Malformed::CarriageReturn,
-            _ => Malformed::Character { column: at + 1, byte: line[at] },
-        });
+        return Err(Malformed::Character { column: at + 1, byte: line[at] });
     }
     match line.len() {
         digits if digits > LONGEST => Err(Malformed::TooLong { digits }),
@@ -202,8 +186,8 @@ impl fmt::Display for Malformed {
     fn fmt(&self, f: &mut fmt::Formatter<'_>) -> fmt::Result {
         match *self {
             Malformed::Empty => write!(f, "is empty"),
-            Malformed::CarriageReturn => {
-                write!(f, "ends with CR LF, as some editors write lines; frame lines end with LF alone")
+            Malformed::Character { column, byte: b'\r' } => {
+                write!(f, "has a carriage return at column {column}; lines end with byte 10 alone")
             }
             Malformed::Character { column, byte } if byte.is_ascii_uppercase() => {
                 let (found, low) = (byte as char, byte.to_ascii_lowercase() as char);
@@ -270,19 +254,5 @@ mod tests {
         assert_eq!(frame(b"05"), Err(Malformed::Kind { digits: *b"05" }));
         assert_eq!(first_line(b"0a"), Ok(Frame::Board { desks: 10 }));
         assert_eq!(first_line(b"001"), Err(Malformed::First { digits: 3 }));
-    }
-
-    #[test]
-    fn carriage_returns() {
-        for line in [&b"01\r"[..], b"\r"] {
-            assert_eq!(first_line(line), Err(Malformed::CarriageReturn));
-            assert_eq!(frame(line), Err(Malformed::CarriageReturn));
-        }
-        assert_eq!(frame(b"0\r3"), Err(Malformed::Character { column: 2, byte: b'\r' }));
-        assert_eq!(frame(b"03\r\r"), Err(Malformed::Character { column: 3, byte: b'\r' }));
-        assert_eq!(
-            Malformed::Character { column: 2, byte: b'\r' }.to_string().split(';').next(),
-            Some("has '\\r' at column 2")
-        );
     }
 }

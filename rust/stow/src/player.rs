@@ -1,7 +1,6 @@
 //! A day played through the library, call by call, on an image in memory; what happens is told as it happens.
 
 use crate::frame::{Frame, Ticket};
-use crate::report::Stage;
 use zilpanud::cut::{self, ENOUGH};
 use zilpanud::{image_len, Cause, Cursors, Place, Record, RecordWord, Refusal, Turn, WORKERS};
 
@@ -24,17 +23,6 @@ pub struct At {
     pub step: usize,
     /// From 0.
     pub turn: u8,
-}
-
-/// What a recovery makes of a ticket.
-#[derive(Clone, Copy, PartialEq, Eq, Debug)]
-pub enum Met {
-    /// It was begun, and goes on.
-    Resumed,
-    /// It was finished, and its last store is made.
-    Ended,
-    /// It was not begun.
-    Withdrawn,
 }
 
 /// A store of a recovery.
@@ -86,30 +74,6 @@ impl Player {
 
     pub fn record(&self, desk: usize) -> Option<Record> {
         Record::of(&self.image, desk).ok()
-    }
-
-    /// How far the ticket is that a desk has; none if it is idle.
-    pub fn stage(&self, desk: usize) -> Option<Stage> {
-        let (at, record) = (self.at(desk)?, self.record(desk)?);
-        Some(match (record.pc, record.number <= record.finished) {
-            (_, true) => Stage::Ending,
-            (0, false) => Stage::NotBegun,
-            _ => Stage::Begun { step: at.step },
-        })
-    }
-
-    /// What the recovery that led here from an image made of a desk's ticket, with its number; none if it had none.
-    pub fn met(&self, before: &[u64], desk: usize) -> Option<(u64, Met)> {
-        let was = Record::of(before, desk).ok()?;
-        if was.count == 0 && was.pc == 0 {
-            return None;
-        }
-        let met = match (self.at(desk), was.number <= was.finished) {
-            (Some(_), _) => Met::Resumed,
-            (None, true) => Met::Ended,
-            (None, false) => Met::Withdrawn,
-        };
-        Some((was.number, met))
     }
 
     /// Plays one line behind the first.

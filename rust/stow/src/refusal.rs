@@ -201,8 +201,3 @@ pub fn of_image(cause: Cause, names: &Names) -> Told {
         _ => told(cause.to_string(), cause.advice()),
     }
 }
-
-/// `refused with 12: desk 0's record is not sound; ..`
-pub fn unsound(cause: Cause, names: &Names) -> String {
-    sentence(cause, "", &of_image(cause, names))
-}

@@ -3,8 +3,7 @@
 use crate::explain::noted;
 use crate::language::names::Names;
 use crate::look::{Bay, Begun, Desk, Holder, Look, OpenTicket};
-use crate::outcome::Outcome;
-use crate::refusal::unsound;
+use crate::refusal::of_image;
 use crate::say::{arguments, bay, bays, counted, desks, step, word};
 use zilpanud::Needs;
 
@@ -54,14 +53,10 @@ fn words(look: &Look, names: &Names) -> Vec<String> {
     others.map(|(value, number)| format!("  {} is {value}\n", word(names, number))).collect()
 }
 
-/// What a ticket of a desk that is finished did, if it is known.
-pub type Did<'a> = &'a dyn Fn(usize, u64) -> Option<&'a Outcome>;
-
-fn desk_line(names: &Names, number: usize, desk: &Desk, did: Did<'_>) -> String {
-    let finished = match (desk.finished, did(number, desk.finished)) {
-        (0, _) => "no ticket finished yet".to_string(),
-        (finished, None) => format!("ticket {finished} is finished"),
-        (finished, Some(outcome)) => format!("ticket {finished} is finished; it {}", outcome.words(names)),
+fn desk_line(names: &Names, number: usize, desk: &Desk) -> String {
+    let finished = match desk.finished {
+        0 => "no ticket finished yet".to_string(),
+        number => format!("ticket {number} is finished"),
     };
     match &desk.ticket {
         None => format!("  desk {number}: idle; {finished}\n"),
@@ -105,13 +100,14 @@ fn ticket_lines(names: &Names, desk: &Desk, ticket: &OpenTicket) -> String {
 }
 
 /// All that a board shows.
-pub fn text(look: &Look, names: &Names, did: Did<'_>) -> String {
+pub fn text(look: &Look, names: &Names) -> String {
     let mut text = format!("board of {}\n", counted(look.desks.len() as u64, "desk"));
     if let Some(cause) = look.unsound {
-        text += &format!("a recovery is {}\n", unsound(cause, names));
+        let told = of_image(cause, names);
+        text += &format!("a recovery is refused with {}: {}; {}\n", cause.number(), told.what, told.remedy);
     }
     for (number, desk) in look.desks.iter().enumerate() {
-        text += &desk_line(names, number, desk, did);
+        text += &desk_line(names, number, desk);
     }
     let held = look
         .bays

@@ -1,19 +1,14 @@
 //! What is asked of the system and Rust cannot vouch for: all `unsafe` code of the program.
 
-use crate::trouble::Trouble;
 use std::ffi::{c_int, c_ulong};
 use std::path::Path;
-use zilpanud::Board;
+use zilpanud::{Board, BoardError};
 
-/// The board in a file, recovered, or a new one; and what is made of it before it is recovered.
-pub fn board<T>(
-    path: &Path,
-    desks: usize,
-    look: impl FnOnce(&[u64]) -> Result<T, Trouble>,
-) -> Result<(Board, T), Trouble> {
+/// The board in a file, recovered, or a new one.
+pub fn board(path: &Path, desks: usize) -> Result<Board, BoardError> {
     // SAFETY: one process has a board, by the lock that is asked for here, and this one writes to the file by no other
     // way while it has it. Of all other programs the manual asks it: none may write to the file of a board meanwhile.
-    unsafe { Board::open_or_create_looking(path, desks, look) }
+    unsafe { Board::open_or_create(path, desks) }
 }
 
 /// The rows and columns of the terminal that is standard output; none where there is none, or it does not say.

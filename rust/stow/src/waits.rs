@@ -1,9 +1,7 @@
 //! `stow waits`: how long desks waited for bays in a recorded day.
 
-use crate::day::{no_board, Day};
-use crate::frame::{self, Frame};
 use crate::language::names::{Names, Thing};
-use zilpanud::{DayEnd, DaySums};
+use zilpanud::DaySums;
 
 /// Rows under their heads, in columns that are as wide as they must be; the last column, of names, to the left.
 fn table<const COLUMNS: usize>(heads: [&str; COLUMNS], rows: &[[String; COLUMNS]]) -> String {
@@ -50,29 +48,4 @@ pub fn text(sums: &DaySums, names: &Names) -> String {
         .collect();
     let heads = ["desk", "turns that waited", "turns that did not"];
     format!("{bays}\n{}", table_or("no desk made a turn", heads, &desks))
-}
-
-/// Why a day was not read to its end, as the other commands say it; none where it was.
-pub fn stopped(day: &Day, end: DayEnd) -> Option<String> {
-    let so = "the numbers are those up to there";
-    let why = match end {
-        DayEnd::Read => return None,
-        DayEnd::Malformed { line } => frame::why_malformed(&day.frames, line).map(|why| {
-            let hint = frame::hint(why);
-            format!("line {line} {why} (cause 14); {so}{hint}")
-        }),
-        DayEnd::NoBoard => {
-            desks(&day.frames).map(|desks| format!("{}; {so}", no_board(day.line(1), desks as usize)))
-        }
-        _ => None,
-    };
-    Some(why.unwrap_or_else(|| format!("{end}; {so}")))
-}
-
-/// The desks of the board that a day begins with.
-fn desks(day: &[u8]) -> Option<u8> {
-    match frame::lines(day).next().map(frame::first_line)? {
-        Ok(Frame::Board { desks }) => Some(desks),
-        _ => None,
-    }
 }

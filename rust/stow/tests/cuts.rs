@@ -8,9 +8,7 @@
 mod common;
 
 use common::Draw;
-use stow::day::Line;
-use stow::done::Done;
-use stow::follow::{follow, Course, Kept};
+use stow::follow::{follow, Kept};
 use stow::frame::{Frame, Ticket};
 use stow::language::names::Names;
 use stow::player::Player;
@@ -63,12 +61,7 @@ impl Cuttable {
 
     /// Plays a day, or as much of it as there are stores. Whoever is cut does not see how it ended.
     fn play(&mut self, start: &Player, frames: &[Frame]) -> Result<(), Trouble> {
-        let (names, before) = (Names::default(), Done::default());
-        let numbered = (2..).zip(frames).map(|(number, frame)| Line { number, frame: frame.clone() });
-        let lines: Vec<Line> = numbered.collect();
-        let course =
-            Course { start: &start.image, desks: start.desks, lines: &lines, names: &names, before: &before };
-        follow(&course, self, &mut |_| {}).map(|_| ())
+        follow(start.clone(), frames, &Names::default(), self, &mut |_| {}).map(|_| ())
     }
 }
 

@@ -3,7 +3,6 @@
 
 mod common;
 
-use stow::day::Day;
 use stow::explain::{explain, End, How};
 use stow::language::names::Names;
 use stow::ticket::{ticket, words};
@@ -20,7 +19,7 @@ fn printed(told: &str) -> String {
 
 fn told(day: &[u8], how: How) -> (String, End) {
     let mut text = vec![];
-    let end = explain(&Day::of_frames("", day), &Names::default(), how, &mut text).unwrap();
+    let end = explain(day, &Names::default(), how, &mut text).unwrap();
     (String::from_utf8(text).unwrap(), end)
 }
 
@@ -92,7 +91,7 @@ fn a_day_in_words_and_back_is_the_same() {
         let (text, trouble) = words("", &day, &Names::default());
         if day_sums(&day).end == DayEnd::Read && !day.is_empty() {
             assert!(trouble.is_none(), "{name}");
-            let (lines, _) = ticket("", text.as_bytes(), &mut Names::default(), None)
+            let (lines, _) = ticket("", text.as_bytes(), &mut Names::default())
                 .unwrap_or_else(|trouble| panic!("{name}: {:?}\n{text}", trouble.lines()));
             let wanted = String::from_utf8(day).unwrap();
             assert_eq!(lines.trim_end(), wanted.trim_end(), "{name}");

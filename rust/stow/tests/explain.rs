@@ -1,7 +1,6 @@
 //! What is told of days that are worked out by hand from document 01's turns: an acquire and a release have six, kinds 3
 //! to 6 four, a skip one, an end three.
 
-use stow::day::Day;
 use stow::explain::{explain, How};
 use stow::language::names::Names;
 use stow::look::Look;
@@ -13,9 +12,9 @@ use zilpanud::code;
 /// The lines that are told of a day in words, from the one that begins with this text to the empty one.
 fn told(day: &str, how: How, from: &str) -> Vec<String> {
     let mut names = Names::default();
-    let (lines, _) = ticket("", day.as_bytes(), &mut names, None).unwrap();
+    let (lines, _) = ticket("", day.as_bytes(), &mut names).unwrap();
     let mut text = vec![];
-    explain(&Day::of_frames("", lines.as_bytes()), &names, how, &mut text).unwrap();
+    explain(lines.as_bytes(), &names, how, &mut text).unwrap();
     let text = String::from_utf8(text).unwrap();
     let lines = text.lines().skip_while(|line| !line.starts_with(from)).take_while(|line| !line.is_empty());
     lines.map(str::to_string).collect()
@@ -31,7 +30,7 @@ fn two_desks_at_one_bay() {
         "board of 2 desks\ndesk 0 number 1; {PAPERS}\ndesk 1 number 1; {PAPERS}\nrounds 65535\nrounds 1"
     );
     let wanted = [
-        "line 4: rounds until idle",
+        "line 4: rounds 65535",
         "    desk 0, ticket 1, step 0 (take 3): has bay 3, the ticket is begun",
         "    desk 1, ticket 1, step 0 (take 3): means to have bay 3, waits for bay 3, which desk 0 has (13 turns)",
         "    desk 0, ticket 1, step 1 (word 24 := 5): word 24 is 5, was 0",
@@ -46,8 +45,8 @@ fn two_desks_at_one_bay() {
     ];
     assert_eq!(told(&day, How::Steps, "line 4"), wanted);
     let brief = [
-        "line 2: desk 0, ticket 1: begun in line 4, finished in line 4; it changed word 24; 19 turns",
-        "line 3: desk 1, ticket 1: begun in line 4, finished in line 4; it changed no board word; 19 turns, and 13 that waited for bay 3",
+        "line 2: desk 0, ticket 1: begun in line 4, finished in line 4; 19 turns",
+        "line 3: desk 1, ticket 1: begun in line 4, finished in line 4; 19 turns, and 13 that waited for bay 3",
     ];
     assert_eq!(told(&day, How::Brief, "line 2"), brief);
 }
@@ -63,7 +62,7 @@ const CUTS: &[(u64, &[&str])] = &[
         "      bay 3, which desks meant to have, is freed",
         "      desk 0: ticket 1 was not begun and is withdrawn",
         "        hand it in again, under the same number",
-        "line 5: rounds until idle",
+        "line 5: rounds 65535",
         "    all desks are idle, and nothing is done",
     ]),
     (5, &[
@@ -73,7 +72,7 @@ const CUTS: &[(u64, &[&str])] = &[
         "      bay 3, which desks meant to have, is freed",
         "      desk 0 is owed bay 3 and has it again",
         "        ticket 1 goes on at step 0 (take 3) with the store that it noted: owns bay 3",
-        "line 5: rounds until idle",
+        "line 5: rounds 65535",
         "    desk 0, ticket 1, step 0 (take 3): owns bay 3",
         "    desk 0, ticket 1, step 1 (word 24 := 5): word 24 is 5, was 0",
         "    desk 0, ticket 1, step 2 (drop 3): frees bay 3",
@@ -86,7 +85,7 @@ const CUTS: &[(u64, &[&str])] = &[
         "      bay 3, which desks meant to have, is freed",
         "      desk 0 is owed no bay",
         "        ticket 1 goes on at step 2 (drop 3) with the store that it noted: owns no bay",
-        "line 5: rounds until idle",
+        "line 5: rounds 65535",
         "    desk 0, ticket 1, step 2 (drop 3): owns no bay, as before, finds bay 3 already free, means to have no bay, as before",
         "    desk 0, ticket 1, step 3 (end): ticket 1 is finished",
     ]),
@@ -95,7 +94,7 @@ const CUTS: &[(u64, &[&str])] = &[
         "      desk 0 was at step 3 of ticket 1 (end), before turn 3; finished, but for its last turns",
         "    the recovery makes 2 stores:",
         "      desk 0: ticket 1 is finished, and its last store is made",
-        "line 5: rounds until idle",
+        "line 5: rounds 65535",
         "    all desks are idle, and nothing is done",
     ]),
 ];
@@ -143,7 +142,7 @@ fn a_ticket_is_shown_as_it_stands() {
     let steps = [code::acquire(3), code::set(24, 5), code::release(3), code::finish()];
     zilpanud::submit(&mut player.image, &mut player.cursors, 0, 1, &[0; 8], &steps).unwrap();
     for turns in 0..=19 {
-        let text = show::text(&Look::of(&player.image).unwrap(), &Names::default(), &|_, _| None);
+        let text = show::text(&Look::of(&player.image).unwrap(), &Names::default());
         let recorded = match turns {
             5..=8 => 0,
             9..=12 => 1,

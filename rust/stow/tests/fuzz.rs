@@ -6,14 +6,13 @@ mod common;
 use common::Draw;
 use std::fs;
 use std::time::Duration;
-use stow::day::{Day, Script};
 use stow::day_file;
 use stow::explain::{explain, End, How};
 use stow::language::names::Names;
 use stow::language::{day, names_file};
 use stow::look::Look;
 use stow::player::Player;
-use stow::run::{Run, Wanted};
+use stow::run::Run;
 use stow::ticket::{ticket, words};
 use stow::{picture, show, waits};
 use zilpanud::{day_sums, image_len, Cause, DayEnd, WORKERS};
@@ -21,11 +20,7 @@ use zilpanud::{day_sums, image_len, Cause, DayEnd, WORKERS};
 const INPUTS: u64 = 3_000;
 
 /// Words that a text may have, and some that it may not.
-const TEXT: [&str; 48] = [
-    "until",
-    "idle",
-    "until idle",
-    "number next",
+const TEXT: [&str; 44] = [
     "take",
     "drop",
     "word",
@@ -133,22 +128,14 @@ fn texts_and_days_of_any_bytes() {
     for _ in 0..INPUTS {
         let bytes = input(&mut draw);
         let _ = names_file(&bytes, &mut names.clone());
-        let board = Player::fresh(1 + draw.below(8) as usize).ok().filter(|_| draw.one_in(2));
-        if let Ok((lines, _)) = ticket("any", &bytes, &mut names.clone(), board.as_ref()) {
+        if let Ok((lines, _)) = ticket("any", &bytes, &mut names.clone()) {
             taken += 1;
             let (again, trouble) = words("any", lines.as_bytes(), &names);
             assert!(trouble.is_none() && !again.is_empty());
         }
-        if let Ok(script) = Script::of("any", &bytes, &mut names.clone()) {
-            let day = script.fresh();
-            let is_words = matches!(script, Script::Words { .. });
-            assert!(!is_words || !matches!(day_sums(&day.frames).end, DayEnd::Malformed { .. }), "{bytes:?}");
-            assert_eq!(script.desks().is_ok(), day.read().is_ok(), "{bytes:?}");
-        }
-        let day = Day::of_frames("any", &bytes);
         let sums = day_sums(&bytes);
         for how in [How::Steps, How::Turns, How::Brief] {
-            let end = explain(&day, &names, how, &mut vec![]).unwrap();
+            let end = explain(&bytes, &names, how, &mut vec![]).unwrap();
             match (end, sums.end) {
                 (End::Read, DayEnd::Read) => read += 1,
                 (End::Malformed { line, .. }, DayEnd::Malformed { line: by_library }) => {
@@ -160,9 +147,6 @@ fn texts_and_days_of_any_bytes() {
             }
         }
         assert!(waits::text(&sums, &names).contains("desk"));
-        let stopped = waits::stopped(&day, sums.end);
-        assert_eq!(stopped.is_some(), sums.end != DayEnd::Read);
-        assert!(stopped.is_none_or(|why| why.starts_with("line ") && why.contains(" (cause 1")), "{bytes:?}");
         assert!(picture::waits(&sums, &names, "any").ends_with("</svg>\n"));
     }
     assert!(read > 500 && malformed > 500 && taken > 100, "{read} {malformed} {taken}");
@@ -194,7 +178,7 @@ fn images_of_any_words() {
             }
             Ok(look) => {
                 assert_eq!((look.desks.len(), look.bays.len()), (desks, 64));
-                assert!(show::text(&look, &names, &|_, _| None).starts_with("board of "));
+                assert!(show::text(&look, &names).starts_with("board of "));
                 assert!(picture::board(&look, &names, "any").ends_with("</svg>\n"));
                 *if look.unsound.is_none() { &mut sound } else { &mut unsound } += 1;
             }
@@ -224,7 +208,7 @@ fn runs_of_any_bytes() {
     fs::create_dir_all(&folder).unwrap();
     let board = folder.join("board");
     let mut played = 0;
-    for _ in 0..INPUTS / 5 {
+    for _ in 0..INPUTS / 10 {
         let _ = fs::remove_file(&board);
         let _ = fs::remove_file(day_file::path(&board));
         let bytes = input(&mut draw);
@@ -236,15 +220,8 @@ fn runs_of_any_bytes() {
             fs::write(day_file::path(&board), any_bytes(&mut draw)).unwrap();
         }
         let before = fs::read(&board).ok();
-        let mut names = Names::default();
-        let Ok(script) = Script::of("", &bytes, &mut names) else {
-            continue;
-        };
-        let wanted = match draw.one_in(8) {
-            true => Wanted::Kept,
-            false => Wanted::Given { script: &script, again: draw.one_in(2) },
-        };
-        let run = Run { path: &board, wanted, names: &names, pause: Duration::ZERO };
+        let run =
+            Run { path: &board, day: &bytes, source: "", names: &Names::default(), pause: Duration::ZERO };
         match run.play(|_| Ok(())) {
             Ok(_) => {
                 assert!(!no_board && !no_day && !day_file::path(&board).exists());
@@ -264,6 +241,6 @@ fn runs_of_any_bytes() {
 fn the_day_of_no_lines() {
     assert!(day(b"", &mut Names::default()).unwrap().is_empty());
     let mut text = vec![];
-    assert_eq!(explain(&Day::default(), &Names::default(), How::Steps, &mut text).unwrap(), End::Read);
+    assert_eq!(explain(b"", &Names::default(), How::Steps, &mut text).unwrap(), End::Read);
     assert!(text.is_empty());
 }

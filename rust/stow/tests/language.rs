@@ -90,7 +90,7 @@ const MISTAKES: &[(&str, usize, usize, &str)] = &[
     ("desk 0 number 1\nword 24 := -5", 2, 12, "there are no numbers below 0"),
     ("desk 0 number 1\nword 24 := 4294967296", 2, 12, "give a larger number as an argument"),
     ("desk 0 number 1\nown 8 := 5", 2, 5, "'8' is too large for an own word; a desk has own 0 to 7"),
-    ("desk 0 number 1\nword 24x := 5", 2, 6, "'24x' is not a number; numbers are whole and decimal"),
+    ("desk 0 number 1\nword 24x := 5", 2, 6, "'24x' is not a number; numbers are decimal"),
     ("desk 0 number 1\nif own 1 is 1 go to x", 2, 10, "a skip asks whether a word 'is 0', and nothing else; compare first"),
     ("desk 0 number 1\nif word 24 < own 0 go to x", 2, 12, "a skip asks whether a word 'is 0', and nothing else; compare first"),
     ("desk 0 number 1\nif own 1 is 0 go to x", 2, 21, "no step of this ticket has the label 'x'"),
@@ -114,11 +114,6 @@ const MISTAKES: &[(&str, usize, usize, &str)] = &[
     ("desk 0 turns 65536", 1, 14, "a line has 0 to 65535 turns"),
     ("desk 0 number 1 with 1 2 3 4 5 6 7 8 9", 1, 38, "a ticket has eight arguments; this is the ninth"),
     ("desk 0 number 1 with 1, 2", 1, 23, "with blanks between them and no commas"),
-    ("desk 0 number 1 with 2.5", 1, 22, "'2.5' is not a number; numbers are whole and decimal"),
-    ("desk 0 number 1 with .5", 1, 22, ". stands in no statement; numbers are whole"),
-    ("desk 0 number 1 with -3", 1, 22, "here is '-', and the number of an argument is expected; there are no numbers below 0"),
-    ("desk 0 number 1\nword 24 := 2.5", 2, 12, "'2.5' is not a number; numbers are whole and decimal"),
-    ("desk 0 number 1\ntake -3", 2, 6, "there are no numbers below 0"),
     ("desk 0 number 1\ncode 00", 2, 6, "16 digits, 0 to 9 and a to f, are expected"),
     ("desk 0 number 1\nword 24 := word 24 \u{2212} own 0", 2, 20, "write '-' for a difference"),
     ("desk 0 number 1\nKõrge 5", 2, 1, "no statement begins with 'Kõrge'"),
@@ -136,16 +131,7 @@ fn mistakes_say_where_and_what_was_meant() {
 /// A line that was to begin a ticket is told, and not each step below it; and of a long number only its beginning.
 #[test]
 fn one_mistake_is_told_once() {
-    for header in [
-        "dsk 0 number 1",
-        "desk 0 nmber 1",
-        "desk 300 number 1",
-        "desk 0 number x",
-        "desk 0 number 1 with 2.5",
-        "desk 0 number 1 with -3",
-        "desk 0 number 1 with 1, 2",
-        "desk 0 number 1 with ?",
-    ] {
+    for header in ["dsk 0 number 1", "desk 0 nmber 1", "desk 300 number 1", "desk 0 number x"] {
         let text = format!("{header}\ntake 3\nagain: word 24 := 5\ndrop 3\nend\ndesk 0 number 2\ntke 4\n");
         let found = day(text.as_bytes(), &mut Names::default()).unwrap_err();
         assert_eq!(found.iter().map(|mistake| mistake.line).collect::<Vec<_>>(), [1, 7], "{header}");
@@ -164,7 +150,7 @@ fn several_mistakes() {
 }
 
 fn refusals(text: &str) -> Vec<String> {
-    match ticket("", text.as_bytes(), &mut Names::default(), None) {
+    match ticket("", text.as_bytes(), &mut Names::default()) {
         Ok((_, refusals)) => refusals,
         Err(trouble) => panic!("{text}: {:?}", trouble.lines()),
     }
@@ -173,86 +159,58 @@ fn refusals(text: &str) -> Vec<String> {
 /// Steps that fail each of causes 4 to 9, and what is told of them: the ticket begins in line 2, its steps in line 3. The
 /// sentence of cause 8 is the one that was asked for.
 const REFUSED: &[(&str, &str)] = &[
-    ("take 3\ndrop 3", "line 2, column 1: a ticket has 3 to 64 steps, and this one has 2 (cause 4)"),
-    ("take 64\ndrop 64\nend", "line 3, column 1: there is no bay 64 (cause 5)"),
-    ("take 3\nword 600 := 5\ndrop 3\nend", "line 4, column 1: there is no word 600 (cause 5)"),
+    ("take 3\ndrop 3", "line 2: a ticket has 3 to 64 steps, and this one has 2 (cause 4)"),
+    ("take 64\ndrop 64\nend", "line 3: there is no bay 64 (cause 5)"),
+    ("take 3\nword 600 := 5\ndrop 3\nend", "line 4: there is no word 600 (cause 5)"),
     (
         "take 3\nback: word 24 := 5\nif own 0 is 0 go to back\ndrop 3\nend",
-        "line 5, column 1: the skip goes to line 4, column 7, and no later",
+        "line 5: the skip goes to line 4, and no later",
     ),
-    (
-        "take 3\nif own 0 is 0 go to step 9\ndrop 3\nend",
-        "line 4, column 1: the skip goes to step 9, and no later",
-    ),
-    ("take 3\nend\ndrop 3\nend", "line 4, column 1: the ticket ends here, and steps follow (cause 5)"),
-    (
-        "take 3\nword 24 := 5\ndrop 3",
-        "line 5, column 1: this is the ticket's last step, and it is no 'end' (cause 5)",
-    ),
-    (
-        "code 0009000000000000\ndrop 3\nend",
-        "line 3, column 1: a step of kind 9: the kinds are 1 to 8 (cause 5)",
-    ),
+    ("take 3\nif own 0 is 0 go to step 9\ndrop 3\nend", "line 4: the skip goes to step 9, and no later"),
+    ("take 3\nend\ndrop 3\nend", "line 4: the ticket ends here, and steps follow (cause 5)"),
+    ("take 3\nword 24 := 5\ndrop 3", "line 5: this is the ticket's last step, and it is no 'end' (cause 5)"),
+    ("code 0009000000000000\ndrop 3\nend", "line 3: a step of kind 9: the kinds are 1 to 8 (cause 5)"),
     (
         "code 0001000300010000\ndrop 3\nend",
-        "line 3, column 1: field b of this step is 1, and for kind 1 it is 0 (cause 5)",
+        "line 3: field b of this step is 1, and for kind 1 it is 0 (cause 5)",
     ),
     (
         "own 0 := 5\ntake 3\ndrop 3\nend",
-        "line 3, column 1: a ticket starts by taking a bay, and this is no 'take' (cause 6)",
+        "line 3: a ticket starts by taking a bay, and this is no 'take' (cause 6)",
     ),
-    ("take 3\nword 24 := 5\nend", "line 5, column 1: the ticket ends with bay 3 held (cause 6)"),
-    (
-        "take 3\ndrop 3\nown 0 := 5\nend",
-        "line 5, column 1: no bay is held here, and this is not the end (cause 6)",
-    ),
-    ("take 3\ntake 3\ndrop 3\nend", "line 4, column 1: bay 3 is held here already; held: bay 3 (cause 7)"),
+    ("take 3\nword 24 := 5\nend", "line 5: the ticket ends with bay 3 held (cause 6)"),
+    ("take 3\ndrop 3\nown 0 := 5\nend", "line 5: no bay is held here, and this is not the end (cause 6)"),
+    ("take 3\ntake 3\ndrop 3\nend", "line 4: bay 3 is held here already; held: bay 3 (cause 7)"),
     (
         "take 5\ntake 3\ndrop 5\nend",
-        "line 4, column 1: bay 3 is below bay 5, which is held here; held: bay 5 (cause 7)",
+        "line 4: bay 3 is below bay 5, which is held here; held: bay 5 (cause 7)",
     ),
-    ("take 3\ndrop 4\ndrop 3\nend", "line 4, column 1: bay 4 is not held here; held: bay 3 (cause 7)"),
+    ("take 3\ndrop 4\ndrop 3\nend", "line 4: bay 4 is not held here; held: bay 3 (cause 7)"),
     (
         "take 3\nown 1 := 1\nown 1 := 1\nword 32 := 5\ndrop 3\nend",
-        "line 6, column 1: word 32 belongs to bay 4, which is not held here; held: bay 3 (cause 8)",
+        "line 6: word 32 belongs to bay 4, which is not held here; held: bay 3 (cause 8)",
     ),
     (
         "take 3\nif own 0 is 0 go to over\ndrop 3\nover: end",
-        "line 4, column 1: the skip leaves with bay 3 held and goes to line 6, column 7, \
-         where no bay is held (cause 9)",
+        "line 4: the skip leaves with bay 3 held and goes to line 6, where no bay is held (cause 9)",
     ),
 ];
 
 #[test]
-fn refusals_say_the_place() {
+fn refusals_say_the_line() {
     let ticket = |steps: &str| format!("# a ticket\ndesk 0 number 1\n{steps}");
     for (steps, told) in REFUSED {
         let refusals = refusals(&ticket(steps));
         assert!(refusals[0].starts_with(told), "{steps}:\n{refusals:?}");
         assert!(refusals[1].starts_with("  "), "{refusals:?}");
     }
-    assert_eq!(refusals("board of 9 desks")[0], "line 1, column 1: no board has 9 desks (cause 10)");
+    assert_eq!(refusals("board of 9 desks")[0], "line 1: no board has 9 desks (cause 10)");
     let steps = "take 3; word 24 := 5; drop 3; end";
     for (text, told) in [
-        (
-            "desk 0 number 1; take 3; word 32 := 5; drop 3; end".to_string(),
-            "line 1, column 26: word 32 belongs to bay 4, which is not held here; held: bay 3 (cause 8)",
-        ),
-        (
-            "desk 0 number 1; take 3; if own 0 is 0 go to over; drop 3; over: end".to_string(),
-            "line 1, column 26: the skip leaves with bay 3 held and goes to line 1, column 66, \
-             where no bay is held (cause 9)",
-        ),
-        (format!("desk 0 number 0; {steps}"), "line 1, column 1: 0 is no ticket's number (cause 3)"),
-        (format!("desk 8 number 1; {steps}"), "line 1, column 1: the board has no desk 8 (cause 1)"),
-        (
-            format!("board of 2 desks\ndesk 2 number 1; {steps}"),
-            "line 2, column 1: the board has no desk 2 (cause 1)",
-        ),
-        (
-            "board of 2 desks\ndesk 5 turns 3".to_string(),
-            "line 2, column 1: the board has no desk 5 (cause 1)",
-        ),
+        (format!("desk 0 number 0; {steps}"), "line 1: 0 is no ticket's number (cause 3)"),
+        (format!("desk 8 number 1; {steps}"), "line 1: the board has no desk 8 (cause 1)"),
+        (format!("board of 2 desks\ndesk 2 number 1; {steps}"), "line 2: the board has no desk 2 (cause 1)"),
+        ("board of 2 desks\ndesk 5 turns 3".to_string(), "line 2: the board has no desk 5 (cause 1)"),
     ] {
         assert_eq!(refusals(&text)[0], told);
     }
@@ -262,7 +220,7 @@ fn refusals_say_the_place() {
 #[test]
 fn nothing_is_no_ticket() {
     for text in ["", "\n\n# nothing\n", "let shed = word 24"] {
-        let Err(Trouble::Wrong(told)) = ticket("", text.as_bytes(), &mut Names::default(), None) else {
+        let Err(Trouble::Wrong(told)) = ticket("", text.as_bytes(), &mut Names::default()) else {
             panic!("{text}")
         };
         assert_eq!(told, ["there is no ticket in it; 'desk 0 number 1' begins one"]);

@@ -3,14 +3,13 @@
 
 mod common;
 
-use common::program::{ended, given, given_input, stow, until_there, Folder};
 use common::Draw;
 use std::fs;
 use std::io::Write;
-use std::process::Stdio;
+use std::path::PathBuf;
+use std::process::{Command, Output, Stdio};
 use std::thread;
 use std::time::Duration;
-use stow::day::Day;
 use stow::day_file::Underway;
 use stow::frame::Frame;
 use stow::player::Player;
@@ -19,6 +18,65 @@ use zilpanud::{cell_index, Cause};
 /// The papers' ticket, five turns, a cut.
 const PAPERS: &str =
     "board of 1 desk; desk 0 number 1; take 3; word 24 := 5; drop 3; end; desk 0 turns 5; cut";
+
+/// A folder of a test's own, which goes away with it.
+struct Folder(PathBuf);
+
+impl Folder {
+    fn new(name: &str) -> Folder {
+        let folder = std::env::temp_dir().join(format!("stow-{name}-{}", std::process::id()));
+        fs::create_dir_all(&folder).unwrap();
+        Folder(folder)
+    }
+
+    fn file(&self, name: &str, bytes: impl AsRef<[u8]>) -> String {
+        fs::write(self.0.join(name), bytes).unwrap();
+        self.path(name)
+    }
+
+    fn path(&self, name: &str) -> String {
+        self.0.join(name).to_str().unwrap().to_string()
+    }
+}
+
+impl Drop for Folder {
+    fn drop(&mut self) {
+        let _ = fs::remove_dir_all(&self.0);
+    }
+}
+
+fn stow(arguments: &[&str]) -> Command {
+    let mut command = Command::new(env!("CARGO_BIN_EXE_stow"));
+    command.args(arguments).stdin(Stdio::null()).stdout(Stdio::piped()).stderr(Stdio::piped());
+    command
+}
+
+/// What it prints, what it says, its status.
+fn ended(output: Output) -> (String, String, i32) {
+    let text = |bytes| String::from_utf8(bytes).unwrap();
+    (text(output.stdout), text(output.stderr), output.status.code().unwrap())
+}
+
+/// Waits for a file that a child makes.
+fn until_there(path: &str) {
+    for _ in 0..4_000 {
+        if fs::exists(path).unwrap() {
+            return;
+        }
+        thread::sleep(Duration::from_millis(5));
+    }
+    panic!("{path} is not made");
+}
+
+fn given(arguments: &[&str]) -> (String, String, i32) {
+    ended(stow(arguments).output().unwrap())
+}
+
+fn given_input(arguments: &[&str], input: &str) -> (String, String, i32) {
+    let mut child = stow(arguments).stdin(Stdio::piped()).spawn().unwrap();
+    let _ = child.stdin.take().unwrap().write_all(input.as_bytes()); // it may end without reading
+    ended(child.wait_with_output().unwrap())
+}
 
 #[test]
 fn tickets_there_and_back() {
@@ -36,7 +94,7 @@ fn a_refused_ticket_has_no_line() {
     let file = folder.file("move.ticket", steps);
     let (lines, said, status) = given(&["ticket", &file]);
     let wanted = format!(
-        "stow ticket: {file}: line 6, column 1: word 32 belongs to bay 4, which is not held here; held: bay 3 (cause 8)\n  \
+        "stow ticket: {file}: line 6: word 32 belongs to bay 4, which is not held here; held: bay 3 (cause 8)\n  \
          take bay 4 before it, or name one of the words 24 to 31 of bay 3\n"
     );
     assert_eq!((lines.as_str(), said.as_str(), status), ("", wanted.as_str(), 1));
@@ -77,7 +135,7 @@ fn the_papers_day_explained() {
     }
     let (brief, ..) = given_input(&["explain", "--brief"], &day);
     let wanted = "line 2: desk 0, ticket 1: begun in line 3, cut and resumed in line 4, under way at the end of the day";
-    assert_eq!(brief, format!("{wanted}; it changed no board word; 5 turns\n"));
+    assert_eq!(brief, format!("{wanted}; 5 turns\n"));
 }
 
 #[test]
@@ -85,50 +143,24 @@ fn what_is_wrong_is_told_with_a_status() {
     let folder = Folder::new("wrong");
     let (no_day, empty) = (folder.file("day", "01\n0x\n"), folder.file("empty", ""));
     let words = folder.file("words", PAPERS);
-    let tickets = folder.file("tickets", "desk 0 number 1; take 3; word 24 := 5; drop 3; end");
-    let nine = folder.file("nine", "# no such board\nboard of 9 desks\nrounds until idle\n");
     let missing = folder.path("missing");
     for (arguments, status, told) in [
         (&[][..], 2, "what is to be done?"),
         (&["help", "nothing"], 2, "there is no help on 'nothing'"),
         (&["tickte"], 2, "there is no command 'tickte'; did you mean 'ticket'?"),
-        (&["show"], 2, "usage: stow show [OPTION ..] BOARD"),
-        (&["run"], 2, "usage: stow run [OPTION ..] BOARD [DAY]"),
+        (&["show"], 2, "usage: stow show [OPTION ..] IMAGE"),
+        (&["run"], 2, "usage: stow run [OPTION ..] IMAGE [DAY]"),
         (&["explain", "a", "b"], 2, "usage: stow explain [OPTION ..] [DAY]"),
         (&["explain", "--breif"], 2, "there is no option '--breif' here; did you mean '--brief'?"),
         (&["explain", "--brief", "--turns"], 2, "--brief and --turns are two different things"),
         (&["explain", &missing], 2, "missing: No such file"),
         (&["explain", &no_day], 1, "line 2 has 'x' at column 2; digits are 0 to 9 and a to f"),
-        (&["waits", &no_day], 1, "line 2 has 'x' at column 2; digits are 0 to 9 and a to f"),
+        (&["waits", &no_day], 1, "line 2 is malformed (14)"),
         (&["words", &no_day], 1, "line 2 has 'x' at column 2"),
         (&["ticket", &empty], 1, "there is no ticket in it"),
         (&["explain", &empty], 1, "empty: there is no line in it"),
         (&["words", &empty], 1, "empty: there is no line in it"),
-        (&["words", &words], 1, "a day in words is made to frame lines by 'stow ticket'"),
-        (&["next", &empty], 1, "0 bytes are no board; one of 1 to 8 desks has 5328, 5984"),
-        (&["ticket", "--board", &missing, &words], 2, "missing: No such file"),
-        (&["run", "--resume", &missing], 1, "missing: no day is under way on this board"),
-        (
-            &["run", "--resume", &missing, &words],
-            2,
-            "--resume goes on with the day that was cut, and takes no other",
-        ),
-        (&["run", &missing, &tickets], 1, "there is no board, and the day does not say of how many desks"),
-        (
-            &["run", &missing, &nine],
-            1,
-            "nine: line 2: no board has 9 desks (cause 10): it has 1 to 8; nothing was",
-        ),
-        (
-            &["explain", &nine],
-            1,
-            "nine: line 2: no board has 9 desks (cause 10): it has 1 to 8; nothing behind",
-        ),
-        (
-            &["waits", &nine],
-            1,
-            "nine: line 2: no board has 9 desks (cause 10): it has 1 to 8; the numbers are",
-        ),
+        (&["explain", &words], 1, "a day in words is made to frame lines by 'stow ticket'"),
         (&["show", &empty], 1, "0 bytes are no board; one of 1 to 8 desks has 5328, 5984"),
         (&["show", "--watch", &empty], 2, "--watch draws on a terminal, and standard output is none"),
         (&["run", &missing, &no_day], 1, "line 2 has 'x' at column 2"),
@@ -174,13 +206,8 @@ fn a_board_is_shown_and_not_touched() {
     let day = folder.file("day", day);
     let (played, said, status) = given(&["run", &board, &day]);
     assert_eq!((said.as_str(), status), ("", 0));
-    let wanted = "line 2: ticket 1 of desk 0 is begun, and is at step 0: whoever opens the board next resumes it, and \
-                  'rounds until idle' brings it to its end\n";
-    assert!(played.starts_with(wanted), "{played}");
-    assert!(
-        played.ends_with("1 ticket taken, 0 finished; the day ends with tickets under way\n"),
-        "{played}"
-    );
+    let under_way = "the day ends with tickets under way:\n  desk 0 is at step 0 of ticket 1\n";
+    assert!(played.ends_with(&format!("1 ticket taken, 0 finished; {under_way}")), "{played}");
     let before = fs::read(&board).unwrap();
     let (shown, said, status) = given(&["show", &board, "--svg", &picture]);
     assert_eq!((said.as_str(), status), ("", 0));
@@ -196,7 +223,7 @@ fn a_board_is_shown_and_not_touched() {
     // a ticket that is not begun, which a recovery would withdraw
     let (day, ..) = given_input(&["ticket"], &PAPERS.replace("turns 5; cut", "turns 4"));
     let (other, day) = (folder.path("other.board"), folder.file("other", day));
-    assert_eq!(given(&["run", &other, &day]).2, 3);
+    assert_eq!(given(&["run", &other, &day]).2, 0);
     let before = fs::read(&other).unwrap();
     assert!(given(&["show", &other]).0.contains("ticket 1 of 4 steps is handed in and not begun"));
     assert_eq!(fs::read(&other).unwrap(), before);
@@ -298,12 +325,10 @@ fn what_became_of_the_tickets_is_told() {
     let (day, ..) = given_input(&["ticket"], &PAPERS.replace("turns 5", "turns 4"));
     let (board, day) = (folder.path("board"), folder.file("day", day));
     let (played, said, status) = given(&["run", &board, &day]);
-    assert_eq!((said.as_str(), status), ("", 3));
-    let told = format!(
-        "line 2: ticket 1 of desk 0 was not begun at the cut of line 4 and is withdrawn; hand it in again under the same \
-         number\n{board}: the day is played; 1 ticket taken, 0 finished, 1 withdrawn; all desks are idle\n"
-    );
-    assert_eq!(played, told);
+    assert_eq!((said.as_str(), status), ("", 0));
+    let told = "1 ticket taken, 0 finished, 1 withdrawn; all desks are idle\n  \
+                line 4: the cut withdrew ticket 1 of desk 0, which was not begun; hand it in again\n";
+    assert!(played.ends_with(told), "{played}");
 
     let mut bytes = fs::read(&board).unwrap();
     bytes[8 * 584] = 1; // the first desk has a ticket of one step
@@ -319,16 +344,11 @@ fn a_cut_day_is_gone_on_with_on_its_own_board_alone() {
     let folder = Folder::new("own-board");
     let (board, path) = (folder.path("board"), folder.0.join("board"));
     let (day, ..) = given_input(&["ticket"], &PAPERS.replace("turns 5; cut", "turns 65535"));
-    let kept = Underway {
-        start: Player::fresh(1).unwrap().image,
-        day: Day::of_frames("its day", day.as_bytes()),
-        done: vec![],
-        names: String::new(),
-    };
+    let kept = Underway { start: Player::fresh(1).unwrap().image, day: day.clone().into_bytes() };
     let day = folder.file("day", day);
     kept.keep(&path).unwrap();
     let (_, said, status) = given(&["run", &board, &day]);
-    assert!(said.contains("the board is gone, and its day is under way on it") && status == 1, "{said}");
+    assert!(said.contains("the board is gone, and a day is under way on it") && status == 1, "{said}");
     assert!(!path.exists());
 
     let mut other = kept.start.clone();
@@ -341,9 +361,7 @@ fn a_cut_day_is_gone_on_with_on_its_own_board_alone() {
         "{said}"
     );
     assert!(said.contains(&format!("remove {board}.day")) && fs::read(&board).unwrap() == before);
-    let under_way =
-        format!("a day is under way on this board: its day; 'stow run --resume {board}' goes on with it\n");
-    assert!(given(&["show", &board]).0.starts_with(&under_way));
+    assert!(given(&["show", &board]).0.starts_with("a day is under way on this board: "));
 }
 
 /// A day that was cut is not forgotten: another is refused, and by its file it is given up.
@@ -358,21 +376,18 @@ fn another_day_is_refused_while_one_is_under_way() {
     child.kill().unwrap();
     child.wait().unwrap();
     let (_, said, status) = given(&["run", &board, &other]);
-    let told = format!(
-        "another day, {day}, was cut on this board and is not over\n  'stow run --resume {board}' goes on"
-    );
-    assert!(said.contains(&told) && status == 1, "{said}");
+    assert!(said.contains("another day was cut on this board, and is not over") && status == 1, "{said}");
     assert!(said.contains(&format!("remove {board}.day")), "{said}");
-    let (played, _, status) = given(&["run", "--resume", &board]);
-    let told =
-        "the day is played, going on where it was cut; 1 ticket taken, 1 finished; all desks are idle\n";
-    assert!(played.ends_with(told) && status == 0, "{played}");
     let (played, _, status) = given(&["run", &board, &day]);
     assert!(
-        played.ends_with("0 tickets taken, 0 finished, 1 done already; all desks are idle\n") && status == 0,
+        played.contains("going on where the day was cut; 1 ticket taken, 1 finished; all desks are idle")
+            && status == 0
+    );
+    let (played, _, status) = given(&["run", &board, &day]);
+    assert!(
+        played.contains("0 tickets taken, 0 finished, 1 left out, since finished before; all desks are idle")
+            && status == 0,
         "{played}"
     );
-    let shown = given(&["show", &board]).0;
-    assert!(shown.contains("desk 0: idle; ticket 1 is finished; it changed word 24\n"), "{shown}");
-    assert!(shown.ends_with("board words other than 0\n  word 24 is 5\n"));
+    assert!(given(&["show", &board]).0.ends_with("board words other than 0\n  word 24 is 5\n"));
 }

@@ -30,10 +30,6 @@ shape_of-out-then-not-p c = c.loop-out.invariant.bytes
 
 pub returns-then-not-p : goal.returns-then-not-p
 returns-then-not-p c =
-    let c = c in
-    let c = c in
-    let c = c in
-    let c = c in
     let A = c.args in
     let L = c.loop-out in
     let P = c.make-p in
@@ -47,16 +43,10 @@ print-used-requires c =
 
 pub run_on-r-requires : goal.run_on-r-requires
 run_on-r-requires c =
-    let c = c in
     (c.make-p.ensures.keeps.words, c.print-used.ensures.room)
 
 pub loop-out-smaller : goal.loop-out-smaller
 loop-out-smaller c =
-    let c = c in
-    let c = c in
-    let c = c in
-    let c = c in
-    let c = c in
     let A = c.args in
     let L = c.loop-out in
     let P = c.make-p in
@@ -71,13 +61,6 @@ loop-out-smaller c =
 
 pub loop-out-preserved : goal.loop-out-preserved
 loop-out-preserved c =
-    let c = c in
-    let c = c in
-    let c = c in
-    let c = c in
-    let c = c in
-    let c = c in
-    let c = c in
     let A = c.args in
     let L = c.loop-out in
     let P = c.make-p in
@@ -98,7 +81,6 @@ shape_of-out c = c.loop-out.invariant.bytes
 
 pub returns : goal.returns
 returns c =
-    let c = c in
     let A = c.args in
     let L = c.loop-out in
     going-over A.image.now A.input.now A.out.now A.more A.d L.image L.out L.s L.from L.used L.invariant

@@ -2,10 +2,9 @@
 use borrow.Author.Rules.{rules}
 use native.Mathlib.Omega.{arith}
 use Prim.Native.Nat.{◌+◌, ◌-◌, ◌<◌, ◌≤◌}
-use mathlib.Core.Path.{◌≡◌, refl, sym}
+use mathlib.Core.Path.{◌≡◌, refl, sym, ◌∙◌}
 use lib.ListN.{length, take, drop, length-drop}
 use lib.Seq.{length-take-le}
-use Rattle.base.proofs.Bools.{denied, granted}
 use Rattle.buffers.specs.Input.{line_of}
 use Rattle.buffers.proofs.Lines.{part-rest, line-front, rest-next, rest-last}
 use Rattle.pieces.proofs.Parts.{next-none, next-made}
@@ -17,7 +16,7 @@ returns-then-not-complete c =
     let l = part-rest A.input.now A.from c.requires.0 in
     let n = A.input.now in
     let E = c.line_end-end.ensures in
-    let e = denied c.complete.ensures c.if-not-complete.true-raw in
+    let e = sym c.complete.ensures ∙ c.if-not-complete.true in
     rw c.made.ensures
     (next-none A.image.now n A.d A.from A.more c.requires.0 c.requires.1.words (rw (E.place, l) at e))
 
@@ -26,16 +25,11 @@ slice_bounds-line-end c = sym (length-take-le _ _ c.line_end-end.ensures.bound)
 
 pub returns-then-end-n : goal.returns-then-end-n
 returns-then-end-n c =
-    let c = c in
-    let c = c in
-    let c = c in
-    let c = c in
-    let c = c in
     let A = c.args in
     let l = part-rest A.input.now A.from c.requires.0 in
     let n = A.input.now in
     let E = c.line_end-end.ensures in
-    let e = granted c.complete.ensures c.if-not-complete.false-raw in
+    let e = sym c.complete.ensures ∙ c.if-not-complete.false in
     let L = c.line-s in
     let d : c.line_end-end.result ≡ length (line_of (drop A.from n)) = rw l at E.place in
     let t : take c.line_end-end.result (take (length n - A.from) (drop A.from n)) ≡ line_of (drop A.from n) =
@@ -49,16 +43,11 @@ returns-then-end-n c =
 
 pub returns : goal.returns
 returns c =
-    let c = c in
-    let c = c in
-    let c = c in
-    let c = c in
-    let c = c in
     let A = c.args in
     let l = part-rest A.input.now A.from c.requires.0 in
     let n = A.input.now in
     let E = c.line_end-end.ensures in
-    let e = granted c.complete.ensures c.if-not-complete.false-raw in
+    let e = sym c.complete.ensures ∙ c.if-not-complete.false in
     let L = c.line-s in
     let d : c.line_end-end.result ≡ length (line_of (drop A.from n)) = rw l at E.place in
     let t : take c.line_end-end.result (take (length n - A.from) (drop A.from n)) ≡ line_of (drop A.from n) =

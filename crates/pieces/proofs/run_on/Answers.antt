@@ -29,14 +29,10 @@ slice_bounds-go_on-end-in-loop-image c = sym (length-take-le _ _ c.loop-image.in
 pub print-to-requires : goal.print-to-requires
 print-to-requires c =
     let L = c.loop-image in
-    omega (arith, L.invariant.3.room, leb-true 22 (length L.out - L.to) c.if-out-to-ge22.true-raw)
+    omega (arith, L.invariant.3.room, c.if-out-to-ge22.true)
 
 pub loop-image-smaller : goal.loop-image-smaller
 loop-image-smaller c =
-    let c = c in
-    let c = c in
-    let c = c in
-    let c = c in
     let A = c.args in
     let L = c.loop-image in
     let G = c.go_on-p in
@@ -46,11 +42,6 @@ loop-image-smaller c =
 
 pub loop-image-preserved : goal.loop-image-preserved
 loop-image-preserved c =
-    let c = c in
-    let c = c in
-    let c = c in
-    let c = c in
-    let c = c in
     let A = c.args in
     let L = c.loop-image in
     let G = c.go_on-p in
@@ -61,7 +52,7 @@ loop-image-preserved c =
       refl,
       runs-next A.image.now L.image A.out.now L.out A.used A.d.words L.to A.d.played L.p L.invariant.3 G.new.image
           G.result G.auto.image j G.ensures
-          T.new.out T.result (leb-true 22 _ c.if-out-to-ge22.true-raw) T.ensures T.auto.out,
+          T.new.out T.result c.if-out-to-ge22.true T.ensures T.auto.out,
     )
 
 pub shape_of-image-else-out-to-ge22 : goal.shape_of-image-else-out-to-ge22

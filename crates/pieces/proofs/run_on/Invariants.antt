@@ -13,7 +13,9 @@ use Rattle.pieces.proofs.Runs.{day_at, run_at, runs-start, run-less, runs-next}
 use Rattle.pieces.proofs.run_on.Given as goal
 
 abbrev pub invariant-loop-image : goal.invariant-loop-image
-invariant-loop-image l = (length l.image ≡ length l.initial.image) × (length l.out ≡ length l.initial.out) × (l.job ≡ l.p.job) × RunsOn l.initial.image l.image l.initial.out l.out l.used (day_at l.n l.initial.p) (run_at l.n l.p l.to)
+invariant-loop-image l =
+    (length l.image ≡ length l.initial.image) × (length l.out ≡ length l.initial.out) × (l.job ≡ l.p.job)
+    × RunsOn l.initial.image l.image l.initial.out l.out l.used (day_at l.n l.initial.p) (run_at l.n l.p l.to)
 
 abbrev pub decreases-loop-image : goal.decreases-loop-image
 decreases-loop-image l = job_pieces l.p.job

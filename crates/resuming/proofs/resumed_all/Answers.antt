@@ -11,7 +11,7 @@ use Rattle.image.specs.Image.{at, workers}
 use Rattle.working.specs.Cursor.{step_no, turn_no}
 use Rattle.owed.specs.Owed.{owed}
 use Rattle.owed.specs.Inner.Shared.{sets_in}
-use Rattle.resuming.specs.Resumed.{resumedAt, resumedAll}
+use Rattle.resuming.specs.Resumed.{resumed_at, resumed_all}
 use Rattle.soundness.proofs.Sets.{eight_is, union-are}
 use Rattle.resuming.proofs.resumed_all.Goals as goal
 
@@ -28,8 +28,8 @@ pub loop-d-preserved : goal.loop-d-preserved
 loop-d-preserved c =
     let A = c.args in
     let L = c.loop-d in
-    let at-step : ℕ → ℕ = λ d. step_no (resumedAt A.own (at A.own A.image.now) (workers A.image.now) d) in
-    let at_turn : ℕ → ℕ = λ d. turn_no (resumedAt A.own (at A.own A.image.now) (workers A.image.now) d) in
+    let at-step : ℕ → ℕ = λ d. step_no (resumed_at A.own (at A.own A.image.now) (workers A.image.now) d) in
+    let at_turn : ℕ → ℕ = λ d. turn_no (resumed_at A.own (at A.own A.image.now) (workers A.image.now) d) in
     let b : L.d < length L.step = omega arith in
     let b' : L.d < length L.turn = omega arith in (
       omega arith,
@@ -45,7 +45,7 @@ union-requires c =
     omega (arith, c.workers.ensures, c.requires.0.most, e)
 
 pub returns : goal.returns
-unfolding resumedAll
+unfolding resumed_all
 returns c =
     let A = c.args in
     let L = c.loop-d in
@@ -55,7 +55,7 @@ returns c =
     c.union.ensures
     ∙ (ap₂ (λ (l : List ℕ) (k : ℕ). union (sets_in l) k) c.requires.1 c.workers.ensures ∙ union-are A.own rd D c.requires.0.most) in
     rw (
-      ← eight_is L.step (λ d. step_no (resumedAt A.own rd D d)) L.d L.invariant.1 c.loop-d-test.false L.invariant.3,
-      ← eight_is L.turn (λ d. turn_no (resumedAt A.own rd D d)) L.d L.invariant.2 c.loop-d-test.false L.invariant.4,
+      ← eight_is L.step (λ d. step_no (resumed_at A.own rd D d)) L.d L.invariant.1 c.loop-d-test.false L.invariant.3,
+      ← eight_is L.turn (λ d. turn_no (resumed_at A.own rd D d)) L.d L.invariant.2 c.loop-d-test.false L.invariant.4,
       held,
     )

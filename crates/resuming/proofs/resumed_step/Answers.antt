@@ -2,7 +2,7 @@
 use borrow.Author.Tests.{eq-eqb, ne_eqb}
 use native.Mathlib.Omega.{arith}
 use Rattle.image.specs.Image.{at}
-use Rattle.owed.specs.Owed.{namedStep}
+use Rattle.owed.specs.Owed.{named_step}
 use Rattle.resuming.specs.Resumed.{resumed}
 use Rattle.soundness.proofs.Legible.{pc-low}
 use Rattle.resuming.proofs.resumed_step.Goals as goal
@@ -23,5 +23,5 @@ overflow_sub-result c =
     c.if-pc-eq0.false).0
 
 pub returns : goal.returns
-unfolding namedStep resumed
+unfolding named_step resumed
 returns c = rw (← c.read_field-pc.ensures, ne_eqb c.read_field-pc.result 0 c.if-pc-eq0.false)

@@ -3,7 +3,7 @@
 use borrow.Author.Tests.{eq-eqb, ne_eqb}
 use native.Mathlib.Omega.{arith}
 use Rattle.image.specs.Image.{at}
-use Rattle.owed.specs.Owed.{namedStep, namedOp}
+use Rattle.owed.specs.Owed.{named_step, named_op}
 use Rattle.resuming.specs.Resumed.{resumed}
 use Rattle.soundness.proofs.Legible.{pc-low}
 use Rattle.resuming.proofs.resumed_turn.Goals as goal
@@ -24,7 +24,7 @@ read_step-requires c =
     (c.requires.0, omega arith)
 
 pub returns : goal.returns
-unfolding namedStep namedOp resumed
+unfolding named_step named_op resumed
 returns c =
     rw (
       ← c.read_field-pc.ensures,

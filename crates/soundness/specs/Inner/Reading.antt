@@ -6,7 +6,7 @@ use Rattle.image.specs.Image.{Image, length_of, at, workers}
 use Rattle.code.specs.Form.{in_range}
 use Rattle.section.specs.Check.{Code, held_before}
 use Rattle.worklog.specs.Log.{code_in}
-use Rattle.owed.specs.Owed.{namedStep}
+use Rattle.owed.specs.Owed.{named_step}
 use Rattle.soundness.specs.Sound.{eight, owed_at}
 
 -- ---- a section that is begun
@@ -14,7 +14,7 @@ use Rattle.soundness.specs.Sound.{eight, owed_at}
 -- the pc names a step of a section whose instructions are in their ranges
 pub record Begun (n : ℕ) (rd : Memory) (d : ℕ) : Type 0 where
   pub some : 1 ≤ rd (field Pc d) % 9223372036854775808
-  pub named : namedStep n rd d < rd (field Count d)
+  pub named : named_step n rd d < rd (field Count d)
   pub most : rd (field Count d) ≤ 64
   pub ranges : (j : ℕ) → j < rd (field Count d) → in_range n (code_in n rd d j) ≡ true
 

@@ -1,5 +1,4 @@
 -- `stages::dawn` meets its contract.
-use borrow.Author.Rules.{rules}
 use Rattle.stages.proofs.dawn.Goals as goal
 
 pub returns : goal.returns

@@ -1,5 +1,4 @@
 -- `stages::ended` meets its contract.
-use borrow.Author.Rules.{rules}
 use Rattle.stages.specs.Begun.{ended}
 use Rattle.stages.proofs.ended.Goals as goal
 

@@ -1,5 +1,4 @@
 -- `stages::fresh` meets its contract.
-use borrow.Author.Rules.{rules}
 use Rattle.stages.specs.Begun.{fresh}
 use Rattle.stages.proofs.fresh.Goals as goal
 

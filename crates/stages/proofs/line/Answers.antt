@@ -13,7 +13,8 @@ unfolding line_on
 returns-then-n-eq0 c =
     let F = c.first in
     let A = c.args in
-    let e : A.d.words ≡ 0 = c.if-n-eq0.true in record { stage = rw e F.ensures.stage; buffer = rw e F.ensures.buffer }
+    let e : A.d.words ≡ 0 = c.if-n-eq0.true in
+    record { stage = rw e F.ensures.stage; buffer = rw e F.ensures.buffer }
 
 pub slice_bounds-begin-end-2 : goal.slice_bounds-begin-end-2
 slice_bounds-begin-end-2 c = sym (length-take-le _ _ c.requires.words)
@@ -21,9 +22,11 @@ slice_bounds-begin-end-2 c = sym (length-take-le _ _ c.requires.words)
 pub returns : goal.returns
 unfolding line_on
 returns c =
-    let c = c in
     let G = c.begin-q in
-    let c = c in
     let m = c.args.image.now in
     let n = c.args.d.words in
-    let h = c.requires.words in record { stage = rw (front-words m G.new.image n h G.auto.image, length-take-le n m h, ne_eqb n 0 c.if-n-eq0.false) G.ensures; buffer = front-buffered m G.new.image n h G.auto.image n (omega arith) }
+    let h = c.requires.words in
+    record {
+      stage = rw (front-words m G.new.image n h G.auto.image, length-take-le n m h, ne_eqb n 0 c.if-n-eq0.false) G.ensures;
+      buffer = front-buffered m G.new.image n h G.auto.image n (omega arith);
+    }

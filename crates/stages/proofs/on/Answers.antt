@@ -13,4 +13,8 @@ pub returns : goal.returns
 returns c =
     let G = c.go_on-q in
     let m = c.args.image.now in
-    let n = c.args.d.words in record { stage = rw (front-words m G.new.image n c.requires G.auto.image) G.ensures; buffer = front-buffered m G.new.image n c.requires G.auto.image n (omega arith) }
+    let n = c.args.d.words in
+    record {
+      stage = rw (front-words m G.new.image n c.requires G.auto.image) G.ensures;
+      buffer = front-buffered m G.new.image n c.requires G.auto.image n (omega arith);
+    }

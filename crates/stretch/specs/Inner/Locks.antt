@@ -7,19 +7,19 @@ use Rattle.image.specs.Place.{lock, field}
 use Rattle.image.specs.Image.{Image, index_of, at, put}
 use Rattle.tally.specs.declared.Passes.{Passes}
 use Rattle.tally.specs.Inner.Passes.{with_passed_free, with_passed_others}
-use Rattle.stretch.specs.Inner.Logged.{withTarget}
+use Rattle.stretch.specs.Inner.Logged.{with_target}
 
 -- worker d at step s takes lock a: the owner word, then the owned mask in a logged store; n: own words in a record
 module _ (n d s a : ℕ) (m : Image) (left : ℕ) where
-  abbrev pub withOwner : Image
-  withOwner = put left m (index_of n (lock a)) (d + 1)
+  abbrev pub with_owner : Image
+  with_owner = put left m (index_of n (lock a)) (d + 1)
 
-  abbrev pub tookImage : Image
-  tookImage = withTarget n d s (index_of n (field Owned d)) (with (at n withOwner (field Owned d)) a) withOwner (left - 1)
+  abbrev pub took_image : Image
+  took_image = with_target n d s (index_of n (field Owned d)) (with (at n with_owner (field Owned d)) a) with_owner (left - 1)
 
   -- it gives it back: the owned mask without it, in a logged store
-  abbrev pub disownedImage : Image
-  disownedImage = withTarget n d s (index_of n (field Owned d)) (without (at n m (field Owned d)) a) m left
+  abbrev pub disowned_image : Image
+  disowned_image = with_target n d s (index_of n (field Owned d)) (without (at n m (field Owned d)) a) m left
 
 -- the intent without it
 abbrev pub unwanted_image : ℕ → ℕ → ℕ → Image → ℕ → Image

@@ -3,19 +3,19 @@ use Rattle.std.specs.Prelude.{ℕ, ◌-◌}
 use Rattle.image.specs.declared.Field.TheVariants.{Pc}
 use Rattle.image.specs.Place.{field}
 use Rattle.image.specs.Image.{Image, index_of, at, put}
-use Rattle.worklog.specs.Log.{spareAddr, spareVal, switched}
+use Rattle.worklog.specs.Log.{spare_addr, spare_val, switched}
 
 -- the image after the stores of v at index i for worker d at step s, with so many stores left before them: address, value, pc, target. What they store is
 -- read before the first of them. n: own words in a record
 module _ (n d s i v : ℕ) (m : Image) (left : ℕ) where
-  abbrev pub withAddress : Image
-  withAddress = put left m (index_of n (field (spareAddr n (at n m) d) d)) i
+  abbrev pub with_address : Image
+  with_address = put left m (index_of n (field (spare_addr n (at n m) d) d)) i
 
-  abbrev pub withValue : Image
-  withValue = put (left - 1) withAddress (index_of n (field (spareVal n (at n m) d) d)) v
+  abbrev pub with_value : Image
+  with_value = put (left - 1) with_address (index_of n (field (spare_val n (at n m) d) d)) v
 
-  abbrev pub withPc : Image
-  withPc = put (left - 1 - 1) withValue (index_of n (field Pc d)) (switched n (at n m) d s)
+  abbrev pub with_pc : Image
+  with_pc = put (left - 1 - 1) with_value (index_of n (field Pc d)) (switched n (at n m) d s)
 
-  abbrev pub withTarget : Image
-  withTarget = put (left - 1 - 1 - 1) withPc i v
+  abbrev pub with_target : Image
+  with_target = put (left - 1 - 1 - 1) with_pc i v

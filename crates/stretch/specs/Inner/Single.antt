@@ -3,7 +3,7 @@ use Rattle.std.specs.Prelude.{ℕ, suc, ◌-◌, ◌≡◌, true}
 use Rattle.image.specs.Image.{Image, index_of, at, put}
 use Rattle.tally.specs.declared.Tally.{Tally}
 use Rattle.working.specs.Cursor.{on, step_no, turn_no}
-use Rattle.plan.specs.Turn.{Outcome, stored, passed, waiting, resting, refused, ready, turnAt}
+use Rattle.plan.specs.Turn.{Outcome, stored, passed, waiting, resting, refused, ready, turn_at}
 use Rattle.turn.specs.declared.Answer.TheVariants.{Stored, Passed, Waiting}
 use Rattle.turn.specs.Call.{held_by}
 use Rattle.turn.specs.Counted.{counted}
@@ -34,4 +34,4 @@ module _ (n d : ℕ) where
   pub data Turns : ℕ → Single → Single → Type 0 where
     none : (a : Single) → Turns 0 a a
     then : (k : ℕ) (a b : Single) → ready n (at n a.image) d a.step a.turn ≡ true
-        → Turns k (after n a (turnAt n (at n a.image) d (on a.step a.turn))) b → Turns (suc k) a b
+        → Turns k (after n a (turn_at n (at n a.image) d (on a.step a.turn))) b → Turns (suc k) a b

@@ -1,12 +1,12 @@
 -- `worklog::active_val` meets its contract.
 use Rattle.std.proofs.Common.{sym, ◌∙◌, rules}
-use Rattle.worklog.specs.Log.{activeVal}
+use Rattle.worklog.specs.Log.{active_val}
 use Rattle.worklog.proofs.active_val.Goals as goal
 
 pub returns-then-second : goal.returns-then-second
-unfolding activeVal
+unfolding active_val
 returns-then-second c = simp (sym c.second.ensures ∙ c.if-second.true)
 
 pub returns : goal.returns
-unfolding activeVal
+unfolding active_val
 returns c = simp (sym c.second.ensures ∙ c.if-second.false)

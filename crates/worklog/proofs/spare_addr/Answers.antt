@@ -1,12 +1,12 @@
 -- `worklog::spare_addr` meets its contract.
 use Rattle.std.proofs.Common.{sym, ◌∙◌, rules}
-use Rattle.worklog.specs.Log.{spareAddr}
+use Rattle.worklog.specs.Log.{spare_addr}
 use Rattle.worklog.proofs.spare_addr.Goals as goal
 
 pub returns-then-second : goal.returns-then-second
-unfolding spareAddr
+unfolding spare_addr
 returns-then-second c = simp (sym c.second.ensures ∙ c.if-second.true)
 
 pub returns : goal.returns
-unfolding spareAddr
+unfolding spare_addr
 returns c = simp (sym c.second.ensures ∙ c.if-second.false)

@@ -7,5 +7,8 @@ use Rattle.zilpanud.proofs.zilpanud_standing.Goals as goal
 
 pub returns : goal.returns
 returns c =
-    let c = c in
-    let A = c.args in record { code = c.asked.ensures; answer = c.standing_no.ensures ∙ ap standing_no c.standing-s.ensures ∙ stands-told A.image.now A.worker A.number }
+    let A = c.args in
+    record {
+      code = c.asked.ensures;
+      answer = c.standing_no.ensures ∙ ap standing_no c.standing-s.ensures ∙ stands-told A.image.now A.worker A.number;
+    }

@@ -1,11 +1,9 @@
 //! A day told in a line for each ticket: what became of it, and in which line of the day.
 
 use super::{open, End};
-use crate::day::Day;
 use crate::frame::{self, Ticket};
 use crate::language::names::Names;
-use crate::outcome::Outcome;
-use crate::player::{At, Event, Player, Watch};
+use crate::player::{Event, Player, Watch};
 use crate::refusal::of_ticket;
 use crate::say::{bay, counted, listed};
 use std::collections::BTreeMap;
@@ -27,7 +25,6 @@ struct Row {
     is_open: bool,
     turns: u64,
     waits: BTreeMap<usize, u64>,
-    outcome: Outcome,
 }
 
 struct Brief<'a> {
@@ -36,8 +33,6 @@ struct Brief<'a> {
     rows: Vec<Row>,
     /// The row of the ticket that a desk has had last.
     last: BTreeMap<usize, usize>,
-    /// The image before the last turn.
-    before: Vec<u64>,
 }
 
 impl Brief<'_> {
@@ -51,22 +46,19 @@ impl Brief<'_> {
         let (desk, number) = (ticket.desk as usize, ticket.number);
         let came = refused.map(|cause| of_ticket(cause, ticket, player, self.names));
         let (is_open, came) = (came.is_none(), came.into_iter().collect());
-        let (line, turns, waits, outcome) = (self.line, 0, BTreeMap::new(), Outcome::default());
+        let (line, turns, waits) = (self.line, 0, BTreeMap::new());
         let (is_begun, is_finished) = (false, false);
         if is_open {
             self.last.insert(desk, self.rows.len());
         }
-        let row = Row { line, desk, number, came, is_begun, is_finished, is_open, turns, waits, outcome };
-        self.rows.push(row);
+        self.rows.push(Row { line, desk, number, came, is_begun, is_finished, is_open, turns, waits });
     }
 
-    fn turned(&mut self, at: At, answer: Turn, times: u64, player: &Player) {
+    fn turned(&mut self, desk: usize, answer: Turn, times: u64) {
         let line = self.line;
-        let Some(row) = self.last.get(&at.desk).map(|last| &mut self.rows[*last]).filter(|row| row.is_open)
-        else {
+        let Some(row) = self.of(desk) else {
             return;
         };
-        row.outcome.note(at, answer, &mut self.before, player);
         let place = match answer {
             Turn::Waiting(bay) => {
                 let waits = row.waits.entry(bay).or_insert(0);
@@ -109,7 +101,7 @@ impl Brief<'_> {
     }
 
     fn say(&self, row: &Row) -> String {
-        let Row { line, desk, number, came, is_begun, is_finished, is_open, turns, waits, outcome } = row;
+        let Row { line, desk, number, came, is_begun, is_finished, is_open, turns, waits } = row;
         let mut came = came.clone();
         match (is_open, is_begun, is_finished) {
             (false, ..) => {}
@@ -127,11 +119,7 @@ impl Brief<'_> {
             (turns, "") => format!("; {}", counted(*turns, "turn")),
             (turns, waits) => format!("; {}, and {waits}", counted(*turns, "turn")),
         };
-        let did = match is_begun {
-            true => format!("; it {}", outcome.words(self.names)),
-            false => String::new(),
-        };
-        format!("line {line}: desk {desk}, ticket {number}: {}{did}{turns}", came.join(", "))
+        format!("line {line}: desk {desk}, ticket {number}: {}{turns}", came.join(", "))
     }
 }
 
@@ -141,7 +129,7 @@ impl Watch for Brief<'_> {
     fn see(&mut self, event: Event<'_>, player: &Player) -> Result<(), Infallible> {
         match event {
             Event::HandedIn { ticket, refused } => self.handed_in(ticket, refused, player),
-            Event::Turned { at, answer, times } => self.turned(at, answer, times, player),
+            Event::Turned { at, answer, times } => self.turned(at.desk, answer, times),
             Event::Recovered { refused: None, .. } => self.recovered(player),
             Event::Recovered { .. } | Event::Cut | Event::TurnRefused { .. } => {}
         }
@@ -149,8 +137,8 @@ impl Watch for Brief<'_> {
     }
 }
 
-pub fn told(day: &Day, names: &Names, mut out: impl Write) -> io::Result<End> {
-    let mut lines = frame::lines(&day.frames);
+pub fn told(day: &[u8], names: &Names, mut out: impl Write) -> io::Result<End> {
+    let mut lines = frame::lines(day);
     let Some(first) = lines.next() else {
         return Ok(End::Read);
     };
@@ -158,11 +146,10 @@ pub fn told(day: &Day, names: &Names, mut out: impl Write) -> io::Result<End> {
         Ok(player) => player,
         Err(end) => return Ok(end),
     };
-    let before = player.image.clone();
-    let mut brief = Brief { names, line: 1, rows: vec![], last: BTreeMap::new(), before };
+    let mut brief = Brief { names, line: 1, rows: vec![], last: BTreeMap::new() };
     let mut end = End::Read;
     for (number, line) in (2..).zip(lines) {
-        brief.line = day.line(number);
+        brief.line = number;
         match frame::frame(line) {
             Ok(frame) => match player.play(&frame, &mut brief) {
                 Ok(()) => {}

@@ -8,7 +8,6 @@ mod turns;
 
 pub use phrase::noted;
 
-use crate::day::Day;
 use crate::frame::{self, Frame, Malformed};
 use crate::language::frame_words;
 use crate::language::names::Names;
@@ -141,7 +140,7 @@ fn open(line: &[u8]) -> Result<Player, End> {
 }
 
 /// Tells a whole day.
-pub fn explain(day: &Day, names: &Names, how: How, out: impl Write) -> io::Result<End> {
+pub fn explain(day: &[u8], names: &Names, how: How, out: impl Write) -> io::Result<End> {
     match how {
         How::Steps => told(day, names, out, &mut steps::Steps::default()),
         How::Turns => told(day, names, out, &mut turns::Turns),
@@ -149,8 +148,8 @@ pub fn explain(day: &Day, names: &Names, how: How, out: impl Write) -> io::Resul
     }
 }
 
-fn told<W: Write, M: Manner<W>>(day: &Day, names: &Names, mut out: W, manner: &mut M) -> io::Result<End> {
-    let mut lines = frame::lines(&day.frames);
+fn told<W: Write, M: Manner<W>>(day: &[u8], names: &Names, mut out: W, manner: &mut M) -> io::Result<End> {
+    let mut lines = frame::lines(day);
     let Some(first) = lines.next() else {
         return Ok(End::Read);
     };
@@ -158,15 +157,14 @@ fn told<W: Write, M: Manner<W>>(day: &Day, names: &Names, mut out: W, manner: &m
         Ok(player) => player,
         Err(end) => return Ok(end),
     };
-    let desks = crate::say::counted(player.desks as u64, "desk");
-    writeln!(out, "line {}: a fresh board of {desks}", day.line(1))?;
+    writeln!(out, "line 1: a fresh board of {}", crate::say::counted(player.desks as u64, "desk"))?;
     let mut told = Teller { out, names, before: player.clone(), is_silent: false };
     for (number, line) in (2..).zip(lines) {
         let frame = match frame::frame(line) {
             Ok(frame) => frame,
             Err(why) => return Ok(End::Malformed { line: number, why }),
         };
-        told.raw(&format!("line {}: {}", day.line(number), heading(&frame, names)))?;
+        told.raw(&format!("line {number}: {}", heading(&frame, names)))?;
         told.is_silent = true;
         player.play(&frame, &mut Telling { told: &mut told, manner })?;
         manner.ended(&mut told)?;
@@ -199,6 +197,6 @@ fn at_the_end<W: Write>(told: &mut Teller<'_, W>, player: &Player) -> io::Result
         return Ok(());
     };
     told.raw("\nat the end of the day")?;
-    let text = show::text(&look, told.names, &|_, _| None);
+    let text = show::text(&look, told.names);
     told.out.write_all(text.as_bytes())
 }

@@ -2,8 +2,7 @@
 
 use super::phrase::noted;
 use crate::language::names::Names;
-use crate::player::{Met, Player, Store};
-use crate::report::Stage;
+use crate::player::{Player, Store};
 use crate::say::{bays, counted, is_are, listed, step};
 use zilpanud::Place;
 
@@ -23,10 +22,10 @@ pub fn cut(names: &Names, player: &Player) -> Vec<String> {
 fn stood(names: &Names, player: &Player, desk: usize) -> Option<String> {
     let (at, record) = (player.at(desk)?, player.record(desk)?);
     let instruction = record.steps.get(at.step).copied().unwrap_or(0);
-    let begun = match player.stage(desk)? {
-        Stage::Ending => "finished, but for its last turns",
-        Stage::NotBegun => "not begun",
-        Stage::Begun { .. } => "begun",
+    let begun = match (record.pc, record.number <= record.finished) {
+        (_, true) => "finished, but for its last turns",
+        (0, false) => "not begun",
+        _ => "begun",
     };
     let (number, words) = (at.number, step(names, instruction));
     Some(format!(
@@ -64,20 +63,19 @@ pub fn recovered(names: &Names, before: &Player, after: &Player, stores: &[Store
 
 /// How a desk goes on; none if it had no ticket.
 fn on(names: &Names, before: &Player, after: &Player, desk: usize) -> Option<Vec<String>> {
-    let (number, met) = after.met(&before.image, desk)?;
-    let (at, is) = match (met, after.at(desk), after.record(desk)) {
-        (Met::Resumed, Some(at), Some(is)) => (at, is),
-        (Met::Ended, ..) => {
-            return Some(vec![format!(
-                "desk {desk}: ticket {number} is finished, and its last store is made"
-            )])
-        }
-        _ => {
-            return Some(vec![
+    let (was, is) = (before.record(desk)?, after.record(desk)?);
+    if was.count == 0 && was.pc == 0 {
+        return None;
+    }
+    let number = was.number;
+    let Some(at) = after.at(desk) else {
+        return Some(match was.number <= was.finished {
+            true => vec![format!("desk {desk}: ticket {number} is finished, and its last store is made")],
+            false => vec![
                 format!("desk {desk}: ticket {number} was not begun and is withdrawn"),
                 "  hand it in again, under the same number".to_string(),
-            ])
-        }
+            ],
+        });
     };
     let owed = match (is.intent, is.intent.count_ones()) {
         (_, 0) => "is owed no bay".to_string(),

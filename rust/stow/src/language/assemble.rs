@@ -6,6 +6,7 @@ use super::scan::{self, Statement};
 use super::statement::{read, Labelled, Said, Step};
 use super::Mistake;
 use crate::frame::{Frame, Ticket};
+use crate::say::plain_word;
 use zilpanud::code;
 
 /// Where something stands in a text: lines and columns count from 1.
@@ -18,13 +19,10 @@ pub struct Position {
 /// A frame line, and where it was said.
 #[derive(Clone, PartialEq, Eq, Debug)]
 pub struct Item {
-    /// A ticket whose number is still to be filled in has 0.
     pub frame: Frame,
     pub place: Position,
     /// Of each step of a ticket.
     pub steps: Vec<Position>,
-    /// `number next`: one above the last of its desk.
-    pub is_next: bool,
 }
 
 /// A skip whose label's step is not known yet, or a label.
@@ -38,7 +36,7 @@ struct Mark<'a> {
 struct Open<'a> {
     place: Position,
     desk: u8,
-    number: Option<u64>,
+    number: u64,
     args: [u64; 8],
     steps: Vec<u64>,
     places: Vec<Position>,
@@ -61,8 +59,9 @@ fn mistake(place: Position, what: String, meant: Option<String>) -> Mistake {
 /// The frames of a text, with names beside those that it gives itself; or all that is wrong with it.
 pub fn day(bytes: &[u8], names: &mut Names) -> Result<Vec<Item>, Vec<Mistake>> {
     let text = scan::text(bytes).map_err(|mistake| vec![mistake])?;
-    let mut assembler = Assembler { items: vec![], open: None, is_told: false, mistakes: vec![] };
-    for statement in scan::statements(text) {
+    let (statements, mistakes) = scan::statements(text);
+    let mut assembler = Assembler { items: vec![], open: None, is_told: false, mistakes };
+    for statement in statements {
         let (line, begins_ticket) = (statement.line, is_header(&statement));
         match read(statement, names) {
             Err(mistake) => {
@@ -103,7 +102,11 @@ pub fn names_file(bytes: &[u8], names: &mut Names) -> Result<(), Vec<Mistake>> {
 
 fn give(names: &mut Names, name: &str, thing: Thing, place: Position) -> Result<(), Mistake> {
     names.give(name, thing).map_err(|other| {
-        mistake(place, format!("'{name}' is {other} already"), Some("take another name".to_string()))
+        let is = match other {
+            Thing::Word(word) => plain_word(word),
+            Thing::Bay(bay) => format!("bay {bay}"),
+        };
+        mistake(place, format!("'{name}' is {is} already"), Some("take another name".to_string()))
     })
 }
 
@@ -178,7 +181,7 @@ impl<'t> Assembler<'t> {
             _ => None,
         };
         self.mistakes.extend(wrong.map(|what| mistake(place, what.to_string(), None)));
-        self.items.push(Item { frame, place, steps: vec![], is_next: false });
+        self.items.push(Item { frame, place, steps: vec![] });
     }
 
     /// The ticket that was open is whole: its skips find their labels.
@@ -194,9 +197,11 @@ impl<'t> Assembler<'t> {
             }
         }
         let Open { place, desk, number, args, steps, places, .. } = open;
-        let ticket = Ticket { desk, number: number.unwrap_or(0), args, steps };
-        let is_next = number.is_none();
-        self.items.push(Item { frame: Frame::HandIn(ticket), place, steps: places, is_next });
+        self.items.push(Item {
+            frame: Frame::HandIn(Ticket { desk, number, args, steps }),
+            place,
+            steps: places,
+        });
     }
 }
 

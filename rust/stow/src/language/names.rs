@@ -1,8 +1,6 @@
 //! Names for words and bays: `let shed = word 24`.
 
-use crate::say::plain_word;
 use std::collections::BTreeMap;
-use std::fmt;
 
 /// What a name can stand for.
 #[derive(Clone, Copy, PartialEq, Eq, PartialOrd, Ord, Debug)]
@@ -10,16 +8,6 @@ pub enum Thing {
     /// A word number: 0 to 511 on the board, 512 to 519 the desk's own.
     Word(u16),
     Bay(u16),
-}
-
-/// As a name is given to it.
-impl fmt::Display for Thing {
-    fn fmt(&self, f: &mut fmt::Formatter<'_>) -> fmt::Result {
-        match self {
-            Thing::Word(word) => write!(f, "{}", plain_word(*word)),
-            Thing::Bay(bay) => write!(f, "bay {bay}"),
-        }
-    }
 }
 
 /// Names, both ways. A thing may have several; it is shown by the first.
@@ -56,13 +44,6 @@ impl Names {
             Thing::Word(word) => Some((*word, name.as_str())),
             Thing::Bay(_) => None,
         })
-    }
-
-    /// All of them, as a file of names has them.
-    pub fn text(&self) -> String {
-        let shown_first = self.shown.iter().map(|(thing, name)| (name, thing));
-        let all = shown_first.chain(self.things.iter().filter(|(name, thing)| self.shown[thing] != **name));
-        all.map(|(name, thing)| format!("let {name} = {thing}\n")).collect()
     }
 
     /// All names, for a suggestion.

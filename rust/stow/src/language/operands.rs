@@ -6,8 +6,6 @@ use super::scan::{Sort, Statement, Token};
 use super::{Mistake, KEYWORDS};
 use zilpanud::code::own;
 
-const BELOW: &str = "there are no numbers below 0";
-
 /// A token in quotation marks, without its end if it is long.
 pub fn quoted(text: &str) -> String {
     match text.char_indices().nth(40) {
@@ -95,13 +93,11 @@ impl<'t, 'n> Reader<'t, 'n> {
     /// A number up to a largest; `range` says what there is.
     pub fn number(&mut self, of: &str, largest: u64, range: &str) -> Result<u64, Mistake> {
         let Some(token) = self.peek().filter(|token| token.sort == Sort::Number) else {
-            let is_below = self.peek().is_some_and(|token| token.text == "-");
-            let meant = is_below.then(|| BELOW.to_string());
-            return Err(self.expected(&format!("the number of {of}"), meant));
+            return Err(self.expected(&format!("the number of {of}"), None));
         };
         if !token.text.bytes().all(|byte| byte.is_ascii_digit()) {
             let what = format!("{} is not a number", quoted(token.text));
-            let meant = "numbers are whole and decimal, and stand by themselves".to_string();
+            let meant = "numbers are decimal, and stand by themselves".to_string();
             return Err(self.mistake(token.column, what, Some(meant)));
         }
         let number = token.text.parse::<u64>().ok().filter(|number| *number <= largest);
@@ -168,7 +164,7 @@ impl<'t, 'n> Reader<'t, 'n> {
                 );
                 Err(self.expected("a word", Some(meant)))
             }
-            (_, "-") => Err(self.expected("a word", Some(BELOW.to_string()))),
+            (_, "-") => Err(self.expected("a word", Some("there are no numbers below 0".to_string()))),
             (_, "=") => {
                 Err(self.expected("a word", Some("there is '<' alone: a <= b where b < a is 0".to_string())))
             }

@@ -7,12 +7,10 @@ use super::Mistake;
 pub enum Sort {
     /// Letters, digits and `_`, not beginning with a digit: a keyword or a name.
     Word,
-    /// Digits; what follows them without a blank belongs to it, so that `24x` and `2.5` are one wrong number each.
+    /// Digits; what follows them without a blank belongs to it, so that `24x` is one wrong number.
     Number,
     /// `:=`, `:`, `=`, `+`, `-`, `<`, `..`
     Sign,
-    /// A character that begins no token. It is its statement's last: what follows it is not read.
-    Strange,
 }
 
 #[derive(Clone, Copy, PartialEq, Eq, Debug)]
@@ -38,38 +36,16 @@ fn in_word(c: char) -> bool {
     c.is_alphanumeric() || c == '_'
 }
 
-/// The token that a text begins with; none where it begins with a blank.
+/// The token that a text begins with.
 fn first(text: &str) -> Option<(Sort, &str)> {
-    let begins = text.chars().next().filter(|c| !c.is_whitespace())?;
-    let (sort, end) = match SIGNS.iter().find(|sign| text.starts_with(**sign)) {
-        Some(sign) => (Sort::Sign, sign.len()),
-        None if begins.is_ascii_digit() => (Sort::Number, number_end(text)),
-        None if in_word(begins) => (Sort::Word, word_end(text)),
-        None => (Sort::Strange, begins.len_utf8()),
-    };
-    Some((sort, &text[..end]))
-}
-
-fn word_end(text: &str) -> usize {
-    text.find(|c| !in_word(c)).unwrap_or(text.len())
-}
-
-/// Where a number ends, with what stands behind a point: no number has one, but it was meant to be one.
-fn number_end(text: &str) -> usize {
-    let mut end = word_end(text);
-    while text[end..].strip_prefix('.').is_some_and(|rest| rest.starts_with(|c: char| c.is_ascii_digit())) {
-        end += 1 + word_end(&text[end + 1..]);
+    let begins = text.chars().next()?;
+    if in_word(begins) {
+        let length = text.find(|c| !in_word(c)).unwrap_or(text.len());
+        let sort = if begins.is_ascii_digit() { Sort::Number } else { Sort::Word };
+        return Some((sort, &text[..length]));
     }
-    end
-}
-
-/// The mistake of a statement that has a character which no token begins with.
-pub fn strange(statement: &Statement<'_>) -> Option<Mistake> {
-    let token = statement.tokens.last().filter(|token| token.sort == Sort::Strange)?;
-    let c = token.text.chars().next()?;
-    let shown = if c.is_control() { c.escape_default().to_string() } else { c.to_string() };
-    let what = format!("{shown} stands in no statement");
-    Some(Mistake { line: statement.line, column: token.column, what, meant: meant(c) })
+    let sign = SIGNS.iter().find(|sign| text.starts_with(**sign))?;
+    Some((Sort::Sign, &text[..sign.len()]))
 }
 
 /// What may have been meant by a character that no token begins with.
@@ -78,52 +54,53 @@ fn meant(c: char) -> Option<String> {
         '\u{2212}' | '\u{2013}' => "write '-' for a difference".to_string(),
         '>' => "turn the two words round and write '<'".to_string(),
         '"' | '\'' => "names stand without quotation marks".to_string(),
-        ',' => "numbers are whole, and stand side by side with blanks between them and no commas".to_string(),
-        '.' => "numbers are whole".to_string(),
+        ',' => "numbers stand side by side, with blanks between them and no commas".to_string(),
         '/' => "a comment begins with '#'".to_string(),
         '*' => "there are sums and differences, and no products".to_string(),
         _ => return None,
     })
 }
 
-/// The tokens of a statement that begins at this column.
-fn tokens(mut rest: &str, mut column: usize) -> Vec<Token<'_>> {
-    let mut tokens = vec![];
-    while let Some(blank) = rest.chars().next() {
-        let found = first(rest);
-        tokens.extend(found.map(|(sort, text)| Token { sort, text, column }));
-        let length = match found {
-            Some((Sort::Strange, _)) => break,
-            Some((_, text)) => text.len(),
-            None => blank.len_utf8(),
-        };
-        column += rest[..length].chars().count();
-        rest = &rest[length..];
-    }
-    tokens
-}
-
-/// The statements of one line.
-fn line<'a>(line: usize, text: &'a str, statements: &mut Vec<Statement<'a>>) {
+/// The statements of one line; what cannot be read is told once for a statement.
+fn line<'a>(number: usize, text: &'a str, statements: &mut Vec<Statement<'a>>, mistakes: &mut Vec<Mistake>) {
     let mut column = 1;
     for part in text.split('#').next().unwrap_or("").split(';') {
-        let tokens = tokens(part, column);
-        if let Some(last) = tokens.last() {
-            let end = last.column + last.text.chars().count();
-            statements.push(Statement { line, tokens, end });
+        let (mut tokens, mut rest, mut end) = (vec![], part, column);
+        while let Some(c) = rest.chars().next() {
+            let length = match first(rest) {
+                Some((sort, text)) => {
+                    tokens.push(Token { sort, text, column });
+                    end = column + text.chars().count();
+                    text.len()
+                }
+                None if c.is_whitespace() => c.len_utf8(),
+                None => {
+                    let shown = if c.is_control() { c.escape_default().to_string() } else { c.to_string() };
+                    let what = format!("{shown} stands in no statement");
+                    mistakes.push(Mistake { line: number, column, what, meant: meant(c) });
+                    tokens.clear();
+                    column += rest.chars().count();
+                    break;
+                }
+            };
+            column += rest[..length].chars().count();
+            rest = &rest[length..];
         }
-        column += part.chars().count() + 1; // the `;`
+        if !tokens.is_empty() {
+            statements.push(Statement { line: number, tokens, end });
+        }
+        column += 1; // the `;`
     }
 }
 
 /// All statements of a text. Lines end with byte 10; a carriage return before it is a blank.
-pub fn statements(text: &str) -> Vec<Statement<'_>> {
-    let mut statements = vec![];
+pub fn statements(text: &str) -> (Vec<Statement<'_>>, Vec<Mistake>) {
+    let (mut statements, mut mistakes) = (vec![], vec![]);
     let text = text.strip_prefix('\u{feff}').unwrap_or(text);
     for (at, one) in text.split('\n').enumerate() {
-        line(at + 1, one, &mut statements);
+        line(at + 1, one, &mut statements, &mut mistakes);
     }
-    statements
+    (statements, mistakes)
 }
 
 /// The text of bytes, or where they are none.
@@ -142,8 +119,8 @@ mod tests {
     use super::*;
 
     fn texts(line: &str) -> Vec<(usize, &str)> {
-        let statements = statements(line);
-        assert!(statements.iter().all(|one| strange(one).is_none()));
+        let (statements, mistakes) = statements(line);
+        assert!(mistakes.is_empty());
         statements.iter().flat_map(|one| one.tokens.iter().map(|token| (token.column, token.text))).collect()
     }
 
@@ -163,18 +140,9 @@ mod tests {
 
     #[test]
     fn a_strange_character_is_told_once_a_statement() {
-        let statements = statements("take ? ?; cut");
-        assert_eq!(statements.iter().map(|one| one.tokens.len()).collect::<Vec<_>>(), [2, 1]);
-        assert_eq!(statements[1].tokens[0].column, 11);
-        assert_eq!(
-            statements.iter().filter_map(strange).map(|mistake| mistake.column).collect::<Vec<_>>(),
-            [6]
-        );
-    }
-
-    #[test]
-    fn a_number_with_a_point_is_one_token() {
-        assert_eq!(texts("with 2.5 1.2.3"), [(1, "with"), (6, "2.5"), (10, "1.2.3")]);
-        assert_eq!(texts("with 40.. 4"), [(1, "with"), (6, "40"), (8, ".."), (11, "4")]);
+        let (statements, mistakes) = statements("take ? ?; cut");
+        assert_eq!((statements.len(), mistakes.len()), (1, 1));
+        assert_eq!(statements[0].tokens[0].column, 11);
+        assert_eq!(mistakes[0].column, 6);
     }
 }

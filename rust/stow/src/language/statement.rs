@@ -3,35 +3,19 @@
 use super::meant::did_you_mean;
 use super::names::{Names, Thing};
 use super::operands::{quoted, Reader};
-use super::scan::{strange, Sort, Statement, Token};
+use super::scan::{Sort, Statement, Token};
 use super::Mistake;
-use crate::frame::UNTIL_IDLE;
 use zilpanud::code::{self, Kind};
 use zilpanud::LOCKS;
 
 /// A statement, without the label before it.
 #[derive(Clone, PartialEq, Eq, Debug)]
 pub enum Said<'t> {
-    Let {
-        name: Token<'t>,
-        thing: Thing,
-    },
-    Board {
-        desks: u8,
-    },
-    /// Without a number: `number next`.
-    Ticket {
-        desk: u8,
-        number: Option<u64>,
-        args: [u64; 8],
-    },
-    Turns {
-        desk: u8,
-        turns: u16,
-    },
-    Rounds {
-        rounds: u16,
-    },
+    Let { name: Token<'t>, thing: Thing },
+    Board { desks: u8 },
+    Ticket { desk: u8, number: u64, args: [u64; 8] },
+    Turns { desk: u8, turns: u16 },
+    Rounds { rounds: u16 },
     Cut,
     Step(Step<'t>),
 }
@@ -57,9 +41,6 @@ const BEGINNINGS: [&str; 12] =
     ["take", "drop", "if", "end", "word", "own", "desk", "board", "rounds", "cut", "let", "code"];
 
 pub fn read<'t>(statement: Statement<'t>, names: &Names) -> Result<Labelled<'t>, Mistake> {
-    if let Some(mistake) = strange(&statement) {
-        return Err(mistake);
-    }
     let mut reader = Reader::new(statement, names);
     let label = match reader.peek_second() {
         Some(Token { sort: Sort::Sign, text: ":", .. }) => {
@@ -87,7 +68,9 @@ fn said<'t>(reader: &mut Reader<'t, '_>) -> Result<Said<'t>, Mistake> {
         "desk" => desk(reader)?,
         "rounds" => {
             reader.next();
-            Said::Rounds { rounds: how_many(reader, "rounds", "a line has 0 to 65535 rounds")? }
+            Said::Rounds {
+                rounds: reader.number("rounds", u16::MAX as u64, "a line has 0 to 65535 rounds")? as u16,
+            }
         }
         "cut" => {
             reader.next();
@@ -135,33 +118,21 @@ fn board<'t>(reader: &mut Reader<'t, '_>) -> Result<Said<'t>, Mistake> {
     Ok(Said::Board { desks })
 }
 
-/// `desk 0 number 7 with 40 1 ..`, `desk 0 number next`, `desk 0 turns 5`
+/// `desk 0 number 7 with 40 1 ..`, `desk 0 turns 5`
 fn desk<'t>(reader: &mut Reader<'t, '_>) -> Result<Said<'t>, Mistake> {
     reader.next();
     let desk = reader.number("a desk", u8::MAX as u64, "the desks are 0 to 7")? as u8;
     if reader.reads("turns") || reader.reads("turn") {
-        let turns = how_many(reader, "turns", "a line has 0 to 65535 turns")?;
+        let turns = reader.number("turns", u16::MAX as u64, "a line has 0 to 65535 turns")? as u16;
         return Ok(Said::Turns { desk, turns });
     }
     if !reader.reads("number") {
         let meant = reader.peek().and_then(|token| did_you_mean(token.text, ["number", "turns"]));
         return Err(reader.expected("'number' and a ticket's number, or 'turns' and how many,", meant));
     }
-    let number = match reader.reads("next") {
-        true => None,
-        false => Some(reader.number("a ticket", u64::MAX, "it is 1 to 18446744073709551615")?),
-    };
+    let number = reader.number("a ticket", u64::MAX, "it is 1 to 18446744073709551615")?;
     let args = if reader.reads("with") { arguments(reader)? } else { [0; 8] };
     Ok(Said::Ticket { desk, number, args })
-}
-
-/// `5`, or `until idle`: as many as a line can have. No ticket needs more.
-fn how_many(reader: &mut Reader<'_, '_>, of: &str, range: &str) -> Result<u16, Mistake> {
-    if reader.reads("until") {
-        reader.expect("idle")?;
-        return Ok(UNTIL_IDLE);
-    }
-    Ok(reader.number(of, u16::MAX as u64, range)? as u16)
 }
 
 /// Up to eight numbers; those left out are 0, and `..` may say so.

@@ -2,7 +2,7 @@
 
 use super::names::Names;
 use super::KEYWORDS;
-use crate::frame::{Frame, Ticket, UNTIL_IDLE};
+use crate::frame::{Frame, Ticket};
 use crate::say::{arguments, counted, step_to};
 use zilpanud::code::{fields_of, Kind};
 
@@ -16,16 +16,9 @@ pub fn frame_words(frame: &Frame, names: &Names) -> String {
     match frame {
         Frame::Board { desks } => format!("board of {}\n", counted(*desks as u64, "desk")),
         Frame::HandIn(ticket) => ticket_words(ticket, names),
-        Frame::Turns { desk, turns } => format!("desk {desk} turns {}\n", how_many(*turns)),
+        Frame::Turns { desk, turns } => format!("desk {desk} turns {turns}\n"),
         Frame::Cut => "cut\n".to_string(),
-        Frame::Rounds { rounds } => format!("rounds {}\n", how_many(*rounds)),
-    }
-}
-
-fn how_many(number: u16) -> String {
-    match number {
-        UNTIL_IDLE => "until idle".to_string(),
-        number => number.to_string(),
+        Frame::Rounds { rounds } => format!("rounds {rounds}\n"),
     }
 }
 

@@ -1,7 +1,6 @@
 //! The board as a picture: 64 bays by 8 words in two halves, a panel for each desk, and what the marks mean.
 
-use super::desks::{panel, runs, standing, PANEL};
-use super::legend::legend;
+use super::desks::{panel, runs, standing, step_bar, PANEL};
 use super::svg::{group, Area, Element, Side};
 use super::{mark, word_cell, Mark, Page, FAINT, FIGURE, HEAD, INNER, ON_LIGHT, SMALL, SMALL_STRONG, WORD};
 use crate::language::names::{Names, Thing};
@@ -28,14 +27,11 @@ const FIRST: (f64, f64) = (214.0, 26.0);
 const WORDS: f64 = HALF - 8.0 * WORD;
 
 /// Panels and what the marks mean stand in columns.
-pub const COLUMNS: usize = 4;
+const COLUMNS: usize = 4;
 const COLUMN_GAP: f64 = 12.0;
-pub const COLUMN: f64 = (INNER - COLUMN_GAP * (COLUMNS - 1) as f64) / COLUMNS as f64;
-
-/// The part of a line that is in a column.
-pub fn in_column(line: Area, column: usize) -> Area {
-    line.span(column as f64 * (COLUMN + COLUMN_GAP), COLUMN)
-}
+const COLUMN: f64 = (INNER - COLUMN_GAP * (COLUMNS - 1) as f64) / COLUMNS as f64;
+const LEGEND_LINE: f64 = 20.0;
+const SAMPLE: f64 = 52.0;
 
 /// The board as a whole SVG document.
 pub fn board(look: &Look, names: &Names, title: &str) -> String {
@@ -57,7 +53,7 @@ pub fn board(look: &Look, names: &Names, title: &str) -> String {
     }
     named_words(&mut page, look, names);
     desks(&mut page, look, names);
-    legend(&mut page, look);
+    legend(&mut page);
     page.finish(&description(look, names))
 }
 
@@ -131,7 +127,7 @@ fn named_words(page: &mut Page, look: &Look, names: &Names) {
     for row in rows.chunks(COLUMNS) {
         let strip = page.strip(ROW);
         for (column, (word, name, value)) in row.iter().enumerate() {
-            let slot = in_column(strip, column);
+            let slot = strip.span(column as f64 * (COLUMN + COLUMN_GAP), COLUMN);
             let (number, cell) = (slot.span(0.0, WORD), slot.span(WORD + 6.0, WORD));
             let label = slot.span(2.0 * WORD + 14.0, COLUMN - 2.0 * WORD - 14.0);
             page.draw(number.text(Side::Right, &FAINT, &format!("word {word}")));
@@ -141,38 +137,27 @@ fn named_words(page: &mut Page, look: &Look, names: &Names) {
     }
 }
 
-/// The mark of a bay's holder.
-pub fn held(bay: &Bay) -> Option<Mark> {
-    match bay.holder {
-        Holder::Free => None,
-        Holder::Desk(desk) if bay.intended_by.contains(&desk) => Some(Mark::Held),
-        Holder::Desk(_) | Holder::Nobody(_) => Some(Mark::Damaged),
-    }
-}
-
 fn holder_mark(area: Area, bay: &Bay, label: &str) -> Option<Element> {
-    let how = held(bay)?;
-    let (text, tip) = match (bay.holder, how) {
-        (Holder::Free, _) => return None,
-        (Holder::Desk(desk), Mark::Damaged) => {
+    Some(match bay.holder {
+        Holder::Free => return None,
+        Holder::Desk(desk) if bay.intended_by.contains(&desk) => {
+            mark(area, Mark::Held, &format!("desk {desk}"), &format!("{label} is held by desk {desk}"))
+        }
+        Holder::Desk(desk) => {
             let tip = format!("{label}: its lock word names desk {desk}, which does not mean to have it");
-            (format!("desk {desk}"), tip)
+            mark(area, Mark::Damaged, &format!("desk {desk}"), &tip)
         }
-        (Holder::Desk(desk), _) => (format!("desk {desk}"), format!("{label} is held by desk {desk}")),
-        (Holder::Nobody(word), _) => {
-            ("nobody".to_string(), format!("{label}: its lock word is {word}, which names no desk"))
+        Holder::Nobody(word) => {
+            let tip = format!("{label}: its lock word is {word}, which names no desk");
+            mark(area, Mark::Damaged, "nobody", &tip)
         }
-    };
-    Some(mark(area, how, &text, &tip))
+    })
 }
 
-/// The desks that mean to have a bay and have it not.
-pub fn meant(bay: &Bay) -> Vec<usize> {
-    bay.intended_by.iter().copied().filter(|desk| bay.holder != Holder::Desk(*desk)).collect()
-}
-
+/// The desks that mean to have it and have it not.
 fn meant_mark(area: Area, bay: &Bay, label: &str) -> Option<Element> {
-    let others = meant(bay);
+    let others = |desk: &usize| bay.holder != Holder::Desk(*desk);
+    let others: Vec<usize> = bay.intended_by.iter().copied().filter(others).collect();
     let text = match others[..] {
         [] => return None,
         [desk] => format!("desk {desk}"),
@@ -190,11 +175,46 @@ fn desks(page: &mut Page, look: &Look, names: &Names) {
         let strip = page.strip(PANEL);
         for (column, desk) in desks.iter().enumerate() {
             let number = line * COLUMNS + column;
-            let area = in_column(strip, column);
+            let area = strip.span(column as f64 * (COLUMN + COLUMN_GAP), COLUMN);
             page.draw(panel(area, desk, names, number, unsound == Some(number as u64)));
         }
         page.strip(GAP);
     }
+}
+
+/// What the marks mean.
+fn legend(page: &mut Page) {
+    let lines = [page.strip(LEGEND_LINE), page.strip(LEGEND_LINE)];
+    let slot = |line: usize, column: usize| lines[line].span(column as f64 * (COLUMN + COLUMN_GAP), COLUMN);
+    let item = |line, column, sample: &dyn Fn(Area) -> Element, text: &str| {
+        let words = slot(line, column).span(SAMPLE + 8.0, COLUMN - SAMPLE - 8.0);
+        group([
+            sample(slot(line, column).span(0.0, SAMPLE).inset(0.0, 3.0)),
+            words.text(Side::Left, &SMALL, text),
+        ])
+    };
+    let cell = |value| move |area: Area| word_cell(area.span(0.0, WORD), "a word", value);
+    let items = [
+        item(0, 0, &|area| mark(area, Mark::Held, "desk 0", "held"), "the desk that holds the bay"),
+        item(
+            0,
+            1,
+            &|area| mark(area, Mark::Meant, "desk 1", "meant"),
+            "means to have the bay, and has it not",
+        ),
+        item(0, 2, &|area| mark(area, Mark::Damaged, "desk 2", "damaged"), "the lock word is not sound"),
+        item(
+            0,
+            3,
+            &|area| step_bar(area.inset(0.0, 4.0), 5, Some(2)),
+            "steps recorded, from step 0 on; to come",
+        ),
+        item(1, 0, &cell(7), "a word other than 0"),
+        item(1, 1, &cell(0), "a word that is 0"),
+        item(1, 2, &cell(u64::MAX), "shortened: 18.4 × 10^18; point at it"),
+        item(1, 3, &|area| area.text(Side::Left, &FAINT, "24 +3"), "row of word 24, column +3: word 27"),
+    ];
+    page.draw(group(items));
 }
 
 /// For those who do not see it.
@@ -257,7 +277,7 @@ mod tests {
             ">&lt;&amp;&quot;&#39;&gt;</text>",
             "bay 3 (&lt;&amp;&quot;&#39;&gt;) is held by desk 0",
             ") is meant by desk 1<",
-            ">step 2 of 0-4: shed := shed - own 0</text>",
+            ">step 2 of 5: shed := shed - own 0</text>",
             "handed in, not begun",
             "<title>word 24 (shed): 5</title>",
             ">word 24</text>",
@@ -265,7 +285,7 @@ mod tests {
         ] {
             assert!(picture.contains(text), "{text}");
         }
-        assert!(!picture.contains("refused") && !picture.contains("the lock word is not sound"));
+        assert!(!picture.contains("refused"));
     }
 
     #[test]
@@ -277,7 +297,7 @@ mod tests {
         for word in 0..512 {
             assert!(picture.contains(&format!("<title>word {word}: {}</title>", value(word))));
         }
-        assert!(!picture.contains(">·<"));
+        assert_eq!(picture.matches(">·<").count(), 1); // what the marks mean
     }
 
     #[test]
@@ -287,11 +307,10 @@ mod tests {
         let picture = drawn(&image, &Names::default());
         assert!(picture.contains(">a recovery is refused with 13: two desks are owed bay 9, or"));
         assert!(picture.contains("bay 9: its lock word is 77, which names no desk"));
-        assert!(picture.contains(">the lock word is not sound<"));
         image[image_len(1) + 1] = 99; // desk 1's place
         let picture = drawn(&image, &Names::default());
         assert!(picture.contains(">a recovery is refused with 12: desk 1&#39;s record is not sound<"));
-        assert!(picture.contains(">step 98, and the ticket has 0-4<"));
+        assert!(picture.contains(">step 98, and the ticket has 5<"));
     }
 
     /// Between the last two stores of an end, a desk has a ticket that is done.
@@ -303,12 +322,8 @@ mod tests {
         while !Look::of(&image).unwrap().desks[0].is_ending() {
             zilpanud::turn(&mut image, &mut cursors, 0).unwrap();
         }
-        for _ in 0..2 {
-            let picture = drawn(&image, &Names::default());
-            assert!(picture.contains(">finished, at its last turns<") && !picture.contains("handed in"));
-            assert!(picture.contains(">5 steps, all over<") && !picture.contains("class=\"recorded\""));
-            zilpanud::turn(&mut image, &mut cursors, 0).unwrap();
-        }
+        let picture = drawn(&image, &Names::default());
+        assert!(picture.contains(">finished, at its last turns<") && !picture.contains("handed in"));
     }
 
     #[test]

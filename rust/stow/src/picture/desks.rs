@@ -17,7 +17,7 @@ const TOP: (f64, f64) = (4.0, 20.0);
 const LABELS: (f64, f64) = (25.0, 12.0);
 const VALUES: (f64, f64) = (36.0, 15.0);
 const STEP: (f64, f64) = (53.0, 15.0);
-const BAR: (f64, f64) = (70.0, 5.0);
+const BAR: (f64, f64) = (69.0, 5.0);
 const MEANS: (f64, f64) = (78.0, 14.0);
 const OWNS: (f64, f64) = (91.0, 14.0);
 const OWN: (f64, f64) = (106.0, 15.0);
@@ -34,67 +34,10 @@ const STEP_GAP: f64 = 2.0;
 /// Steps that are narrower than this run together.
 const STEP_LEAST: f64 = 8.0;
 
-/// How far the box of the recorded step stands out above and below.
-const STEP_MARK: f64 = 1.0;
-
-/// The classes of steps' boxes.
-pub const OVER: &str = "over";
-pub const RECORDED: &str = "recorded";
-pub const AHEAD: &str = "ahead";
-
 /// Own words stand in two lines of four, each behind its number.
 const OWN_COLUMNS: usize = 4;
 const OWN_LABEL: f64 = 38.0;
 const OWN_NUMBER: f64 = 8.0;
-
-/// How far a ticket has come.
-#[derive(Clone, Copy, PartialEq, Eq, Debug)]
-enum Reached {
-    /// It is not begun.
-    Nothing,
-    /// This step is recorded, and those before it are over. A damaged image may name one that the ticket has not.
-    Step(u64),
-    /// It is finished.
-    End,
-}
-
-impl Reached {
-    /// Of a ticket that is finished the step before its end stays recorded for a turn.
-    fn of(ticket: &OpenTicket, is_ending: bool) -> Reached {
-        match ticket.begun {
-            _ if is_ending => Reached::End,
-            Some(begun) => Reached::Step(begun.step),
-            None => Reached::Nothing,
-        }
-    }
-}
-
-/// The parts of a bar of steps.
-#[derive(Clone, Copy, PartialEq, Eq, Debug)]
-pub struct Bar {
-    pub over: usize,
-    pub recorded: bool,
-    pub ahead: usize,
-}
-
-impl Bar {
-    /// None where the ticket has no step that can be read, or not the one that is recorded.
-    fn of(count: usize, reached: Reached) -> Option<Bar> {
-        let (over, recorded) = match reached {
-            Reached::Nothing => (0, false),
-            Reached::Step(step) => (usize::try_from(step).ok()?, true),
-            Reached::End => (count, false),
-        };
-        let ahead = count.checked_sub(over)?.checked_sub(recorded as usize)?;
-        (count > 0).then_some(Bar { over, recorded, ahead })
-    }
-
-    /// The bar of a desk's ticket.
-    pub fn of_desk(desk: &Desk) -> Option<Bar> {
-        let ticket = desk.ticket.as_ref()?;
-        Bar::of(ticket.steps.len(), Reached::of(ticket, desk.is_ending()))
-    }
-}
 
 /// A desk's panel. It is `damaged` if a recovery is refused for its record.
 pub fn panel(area: Area, desk: &Desk, names: &Names, number: usize, damaged: bool) -> Element {
@@ -122,9 +65,10 @@ pub fn panel(area: Area, desk: &Desk, names: &Names, number: usize, damaged: boo
     });
     parts.push(numbers(line(LABELS), line(VALUES), desk));
     if let Some(ticket) = &desk.ticket {
-        let reached = Reached::of(ticket, desk.is_ending());
-        parts.push(line(STEP).text(Side::Left, &SMALL, &progress(ticket, reached, names)));
-        parts.push(step_bar(line(BAR), Bar::of(ticket.steps.len(), reached)));
+        let ended = desk.is_ending().then(|| (ticket.steps.len() as u64).saturating_sub(1));
+        let recorded = ticket.begun.map(|begun| begun.step).or(ended);
+        parts.push(line(STEP).text(Side::Left, &SMALL, &progress(ticket, recorded, names)));
+        parts.push(step_bar(line(BAR), ticket.steps.len(), recorded));
     }
     for (place, label, mask) in [(MEANS, "means to have", desk.intent), (OWNS, "owns", desk.owned)] {
         parts.push(line(place).span(0.0, LABEL).text(Side::Left, &HEAD, label));
@@ -174,22 +118,20 @@ fn numbers(labels: Area, values: Area, desk: &Desk) -> Element {
     }))
 }
 
-/// `step 3 of 0-7: word 24 := 5`
-fn progress(ticket: &OpenTicket, reached: Reached, names: &Names) -> String {
+/// `step 3 of 8: word 24 := 5`
+fn progress(ticket: &OpenTicket, recorded: Option<u64>, names: &Names) -> String {
     let count = ticket.steps.len();
-    match (reached, ticket.steps.first()) {
-        (Reached::Step(step), None) => format!("step {step}; none can be read"),
-        (_, None) => "no step of the ticket can be read".to_string(),
-        (Reached::Nothing, Some(first)) => {
+    let recorded = recorded.map(|step| (step, step_at(ticket, step)));
+    match (recorded, ticket.steps.first()) {
+        (Some((step, Some(instruction))), _) => {
+            format!("step {step} of {count}: {}", say::step(names, instruction))
+        }
+        (Some((step, None)), Some(_)) => format!("step {step}, and the ticket has {count}"),
+        (Some((step, None)), None) => format!("step {step}; none can be read"),
+        (None, Some(first)) => {
             format!("{}, first {}", say::counted(count as u64, "step"), say::step(names, *first))
         }
-        (Reached::Step(step), Some(_)) => match step_at(ticket, step) {
-            Some(instruction) => {
-                format!("step {step} of 0-{}: {}", count - 1, say::step(names, instruction))
-            }
-            None => format!("step {step}, and the ticket has 0-{}", count - 1),
-        },
-        (Reached::End, Some(_)) => format!("{}, all over", say::counted(count as u64, "step")),
+        (None, None) => "no step of the ticket can be read".to_string(),
     }
 }
 
@@ -204,32 +146,27 @@ pub fn standing(desk: &Desk) -> String {
         Some(OpenTicket { number, .. }) if desk.is_ending() => format!("ticket {number} is finished"),
         Some(OpenTicket { number, begun: None, .. }) => format!("ticket {number} is handed in and not begun"),
         Some(OpenTicket { number, begun: Some(begun), steps }) => {
-            let last = steps.len().saturating_sub(1);
-            format!("ticket {number} is begun, at step {} of 0 to {last}", begun.step)
+            format!("ticket {number} is begun, at step {} of {}", begun.step, steps.len())
         }
     }
 }
 
-/// A box for each step: filled where it is over, marked where it is the one recorded, else empty. All is hatched where
-/// there is no telling.
-fn step_bar(area: Area, bar: Option<Bar>) -> Element {
-    let Some(Bar { over, recorded, ahead }) = bar else {
+/// A part for each step; those up to the one recorded last are filled. It is hatched where the ticket
+/// has not that step.
+pub fn step_bar(area: Area, count: usize, recorded: Option<u64>) -> Element {
+    let recorded = recorded.map(|step| usize::try_from(step).unwrap_or(usize::MAX));
+    if count == 0 || recorded.is_some_and(|step| step >= count) {
         return group([area.rect("hatched"), area.rect("outline")]);
-    };
-    let count = over + recorded as usize + ahead;
-    let part = area.width / count as f64;
-    let boxes =
-        |from: usize, to: usize, gap: f64| area.span(part * from as f64, part * (to - from) as f64 - gap);
-    let marked = |area: Area| area.inset(0.0, -STEP_MARK).rect(RECORDED);
-    if part < STEP_LEAST {
-        let runs = [boxes(0, count, 0.0).rect(AHEAD), boxes(0, over, 0.0).rect(OVER)];
-        return group(runs.into_iter().chain(recorded.then(|| marked(boxes(over, over + 1, 0.0)))));
     }
-    group((0..count).map(|step| match boxes(step, step + 1, STEP_GAP) {
-        area if step < over => area.rect(OVER),
-        area if step == over && recorded => marked(area),
-        area => area.rect(AHEAD),
-    }))
+    let part = area.width / count as f64;
+    let done = recorded.map_or(0, |step| step + 1);
+    let parts =
+        |from: usize, to: usize, width: f64| area.span(part * from as f64, part * (to - from) as f64 - width);
+    if part < STEP_LEAST {
+        return group([parts(0, count, 0.0).rect("ahead"), parts(0, done, 0.0).rect("done")]);
+    }
+    let class = |step| if step < done { "done" } else { "ahead" };
+    group((0..count).map(|step| parts(step, step + 1, STEP_GAP).rect(class(step))))
 }
 
 /// Rising numbers, three and more that follow each other as one: `0-2`, `4`, `5`
@@ -271,25 +208,15 @@ mod tests {
         assert_eq!([of(&[]), of(&[3]), of(&[3, 4]), of(&[0, 1, 2, 4, 5, 7])], ["", "3", "3,4", "0-2,4,5,7"]);
     }
 
-    /// The words and the boxes agree: at step 2 two boxes are filled, and the next is marked.
     #[test]
-    fn steps_that_are_over_are_filled() {
+    fn steps_that_are_done_are_filled() {
         let area = Area::new(0.0, 0.0, 300.0, 5.0);
-        let count = |steps, reached| {
-            let bar = step_bar(area, Bar::of(steps, reached)).to_string();
-            [OVER, RECORDED, AHEAD, "hatched"].map(|class| bar.matches(&format!("\"{class}\"")).count())
-        };
-        assert_eq!(count(8, Reached::Nothing), [0, 0, 8, 0]);
-        assert_eq!(count(8, Reached::Step(0)), [0, 1, 7, 0]);
-        assert_eq!(count(8, Reached::Step(2)), [2, 1, 5, 0]);
-        assert_eq!(count(8, Reached::Step(7)), [7, 1, 0, 0]);
-        assert_eq!(count(8, Reached::End), [8, 0, 0, 0]);
-        assert_eq!(count(64, Reached::Step(9)), [1, 1, 1, 0]);
-        for (steps, reached) in [(0, Reached::Nothing), (0, Reached::Step(0)), (0, Reached::End)] {
-            assert_eq!(count(steps, reached), [0, 0, 0, 1]);
-        }
-        for step in [8, 9, u64::MAX] {
-            assert_eq!(count(8, Reached::Step(step)), [0, 0, 0, 1]);
+        let count =
+            |steps, recorded, class: &str| step_bar(area, steps, recorded).to_string().matches(class).count();
+        assert_eq!((count(8, Some(2), "done"), count(8, Some(2), "ahead")), (3, 5));
+        assert_eq!((count(8, None, "done"), count(8, None, "ahead")), (0, 8));
+        for (steps, recorded) in [(0, None), (0, Some(0)), (8, Some(8)), (8, Some(u64::MAX))] {
+            assert_eq!(count(steps, recorded, "hatched"), 1);
         }
     }
 }

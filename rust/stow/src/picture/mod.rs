@@ -4,7 +4,6 @@
 
 mod board;
 mod desks;
-mod legend;
 mod svg;
 mod waits;
 
@@ -77,8 +76,7 @@ const SHAPES: &str = "
 .stow .striped{fill:url(#stow-stripe);stroke:BLUE;stroke-width:1}
 .stow .light{fill:#d5e3ec;stroke:BLUE;stroke-width:1}
 .stow .outline{fill:none;stroke:ALARM;stroke-width:.8}
-.stow .over{fill:BLUE;stroke:BLUE;stroke-width:.8}
-.stow .recorded{fill:#fff;stroke:BLUE;stroke-width:2.2}
+.stow .done{fill:BLUE;stroke:BLUE;stroke-width:.8}
 .stow .ahead{fill:#fff;stroke:#767676;stroke-width:.8}
 .stow .panel-none{fill:#fafafa;stroke:#bfbfbf;stroke-width:.8}
 .stow .panel-waiting{fill:#fff;stroke:#4d4d4d;stroke-width:1.2;stroke-dasharray:5 3}
@@ -165,7 +163,7 @@ fn patterns() -> Element {
 }
 
 /// How a mark for desks looks.
-#[derive(Clone, Copy, PartialEq, Eq, Debug)]
+#[derive(Clone, Copy)]
 enum Mark {
     Held,
     Meant,
@@ -193,21 +191,13 @@ fn mark(area: Area, mark: Mark, text: &str, tip: &str) -> Element {
 /// The width of a cell that has a word: room for seven digits, or for 18.4e18.
 const WORD: f64 = 47.75;
 
-/// Whether a word's cell has no room for all its digits.
-fn is_shortened(value: u64) -> bool {
-    FIGURE.number(value, WORD - 2.0 * WORD_EDGE) != value.to_string()
-}
-
-/// Between a cell and its frame.
-const WORD_EDGE: f64 = 0.7;
-
 /// A word in its cell: a faint dot for 0, else bold and in a frame, with the whole number as the tip.
 fn word_cell(area: Area, name: &str, value: u64) -> Element {
     let tip = format!("{name}: {value}");
     if value == 0 {
         return area.told(Side::Middle, &FAINT, "·", &tip);
     }
-    let inside = area.inset(WORD_EDGE, 1.0);
+    let inside = area.inset(0.7, 1.0);
     let text = inside.text(Side::Middle, &FIGURE, &FIGURE.number(value, inside.width));
     Element::new("g").tip(&tip).children([inside.rect("value"), text])
 }

@@ -39,66 +39,16 @@ const SAMPLE_ITEM: f64 = 190.0;
 const WAITED: &str = "striped";
 const MOVED: &str = "light";
 
-/// One scale for all bars of a picture, so that their lengths compare.
-#[derive(Clone, Copy)]
-struct Scale {
-    most: u64,
-    /// How long the bar of `most` is.
-    longest: f64,
-}
-
-impl Scale {
-    /// The longest bar has all the room that there is in a column; where some columns are half as wide as others, in
-    /// one of those.
-    fn of(sums: &DaySums) -> Scale {
-        let numbers = sums.locks.iter().chain(&sums.waited).chain(&sums.moved);
-        let (_, bays) = bay_columns(waited_for(sums).count());
-        let desks = desk_column(with_turns(sums).count());
-        Scale { most: numbers.copied().max().unwrap_or(0).max(1), longest: room(bays.min(desks)) }
-    }
-
-    fn length(self, value: u64) -> f64 {
-        match value {
-            0 => 0.0,
-            _ => (value as f64 / self.most as f64 * self.longest).clamp(LEAST, self.longest),
-        }
-    }
-}
-
-/// In how many columns so many bays stand, and how wide one is.
-fn bay_columns(bays: usize) -> (usize, f64) {
-    if bays <= ONE_COLUMN {
-        (1, INNER)
-    } else {
-        (2, HALF)
-    }
-}
-
-/// How wide a column of desks is.
-fn desk_column(desks: usize) -> f64 {
-    if desks <= DESK_ROWS {
-        INNER
-    } else {
-        HALF
-    }
-}
-
-/// The room for bars in a column of this width.
-fn room(column: f64) -> f64 {
-    column - LABEL - LABEL_GAP - NUMBER
-}
-
 /// The waits of a day as a whole SVG document.
 pub fn waits(sums: &DaySums, names: &Names, title: &str) -> String {
-    let scale = Scale::of(sums);
     let mut page = Page::new(title, &summary(sums));
     if sums.end != DayEnd::Read {
         page.banner(&sums.end.to_string());
     }
     page.strip(GAP / 2.0);
-    bays(&mut page, sums, names, scale);
+    bays(&mut page, sums, names);
     page.strip(GAP);
-    desks(&mut page, sums, scale);
+    desks(&mut page, sums);
     page.strip(GAP / 2.0);
     page.finish(&description(sums, names))
 }
@@ -145,16 +95,16 @@ fn heading(page: &mut Page, text: &str) -> Area {
     area.span(HEADING_WIDTH, INNER - HEADING_WIDTH)
 }
 
-fn bays(page: &mut Page, sums: &DaySums, names: &Names, scale: Scale) {
+fn bays(page: &mut Page, sums: &DaySums, names: &Names) {
     let beside = heading(page, "Turns that waited, by bay");
-    let left_out = "bays that nobody waited for are left out; all bars have one scale";
-    page.draw(beside.text(Side::Right, &HEAD, left_out));
+    page.draw(beside.text(Side::Right, &HEAD, "bays that nobody waited for are left out"));
     let rows: Vec<(usize, u64)> = waited_for(sums).collect();
+    let most = rows.iter().map(|(_, waits)| *waits).max().unwrap_or(0);
     if rows.is_empty() {
         let none = page.strip(ROW).text(Side::Left, &PLAIN, "no turn waited for a bay");
         return page.draw(none);
     }
-    let (columns, width) = bay_columns(rows.len());
+    let (columns, width) = if rows.len() <= ONE_COLUMN { (1, INNER) } else { (2, HALF) };
     let height = rows.len().div_ceil(columns);
     let area = page.strip(height as f64 * ROW);
     for (column, rows) in rows.chunks(height).enumerate() {
@@ -162,12 +112,12 @@ fn bays(page: &mut Page, sums: &DaySums, names: &Names, scale: Scale) {
         for (at, (bay, waits)) in rows.iter().enumerate() {
             let row = column.line(at as f64 * ROW, ROW);
             page.draw(row.span(0.0, LABEL).text(Side::Right, &PLAIN, &say::bay(names, *bay)));
-            page.draw(bar(row, *waits, scale, WAITED));
+            page.draw(bar(row, *waits, most, WAITED));
         }
     }
 }
 
-fn desks(page: &mut Page, sums: &DaySums, scale: Scale) {
+fn desks(page: &mut Page, sums: &DaySums) {
     let beside = heading(page, "Turns, by desk");
     page.draw(beside.text(Side::Right, &HEAD, "desks without a turn are left out"));
     for (at, (class, text)) in
@@ -182,27 +132,31 @@ fn desks(page: &mut Page, sums: &DaySums, scale: Scale) {
         ));
     }
     let rows: Vec<(usize, u64, u64)> = with_turns(sums).collect();
+    let most = rows.iter().map(|(_, waited, moved)| *waited.max(moved)).max().unwrap_or(0);
     if rows.is_empty() {
         let none = page.strip(ROW).text(Side::Left, &PLAIN, "no desk had a turn");
         return page.draw(none);
     }
-    let (height, width) = (rows.len().min(DESK_ROWS), desk_column(rows.len()));
+    let (height, width) = (rows.len().min(DESK_ROWS), if rows.len() <= DESK_ROWS { INNER } else { HALF });
     let area = page.strip(height as f64 * DESK);
     for (column, rows) in rows.chunks(DESK_ROWS).enumerate() {
         let column = area.span(column as f64 * (HALF + GUTTER), width);
         for (at, (desk, waited, moved)) in rows.iter().enumerate() {
             let rows = column.line(at as f64 * DESK, 2.0 * ROW);
             page.draw(rows.span(0.0, LABEL).text(Side::Right, &PLAIN, &format!("desk {desk}")));
-            page.draw(bar(rows.line(0.0, ROW), *waited, scale, WAITED));
-            page.draw(bar(rows.line(ROW, ROW), *moved, scale, MOVED));
+            page.draw(bar(rows.line(0.0, ROW), *waited, most, WAITED));
+            page.draw(bar(rows.line(ROW, ROW), *moved, most, MOVED));
         }
     }
 }
 
-/// A bar behind its label's room, and its number behind it.
-fn bar(row: Area, value: u64, scale: Scale, class: &str) -> Element {
-    let room = row.span(LABEL + LABEL_GAP, room(row.width));
-    let length = scale.length(value);
+/// A bar behind its label's room, and its number behind it. The longest has all the room.
+fn bar(row: Area, value: u64, most: u64, class: &str) -> Element {
+    let room = row.span(LABEL + LABEL_GAP, row.width - LABEL - LABEL_GAP - NUMBER);
+    let length = match value {
+        0 => 0.0,
+        _ => (value as f64 / most.max(1) as f64 * room.width).clamp(LEAST, room.width),
+    };
     let number = row.span(room.x - row.x + length + NUMBER_GAP, NUMBER - NUMBER_GAP);
     let number = number.text(Side::Left, &COUNT, &grouped(value.into()));
     let bar = (value != 0).then(|| room.span(0.0, length).inset(0.0, AIR).rect(class));
@@ -253,30 +207,6 @@ mod tests {
             assert!(picture.contains(text), "{text}");
         }
         assert!(!picture.contains(">bay 4<") && !picture.contains(">desk 0<"));
-    }
-
-    /// How long the bars of a class are, its sample among them.
-    fn lengths(picture: &str, class: &str) -> Vec<f64> {
-        let begins = format!("<rect class=\"{class}\" ");
-        let bars = picture.split(&begins).skip(1);
-        bars.map(|bar| bar.split('"').nth(5).unwrap().parse().unwrap()).collect()
-    }
-
-    /// The same number is a bar of the same length, of a bay and of a desk, in one column and in two.
-    #[test]
-    fn all_bars_have_one_scale() {
-        for (bays, desks) in [(1, 1), (20, 1), (1, 8), (20, 8)] {
-            let mut sums = NONE;
-            sums.locks[..bays].fill(25);
-            sums.waited[..desks].fill(25);
-            sums.moved[..desks].fill(100);
-            let picture = drawn(&sums);
-            let (mut waited, mut moved) = (lengths(&picture, WAITED), lengths(&picture, MOVED));
-            assert_eq!((waited.remove(bays), moved.remove(0)), (SAMPLE, SAMPLE));
-            assert_eq!((waited.len(), moved.len()), (bays + desks, desks));
-            assert!(waited.iter().all(|bar| (4.0 * bar - moved[0]).abs() < 0.1), "{waited:?} {moved:?}");
-            assert!(moved.iter().all(|bar| *bar == moved[0] && *bar > 200.0), "{moved:?}");
-        }
     }
 
     #[test]

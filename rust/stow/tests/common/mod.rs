@@ -1,8 +1,6 @@
-//! What the tests share: numbers drawn from a seed, random days, the given days, the program.
+//! What the tests share: numbers drawn from a seed, random days, the given days.
 
 #![allow(dead_code)]
-
-pub mod program;
 
 use std::fs;
 use std::path::PathBuf;

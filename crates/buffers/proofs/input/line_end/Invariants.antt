@@ -1,11 +1,8 @@
 -- `buffers::input::line_end` meets its contract. The loop's invariant: so many bytes are passed, and from there the rest decides.
-use borrow.Author.Rules.{rules}
-use native.Mathlib.Omega.{arith}
 use Prim.Native.Nat.{◌≤◌, ◌+◌, ◌-◌}
-use mathlib.Core.Path.{◌≡◌, ◌∙◌}
+use mathlib.Core.Path.{◌≡◌}
 use lib.ListN.{length, drop}
 use Rattle.buffers.specs.Input.{line_of}
-use Rattle.buffers.proofs.Lines.{line_step, line-found, line-none}
 use Rattle.buffers.proofs.input.line_end.Given as goal
 
 abbrev pub invariant-loop-i : goal.invariant-loop-i

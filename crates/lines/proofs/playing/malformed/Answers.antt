@@ -1,5 +1,4 @@
 -- `lines::playing::malformed` meets its contract.
-use borrow.Author.Rules.{rules}
 use Rattle.lines.proofs.playing.malformed.Goals as goal
 
 pub returns : goal.returns

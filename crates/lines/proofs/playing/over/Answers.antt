@@ -1,5 +1,4 @@
 -- `lines::playing::over` meets its contract.
-use borrow.Author.Rules.{rules}
 use Rattle.lines.proofs.playing.over.Goals as goal
 
 pub returns : goal.returns

@@ -1,5 +1,4 @@
 -- `lines::playing::rounds` meets its contract.
-use borrow.Author.Rules.{rules}
 use Rattle.lines.proofs.playing.rounds.Goals as goal
 
 pub returns : goal.returns

@@ -1,5 +1,4 @@
 -- `lines::playing::store` meets its contract, on either side of the last slot.
-use borrow.Author.Rules.{rules}
 use borrow.Author.Tests.{lt-ltb, le-ltb}
 use Rattle.lines.specs.Play.{slot_stage}
 use Rattle.lines.proofs.playing.store.Goals as goal

@@ -40,7 +40,6 @@ slice_bounds-submit-end c =
 
 pub returns : goal.returns
 returns c =
-    let c = c in
     let W = c.words-n in
     let s = c.submit-e in
     let A = c.args in

@@ -1,5 +1,4 @@
 -- `lines::playing::turns` meets its contract.
-use borrow.Author.Rules.{rules}
 use Rattle.lines.proofs.playing.turns.Goals as goal
 
 pub returns : goal.returns

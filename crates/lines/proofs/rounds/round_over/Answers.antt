@@ -1,5 +1,4 @@
 -- `lines::rounds::round_over` meets its contract.
-use borrow.Author.Rules.{rules}
 use borrow.Author.Tests.{eq-eqb, ne_eqb}
 use Rattle.lines.proofs.rounds.round_over.Goals as goal
 

@@ -5,12 +5,12 @@ use mathlib.Core.Path.{◌≡◌}
 use lib.ListN.{length, drop}
 use Rattle.section.specs.Check.{code_of}
 use Rattle.needs.specs.Path.{along_of}
-use Rattle.needs.proofs.Steps.{alongFrom}
+use Rattle.needs.proofs.Steps.{along_from}
 use Rattle.needs.proofs.path.along.Given as goal
 
 abbrev pub invariant-loop-k : goal.invariant-loop-k
 invariant-loop-k l = (l.k ≤ length l.path) × (l.turns ≤ 6 * l.k)
-    × (alongFrom l.own (length l.words) (code_of l.words) l.turns (drop l.k l.path) ≡ along_of l.own (length l.words) (code_of l.words) l.path)
+    × (along_from l.own (length l.words) (code_of l.words) l.turns (drop l.k l.path) ≡ along_of l.own (length l.words) (code_of l.words) l.path)
 
 abbrev pub decreases-loop-k : goal.decreases-loop-k
 decreases-loop-k l = length l.path - l.k

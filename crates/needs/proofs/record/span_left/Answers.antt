@@ -8,7 +8,7 @@ use Rattle.image.specs.Image.{at}
 use Rattle.section.specs.Check.{check, passes}
 use Rattle.worklog.specs.Log.{code_in}
 use Rattle.needs.specs.From.{lesser, larger, needs_by}
-use Rattle.needs.specs.Left.{leftBy}
+use Rattle.needs.specs.Left.{left_by}
 use Rattle.needs.proofs.Unrolled.{fewest-most, most-most}
 use Rattle.needs.proofs.Resumed.{resumed-most, sound-next, left-none, left-begun}
 use Rattle.needs.proofs.record.span_left.Goals as goal
@@ -60,7 +60,7 @@ begun : (c : After-resumed_turns-turns) (pick : ℕ → ℕ → ℕ) (s : ℕ) �
     let A = c.args in
     let rd = at A.own A.image.now in
     s ≡ needs_by pick c.read_field-k.result (code_in A.own rd A.d) (c.read_field-pc.result % 9223372036854775808)
-    → c.resumed_turns-turns.result + s ≡ leftBy A.own rd A.d pick
+    → c.resumed_turns-turns.result + s ≡ left_by A.own rd A.d pick
 begun c pick s e =
     let A = c.args in
     let pc = c.read_field-pc in

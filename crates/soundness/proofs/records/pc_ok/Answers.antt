@@ -8,12 +8,12 @@ use native.Mathlib.Omega.{arith}
 use Rattle.image.specs.Image.{at}
 use Rattle.code.proofs.Ranges.{in-range, lock-ok}
 use Rattle.owed.specs.Owed.{owed}
-use Rattle.soundness.specs.Sound.{pcOk}
+use Rattle.soundness.specs.Sound.{pc_ok}
 use Rattle.soundness.proofs.Legible.{pc-rest, section-reads, pc-tests, owed-begun}
 use Rattle.soundness.proofs.records.pc_ok.Goals as goal
 
 pub returns-then-pc-eq0 : goal.returns-then-pc-eq0
-unfolding pcOk owed
+unfolding pc_ok owed
 returns-then-pc-eq0 c =
     let pc = c.read_field-pc in
     let z = eq-eqb pc.result 0 c.if-pc-eq0.true in

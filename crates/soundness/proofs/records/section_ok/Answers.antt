@@ -6,12 +6,12 @@ use mathlib.Core.Bool.{false≢true}
 use native.Mathlib.Omega.{arith}
 use Rattle.image.specs.Image.{at}
 use Rattle.worklog.specs.Log.{code_in}
-use Rattle.soundness.specs.Sound.{sectionOk}
+use Rattle.soundness.specs.Sound.{section_ok}
 use Rattle.soundness.proofs.Legible.{check-long}
 use Rattle.soundness.proofs.records.section_ok.Goals as goal
 
 pub returns-then-k-eq0 : goal.returns-then-k-eq0
-unfolding sectionOk
+unfolding section_ok
 returns-then-k-eq0 c =
     let k = c.read_field-k in
     let z = c.if-k-eq0.true in
@@ -21,7 +21,7 @@ returns-then-k-eq0 c =
     }
 
 pub returns-then-k-gt64 : goal.returns-then-k-gt64
-unfolding sectionOk
+unfolding section_ok
 returns-then-k-gt64 c =
     let A = c.args in
     let k = c.read_field-k in
@@ -36,7 +36,7 @@ returns-then-k-gt64 c =
     }
 
 pub returns-then-not-section_passes : goal.returns-then-not-section_passes
-unfolding sectionOk
+unfolding section_ok
 returns-then-not-section_passes c =
     let k = c.read_field-k in
     record {
@@ -49,7 +49,7 @@ returns-then-not-section_passes c =
     }
 
 pub returns-then-number-lt1 : goal.returns-then-number-lt1
-unfolding sectionOk
+unfolding section_ok
 returns-then-number-lt1 c =
     let k = c.read_field-k in
     let number = c.read_field-number in
@@ -65,7 +65,7 @@ returns-then-number-lt1 c =
     }
 
 pub returns : goal.returns
-unfolding sectionOk
+unfolding section_ok
 returns c =
     let k = c.read_field-k in
     let number = c.read_field-number in

@@ -5,7 +5,7 @@ use borrow.Author.Tests.{lt-ltb}
 use Rattle.image.specs.Place.{field}
 use Rattle.image.specs.Image.{at, index_of}
 use Rattle.image.proofs.Apart.{index-small}
-use Rattle.worklog.specs.Log.{spareVal}
+use Rattle.worklog.specs.Log.{spare_val}
 use Rattle.worklog.proofs.Switching.{spare-behind}
 use Rattle.stretch.proofs.Running.{field_lt}
 use Prim.Native.Nat.{◌<◌}
@@ -22,7 +22,7 @@ store_inside-requires c = field_lt _ _ _ _ c.requires.0 c.field_index-address.en
 pub store_inside-requires-2 : goal.store_inside-requires-2
 store_inside-requires-2 c =
     let A = c.args in
-    let value : c.value_index-value.result ≡ index_of A.own (field (spareVal A.own (at A.own A.image.now) A.d) A.d) =
+    let value : c.value_index-value.result ≡ index_of A.own (field (spare_val A.own (at A.own A.image.now) A.d) A.d) =
     c.value_index-value.ensures ∙ (rw (c.field_index-address.ensures, c.spare_addr.ensures) (sym (spare-behind _ _ _))) in
     rw c.store_inside.auto.image (field_lt _ _ _ _ c.requires.0 value)
 

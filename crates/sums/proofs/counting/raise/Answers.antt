@@ -1,5 +1,5 @@
 -- `sums::counting::raise` meets its contract, inside the slice and outside it.
-use Rattle.std.proofs.Common.{sym, rules}
+use Rattle.std.proofs.Common.{sym}
 use lib.Seq.{set_out}
 use Rattle.sums.specs.Inner.Counting.{raised}
 use Rattle.sums.proofs.counting.raise.Goals as goal

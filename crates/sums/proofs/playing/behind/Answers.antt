@@ -1,5 +1,5 @@
 -- `sums::playing::behind` meets its contract.
-use Rattle.std.proofs.Common.{rules, le-ltb, lt-ltb}
+use Rattle.std.proofs.Common.{le-ltb, lt-ltb}
 use Rattle.sums.proofs.playing.behind.Goals as goal
 
 pub returns-then-end-n : goal.returns-then-end-n

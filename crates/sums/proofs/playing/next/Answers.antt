@@ -13,7 +13,6 @@ line-after-requires c = c.requires.2.holds
 
 pub behind-requires : goal.behind-requires
 behind-requires c =
-    let c = c in
     let A = c.args in
     let n = A.bytes.now in
     let w : length n < 2 ^ 64 = search rules in
@@ -22,15 +21,11 @@ behind-requires c =
 
 pub overflow_add-result : goal.overflow_add-result
 overflow_add-result c =
-    let c = c in
-    let c = c in
     let w : length c.args.bytes.now < 2 ^ 64 = search rules in
     omega (arith, w, c.requires.2.few, c.requires.1)
 
 pub returns : goal.returns
 returns c =
-    let c = c in
-    let c = c in
     let A = c.args in
     let n = A.bytes.now in
     let l = part-rest n A.s.from c.requires.2.inside in

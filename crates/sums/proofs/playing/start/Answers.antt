@@ -1,5 +1,4 @@
 -- `sums::playing::start` meets its contract.
-use Rattle.std.proofs.Common.{rules}
 use Rattle.sums.proofs.playing.start.Goals as goal
 
 pub returns : goal.returns

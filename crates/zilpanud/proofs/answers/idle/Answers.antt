@@ -1,5 +1,4 @@
 -- `zilpanud::answers::idle` meets its contract, by the test of the cursor.
-use borrow.Author.Rules.{rules}
 use Rattle.zilpanud.specs.Ask.{idle_bit}
 use Rattle.zilpanud.proofs.answers.idle.Goals as goal
 
