@@ -25,7 +25,7 @@ done <"$room/files"
 declared() {
     find "$1" \( -name '*.antt' -o -name '*.rt' \) -exec awk -v name="$2" '
         { i = 1; while ($i ~ /^(pub|pub\(crate\)|abbrev|unfoldable|data|record|extern|"C"|fn|struct|enum|const|type|mod)$/) i++
-          word = $i; sub(/[(:{;].*/, "", word); if (word == name) { found = 1; exit } }
+          word = $i; sub(/[(:{;<].*/, "", word); if (word == name) { found = 1; exit } }
         END { exit !found }' {} \; -print | grep -q .
 }
 

@@ -1,6 +1,6 @@
 #!/bin/sh
 # usage: messages.sh BOARD
-# What the program board says on standard error, with what it prints beside it: it can set no status (docs/DECISIONS.md).
+# What the program board says on standard error, with what it prints beside it: its status is always 0 (docs/DECISIONS.md).
 set -u
 board=$1
 room=$(mktemp -d) || exit 1
