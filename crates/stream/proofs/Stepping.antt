@@ -1,6 +1,6 @@
 -- Laws of a step of the shell: what the core took and used follows from what its definition gives, and by what it wants the step is served.
 use Rattle.std.proofs.Common.{◌≡◌, ℕ, ◌+◌, ◌-◌, ◌≤◌, Bool, List, [], length, drop, sym, ap, ◌∙◌, arith, append-nil, length-drop, length-take-le, drop-drop}
-use Rattle.core.specs.declared.option.Option.{Option}
+use Rattle.std.specs.declared.option.Option.{Option}
 use Rattle.std.proofs.KnownBytes.{Consumes-nil}
 use Rattle.std.proofs.lemmas.List.{drop-take}
 use mathlib.Core.Path.{subst⁻¹}

@@ -2,7 +2,7 @@
 -- rest, whatever comes behind it (`left`). A step keeps this (`goes-on`), as the core's calls do (`day/proofs/Anyhow.antt`); at the day's end it
 -- is all (`prints`).
 use Rattle.std.proofs.Common.{◌≡◌, ℕ, ◌-◌, Bool, true, false, cond, not, ◌||◌, List, [], ◌++◌, length, drop, refl, sym, ap, subst, ◌∙◌, append_assoc, append-nil, Some, None, IfSome, ltb}
-use Rattle.core.specs.declared.option.Option.{Option}
+use Rattle.std.specs.declared.option.Option.{Option}
 use Rattle.std.proofs.lemmas.Bool.{not-true}
 use Rattle.std.proofs.lemmas.List.{append_cancel_left}
 use Rattle.std.proofs.Math.Seq.{take-append_seam}
