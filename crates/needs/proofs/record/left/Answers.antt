@@ -35,7 +35,7 @@ span_left-s-requires c =
     header-inside A.mark A.own A.image.now A.d c.requires (sym c.header_ok.ensures ∙ c.if-not-header_ok.false)
     (rw (← c.workers.ensures) c.if-workers-d.false)
     in
-    (inside, sym c.record_sound.ensures ∙ c.if-not-record_sound.false)
+    (inside, cc)
 
 pub returns : goal.returns
 returns c =

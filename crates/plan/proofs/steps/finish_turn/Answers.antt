@@ -4,10 +4,10 @@ use Rattle.plan.proofs.Planned.{finish-last}
 use Rattle.plan.proofs.steps.finish_turn.Goals as goal
 
 pub returns-then-t-eq0 : goal.returns-then-t-eq0
-returns-then-t-eq0 c = rw (c.if-t-eq0.true, ← c.read_field.ensures, ← c.field_index.ensures)
+returns-then-t-eq0 c = rw c.if-t-eq0.true cc
 
 pub returns-then-t-eq1 : goal.returns-then-t-eq1
-returns-then-t-eq1 c = rw (c.if-t-eq1.true, ← c.field_index-then-t-eq1.ensures)
+returns-then-t-eq1 c = rw c.if-t-eq1.true cc
 
 pub returns : goal.returns
 returns c =
