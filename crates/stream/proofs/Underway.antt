@@ -128,7 +128,8 @@ module _ (p q z w v y : Option (List ℕ)) (m k b c o u : List ℕ) (s r : Strea
       let t = came.bytes ++ x in
       let whole : put.bytes ≡ a.out = put.whole (rw (e, f)) in
       let job : r.day.played.job ≡ a.point.stage.played.job = ap (λ (n : Point). n.stage.played.job) step.core.point in
-      let want : want_of s.more (length o - length a.out) a.point.stage.played.job ≡ Nothing = subst (λ (j : Job). want_of s.more (length o - length a.out) j ≡ Nothing) job (over f e) in
+      let want : want_of s.more (length o - length a.out) a.point.stage.played.job ≡ Nothing =
+      subst (λ (j : Job). want_of s.more (length o - length a.out) j ≡ Nothing) job (over f e) in
       let none = nothing-more s.more (length o) g t want (private-behind x h) in
       let input : unread c r ++ x ≡ a.point.input ++ t = ap (λ (l : List ℕ). l ++ x) came.behind ∙ append_assoc a.point.input came.bytes x in
       let nil : rest (point_of (unread c r ++ x) k r.day) ≡ [] =
@@ -144,7 +145,9 @@ module _ (p q z w v y : Option (List ℕ)) (m k b c o u : List ℕ) (s r : Strea
       before false h x = x
 
       by : (t : Bool) → s.more ≡ t → IfSome p (λ xs. xs ≡ day.bytes ++ came.bytes)
-      by true h = Consumes-whole p z (day.bytes ++ came.bytes) (λ xs. xs ≡ day.bytes ++ came.bytes) (Consumes-trans _ _ _ _ _ day.read came.read) (end f h e) refl
+      by true h =
+          Consumes-whole p z (day.bytes ++ came.bytes) (λ xs. xs ≡ day.bytes ++ came.bytes) (Consumes-trans _ _ _ _ _ day.read came.read) (end f h e)
+          refl
       by false h = let same : day.bytes ≡ day.bytes ++ came.bytes = sym (append-nil day.bytes) ∙ ap (λ (l : List ℕ). day.bytes ++ l) (sym (private-none h)) in
           subst (λ (l : List ℕ). IfSome p (λ xs. xs ≡ l)) same (day.ended (before failed told refl) h)
 

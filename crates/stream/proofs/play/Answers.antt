@@ -27,8 +27,8 @@ loop-turns-preserved g c =
       buf = search rules;
       out = search rules;
       within = E.within;
-      underway = goes-on _ _ _ _ _ _ L.image _ L.buf _ L.out _ L.s S.result _ _ (not-true _ c.if-not-s.true) L.invariant.within L.invariant.underway E.stepped E.read E.written
-          E.told (E.ended (omega arith)) E.over;
+      underway = goes-on _ _ _ _ _ _ L.image _ L.buf _ L.out _ L.s S.result _ _ (not-true _ c.if-not-s.true) L.invariant.within
+          L.invariant.underway E.stepped E.read E.written E.told (E.ended (omega arith)) E.over;
     }
 
 pub returns-then-s-clause-printed : goal.returns-then-s-clause-printed
