@@ -1,12 +1,12 @@
 // The questions about a worker of an image.
 #![tactic(auto)]
 
-ghost use Rattle.std.specs.Prelude.{◌≡◌, ◌≤◌};
+ghost use Rattle.std.specs.Prelude.{◌≡◌};
 ghost use Rattle.image.specs.Image.{at};
 ghost use Rattle.image.specs.Inner.Inside.{Inside};
-ghost use Rattle.asking.specs.Asking.{standing_in, standing_of, ask_code, finished_of};
+ghost use Rattle.asking.specs.Asking.{standing_in, standing_of, asked_of, finished_of};
 
-use image::Field;
+use image::{Edition, Field};
 use working::Refusal;
 
 // How a worker stands to the section of a number.
@@ -18,8 +18,6 @@ pub enum Standing {
     Begun,
     // The worker's last finished number is this one or above it.
     Finished,
-    // For the image (cause 10) or the worker (cause 1).
-    Refused(Refusal),
 }
 
 // The answer of a worker that the image has.
@@ -30,50 +28,45 @@ fn stands(image: &[u64], d: usize, number: u64, own: usize) -> Standing
     if number <= image::read_field(image, Field::Finished, d, own) {
         return Standing::Finished;
     }
-    if image::read_field(image, Field::Pc, d, own) == 0 {
-        return Standing::NotBegun;
+    if image::read_field(image, Field::Pc, d, own) != 0
+        && image::read_field(image, Field::Number, d, own) == number
+    {
+        Standing::Begun
+    } else {
+        Standing::NotBegun
     }
-    if image::read_field(image, Field::Number, d, own) == number {
-        return Standing::Begun;
-    }
-    Standing::NotBegun
 }
 
-// How worker d stands to the section of this number.
-pub fn standing_of(image: &[u64], d: usize, number: u64, mark: u64, own: usize) -> Standing
-    requires { own ≤ 64 }
-    ensures { result ≡ standing_of mark own image.now d number }
+// How worker d stands to the section of this number; refused as every question about it is.
+#[tactic(auto, unfolding(crate::specs::Asking::standing_of, crate::specs::Asking::asked_of))]
+pub fn standing_of(image: &[u64], d: usize, number: u64, e: Edition) -> Result<Standing, Refusal>
+    ensures { result ≡ standing_of e.mark e.own image.now d number }
 {
-    if !image::header_ok(image, mark, own) {
-        return Standing::Refused(Refusal::Image);
-    }
-    if image::workers(image) <= d as u64 {
-        return Standing::Refused(Refusal::Worker);
-    }
-    stands(image, d, number, own)
+    asked(image, d, e)?;
+    Ok(stands(image, d, number, e.own))
 }
 
-// The number with which a question about worker d is refused: causes 10 and 1; 0 where it is answered.
-pub fn asked(image: &[u64], d: usize, mark: u64, own: usize) -> u64
-    requires { own ≤ 64 }
-    ensures { result ≡ ask_code mark own image.now d }
+// Whether a question about worker d is answered, or why not: causes 10 and 1.
+#[tactic(auto, unfolding(crate::specs::Asking::asked_of))]
+pub fn asked(image: &[u64], d: usize, e: Edition) -> Result<(), Refusal>
+    ensures { result ≡ asked_of e.mark e.own image.now d }
 {
-    if !image::header_ok(image, mark, own) {
-        return working::cause(Refusal::Image);
+    if !image::header_ok(image, e) {
+        return Err(Refusal::Image);
     }
     if image::workers(image) <= d as u64 {
-        return working::cause(Refusal::Worker);
+        return Err(Refusal::Worker);
     }
-    0
+    Ok(())
 }
 
 // The number of the last section that worker d finished; 0 where the question is refused.
-pub fn finished(image: &[u64], d: usize, mark: u64, own: usize) -> u64
-    requires { own ≤ 64 }
-    ensures { result ≡ finished_of mark own image.now d }
+#[tactic(auto, unfolding(crate::specs::Asking::finished_of, crate::specs::Asking::asked_of))]
+pub fn finished(image: &[u64], d: usize, e: Edition) -> u64
+    ensures { result ≡ finished_of e.mark e.own image.now d }
 {
-    if asked(image, d, mark, own) != 0 {
-        return 0;
+    match asked(image, d, e) {
+        Ok(()) => image::read_field(image, Field::Finished, d, e.own),
+        Err(_) => 0,
     }
-    image::read_field(image, Field::Finished, d, own)
 }

@@ -1,8 +1,12 @@
--- Conjunctions and disjunctions of tests taken apart and put together.
-use mathlib.Core.Path.{◌≡◌, refl, sym, ◌∙◌}
-use mathlib.Core.Bool.{Bool, true, false, ◌&&◌, ◌||◌, not, false≢true}
+-- Conjunctions and disjunctions of tests taken apart and put together, and what a range of numbers contains.
+use Prim.Native.Nat.{ℕ}
+use mathlib.Core.Path.{◌≡◌, refl}
+use mathlib.Core.Bool.{Bool, true, false, ◌&&◌, ◌||◌, false≢true}
 use mathlib.Core.Logic.{◌⊎◌, inl, inr}
-use borrow.Author.Tests.{not-true, not-false}
+use lib.Dec.{leb}
+use native.Mathlib.Omega.{arith}
+use Rattle.std.specs.Ordering.{is_le, nat_cmp}
+use Rattle.std.proofs.lemmas.Bool.Decides.{nat_tests}
 
 pub and_left : (a b : Bool) → (a && b) ≡ true → a ≡ true
 and_left true b h = refl
@@ -32,10 +36,10 @@ or_right true b h = absurd (false≢true (h-sym h))
     h-sym e = cc
 or_right false b h = h
 
--- ---- a test that is a call r, equal to t by the callee's contract, and then `if !r`
+-- ---- what `contains` answers at a closed range
 
-pub denied : {r t : Bool} → r ≡ t → not r ≡ true → t ≡ false
-denied {r} {t} e h = sym e ∙ not-true r h
+private-upto : (a b : ℕ) → is_le (nat_cmp a b) ≡ leb a b
+private-upto a b = grind (arith, nat_tests)
 
-pub granted : {r t : Bool} → r ≡ t → not r ≡ false → t ≡ true
-granted {r} {t} e h = sym e ∙ not-false r h
+pub within : (a b x : ℕ) → (is_le (nat_cmp a x) && is_le (nat_cmp x b)) ≡ (leb a x && leb x b)
+within a b x = rw (private-upto a x, private-upto x b)

@@ -2,7 +2,7 @@
 // the status says so at the end.
 #![tactic(auto)]
 
-ghost use Rattle.std.specs.Prelude.{◌<◌, ◌≤◌, length};
+ghost use Rattle.std.specs.Prelude.{◌≤◌, length};
 
 use std::fs::File;
 use std::io::{Error, ErrorKind, Read, Write};
@@ -12,10 +12,8 @@ use stream::Reason;
 
 // Opens a file.
 fn open(rt: &HostRuntime, name: &[u8]) -> io::Result<File> {
-    match str::from_utf8(name) {
-        Ok(name) => File::open(rt, name),
-        Err(_) => Err(Error::from(ErrorKind::InvalidFilename)),
-    }
+    let name = str::from_utf8(name).map_err(|_| Error::from(ErrorKind::InvalidFilename))?;
+    File::open(rt, name)
 }
 
 // Says on standard error that a file is not opened, and why.
@@ -25,44 +23,35 @@ fn fail(rt: &HostRuntime, name: &[u8], e: &Error) {
     let _ = writeln!(rt.stderr(), ": {why}");
 }
 
-fn play(rt: &HostRuntime, name: &[u8], whole: &mut bool) {
+// Plays the day of a name. False where it was opened, and then not read and written whole.
+fn play(rt: &HostRuntime, name: &[u8]) -> bool {
     let mut output = rt.stdout();
     let _ = output.write_all(b"== ");
     let _ = output.write_all(name);
     let _ = output.write_all(b"\n");
     match open(rt, name) {
-        Ok(mut day) => {
-            if !stream::play(&mut day, &mut output, &mut io::sink(), &mut rt.stderr()) {
-                *whole = false;
-            }
+        Ok(mut day) => stream::play(&mut day, &mut output, &mut io::sink(), &mut rt.stderr()),
+        Err(e) => {
+            fail(rt, name, &e);
+            true
         }
-        Err(e) => fail(rt, name, &e),
     }
 }
 
-// Plays the day that is named from an index on, and answers where the next name starts.
-fn play_from(rt: &HostRuntime, names: &[u8], from: usize, whole: &mut bool) -> usize
-    requires { from < length names.now }
-    ensures { from < result }
-{
-    let to = names.len();
-    let left = &names[from..];
-    let end = from + buffers::line_end(left);
-    play(rt, &names[from..end], whole);
-    if end < to { end + 1 } else { to }
-}
-
-fn play_all(rt: &HostRuntime, names: &[u8], whole: &mut bool) {
-    let mut from: usize = 0;
-    while from < names.len() {
-        from = play_from(rt, names, from, whole);
+// Plays the days of the names, one to a line, and answers whether all that were opened were read and written whole.
+fn play_all(rt: &HostRuntime, names: &[u8]) -> bool {
+    let mut whole = true;
+    for line in names.split_inclusive(|b| *b == b'\n') {
+        whole &= play(rt, &line[..buffers::line_end(line)]);
     }
+    whole
 }
 
 // Reads until the buffer is full, the file ends or a read fails, and answers how many bytes came.
 fn read_full(file: &mut File, buf: &mut [u8]) -> usize
     ensures { result ≤ length buf.new }
 {
+    // std's methods that fill a slice say of a short file no more than that it was short.
     let mut done: usize = 0;
     while done < buf.len() {
         match file.read(&mut buf[done..]) {
@@ -75,15 +64,17 @@ fn read_full(file: &mut File, buf: &mut [u8]) -> usize
 }
 
 fn main(rt: HostRuntime) -> ExitCode {
-    let mut whole = true;
-    match open(&rt, b"days") {
+    let whole = match open(&rt, b"days") {
         Ok(mut days) => {
             let mut names = [0u8; 65536];
             let n = read_full(&mut days, &mut names);
-            play_all(&rt, &names[..n], &mut whole);
+            play_all(&rt, &names[..n])
         }
-        Err(e) => fail(&rt, b"days", &e),
-    }
+        Err(e) => {
+            fail(&rt, b"days", &e);
+            true
+        }
+    };
     if whole {
         ExitCode::SUCCESS
     } else {

@@ -1,33 +1,18 @@
--- Laws of the lines of an input: the first is a front part of it, found byte by byte; a complete one leaves less input; all of them are the
+-- Laws of the lines of an input: the first is a front part of it, up to the first byte 10; a complete one leaves less input; all of them are the
 -- first and those of the rest (`lines-first`).
-use Prim.Native.Nat.{ℕ, suc, ◌+◌, ◌-◌, ◌<◌, ◌≤◌}
+use Prim.Native.Nat.{ℕ, suc, ◌+◌, ◌-◌, ◌<◌, ◌≤◌, min}
 use mathlib.Core.Path.{◌≡◌, refl, ap}
 use mathlib.Core.List.{List, [], ◌∷◌}
 use mathlib.Core.Bool.{Bool, true, false, cond}
 use native.Mathlib.Omega.{arith}
-use native.Mathlib.Numerals.{add-one}
-use borrow.Author.Tests.{eq-eqb, ne_eqb, ltb-true}
-use lib.ListN.{length, get_or, take, drop, length-drop, drop_of_length-le}
-use lib.Seq.{drop-cons, drop-drop, take_all}
+use borrow.Author.Tests.{ltb-true, ltb-false}
+use lib.ListN.{length, take, drop, length-drop}
+use lib.Seq.{drop-drop, take_all}
 use lib.Dec.{eqb, ltb}
+use Rattle.std.proofs.Common.{Some, None, position, unwrap_or, ◌==◌}
+use Rattle.std.proofs.lemmas.List.Recursion.{is_position_or_len}
+use Rattle.std.proofs.lemmas.List.{drop_min}
 use Rattle.buffers.specs.Input.{line_of, rest_of, complete, complete_at, onto_first, lines_of}
-
--- ---- byte by byte
-
-module _ (l : List ℕ) (i : ℕ) where
-  -- past another byte the rest decides
-  pub line_step : i < length l → (get_or l i 0 ≡ 10 → ⊥) → i + 1 + length (line_of (drop (i + 1) l)) ≡ i + length (line_of (drop i l))
-  unfolding line_of
-  line_step h n = rw (add-one i, drop-cons l i 0 h, ne_eqb _ _ n) (omega arith)
-
-  -- at a byte 10 the line ends
-  pub line-found : i < length l → get_or l i 0 ≡ 10 → length (line_of (drop i l)) ≡ 0
-  unfolding line_of
-  line-found h e = rw (drop-cons l i 0 h, eq-eqb _ _ e)
-
-  pub line-none : length l ≤ i → length (line_of (drop i l)) ≡ 0
-  unfolding line_of
-  line-none h = rw (drop_of_length-le l {i = i} h)
 
 -- ---- the first line
 
@@ -49,6 +34,22 @@ line-front (b ∷ bs) = by (eqb b 10) refl (line-front bs)
     by true e h = rw e
     by false e h = rw (e, h)
 
+-- it ends at the first byte 10, or at the input's end
+pub line-ends : (l : List ℕ) → unwrap_or (position (λ b. b == 10) l) (length l) ≡ length (line_of l)
+unfolding line_of
+line-ends l = rw (← is_position_or_len (λ k. length (line_of k)) (λ b. b == 10) refl next l) (by (ltb (length (line_of l)) (length l)) refl)
+  where
+    next : (b : ℕ) (bs : List ℕ) → length (line_of (b ∷ bs)) ≡ cond (b == 10) 0 (1 + length (line_of bs))
+    next b bs = found (eqb b 10)
+      where
+        found : (t : Bool) → length (cond t [] (b ∷ line_of bs)) ≡ cond t 0 (1 + length (line_of bs))
+        found true = refl
+        found false = omega arith
+
+    by : (t : Bool) → ltb (length (line_of l)) (length l) ≡ t → unwrap_or (cond t (Some (length (line_of l))) None) (length l) ≡ length (line_of l)
+    by true e = refl
+    by false e = omega (arith, line-bound l, ltb-false _ _ e)
+
 -- ---- what is behind it
 
 module _ (input : List ℕ) (from : ℕ) where
@@ -56,20 +57,11 @@ module _ (input : List ℕ) (from : ℕ) where
   pub part-rest : from ≤ length input → take (length input - from) (drop from input) ≡ drop from input
   part-rest h = take_all (length input - from) (drop from input) (omega (arith, length-drop from input))
 
-  pub rest-next : (end to : ℕ) → end ≡ length (line_of (drop from input)) → to ≡ from + end + 1 → drop to input ≡ rest_of (drop from input)
+  -- what is behind the first line and its byte 10, if it has one
+  pub rest-behind : (end n : ℕ) → end ≡ length (line_of (drop from input)) → n ≡ length (drop from input)
+      → drop (from + min (end + 1) n) input ≡ rest_of (drop from input)
   unfolding rest_of
-  rest-next end to e f =
-      let g : from + (length (line_of (drop from input)) + 1) ≡ to = omega arith in
-      rw (drop-drop (length (line_of (drop from input)) + 1) from input, g)
-
-  pub rest-last : (end to : ℕ) → end ≡ length (line_of (drop from input)) → length (drop from input) ≤ end → to ≡ from + end
-      → drop to input ≡ rest_of (drop from input)
-  unfolding rest_of
-  rest-last end to e h f =
-      rw (
-        drop_of_length-le input {i = to} (omega (arith, length-drop from input)),
-        drop_of_length-le (drop from input) {i = length (line_of (drop from input)) + 1} (omega arith),
-      )
+  rest-behind end n e f = rw (← drop-drop (min (end + 1) n) from input, f, drop_min, e)
 
 private-some : (end n : ℕ) (more : Bool) → complete_at end n more ≡ true → 0 < n
 unfolding complete_at

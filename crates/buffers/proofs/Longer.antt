@@ -9,7 +9,7 @@ use borrow.Author.Tests.{lt-ltb, ne_eqb}
 use lib.ListN.{length, length-append}
 use lib.Seq.{drop-append-le}
 use lib.Dec.{eqb, ltb}
-use Rattle.frames.specs.declared.Opening.TheVariants.{Malformed as OpeningMalformed}
+use Rattle.std.proofs.Common.{None}
 use Rattle.frames.specs.declared.Frame.TheVariants.{Malformed}
 use Rattle.frames.specs.Line.{first_of, frame_of}
 use Rattle.buffers.specs.Input.{line_of, rest_of, complete, complete_at}
@@ -62,7 +62,7 @@ complete-long l h = by (ltb (length (line_of l)) (length l))
 
 -- ---- a line over 4,096 bytes
 
-pub long-first : (l : List ℕ) → 4096 < length l → first_of l ≡ OpeningMalformed
+pub long-first : (l : List ℕ) → 4096 < length l → first_of l ≡ None
 unfolding first_of
 long-first l h = rw (ne_eqb (length l) 2 (λ e. omega arith))
 

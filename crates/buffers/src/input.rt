@@ -7,25 +7,14 @@ pub fn line_end(l: &[u8]) -> usize
     ensures place { result ≡ length (line_of l.now) }
     ensures bound { result ≤ length l.now }
 {
-    let mut i: usize = 0;
-    while i < l.len() {
-        if l[i] == 10 {
-            return i;
-        }
-        i += 1;
-    }
-    i
+    l.iter().position(|&b| b == b'\n').unwrap_or(l.len())
 }
 
 // Whether a line that ends there, of n bytes of input, is complete.
+#[tactic(auto, unfolding(crate::specs::Input::complete_at))]
 pub fn complete(end: usize, n: usize, more: bool) -> bool
     ensures { result ≡ complete_at end n more }
 {
-    if end < n {
-        return true;
-    }
-    if more {
-        return 4096 < n;
-    }
-    0 < n
+    let least = if more { 4096 } else { 0 };
+    end < n || least < n
 }

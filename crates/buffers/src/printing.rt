@@ -1,34 +1,21 @@
 // The output's buffer.
 ghost use Rattle.std.specs.Prelude.{◌≡◌, ◌+◌, ◌≤◌, length};
-ghost use Rattle.std.proofs.Math.Seq.{paste};
-ghost use Rattle.buffers.specs.Output.{bytes_of};
-ghost use Rattle.buffers.specs.Output.{Puts};
+ghost use Rattle.buffers.specs.Output.{bytes_of, Puts};
 
-use frames::Printed;
-
-// Puts a printed line into the buffer.
-fn put(out: &mut [u8], at: usize, text: [u8; 22])
-    requires { at + 22 ≤ length out.old }
-    ensures { out.new ≡ paste out.old at text 22 }
-{
-    let mut i: usize = 0;
-    while i < 22 {
-        out[at + i] = text[i];
-        i += 1;
-    }
-}
+use frames::Line;
 
 // Puts what a piece printed behind the bytes used, and answers how many are used then.
-pub fn print(out: &mut [u8], used: usize, p: Printed) -> usize
+// The buffer comes whole, with the bytes used beside it: what a day promises (`Puts`, `RunsOn`) tells of all of it.
+pub fn print(out: &mut [u8], used: usize, p: Option<Line>) -> usize
     requires { used + 22 ≤ length out.old }
     ensures { Puts out.old out.new used result (bytes_of p) }
 {
     match p {
-        Printed::Nothing => used,
-        Printed::Line { at, value } => {
-            let text = frames::text(at, value);
-            put(out, used, text);
-            used + 22
+        None => used,
+        Some(l) => {
+            let to = used + 22;
+            out[used..to].copy_from_slice(&frames::text(l.at, l.value));
+            to
         }
     }
 }

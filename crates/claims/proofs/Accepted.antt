@@ -98,11 +98,15 @@ module _ (n : ℕ) (rd : Memory) (d : ℕ) where
   private-both : (a b v w : ℕ) → (eqb a b && eqb v w) ≡ true → (a ≡ b) × (v ≡ w)
   private-both a b v w h = (eqb-true a b (and_left (eqb a b) (eqb v w) h), eqb-true v w (and_right (eqb a b) (eqb v w) h))
 
-  private-entry : (x : Op) → entry_ok n rd d x ≡ true → (rd (field (active_addr n rd d) d) ≡ index_of n (target_of d x)) × logs_held n rd d (named_step n rd d) x
+  private-entry :
+      (x : Op) → entry_ok n rd d x ≡ true
+      → (rd (field (active_addr n rd d) d) ≡ index_of n (target_of d x)) × logs_held n rd d (named_step n rd d) x
   private-entry (Acquire a) h =
-      private-both (rd (field (active_addr n rd d) d)) (index_of n (field Owned d)) (rd (field (active_val n rd d) d)) (held_at n rd d (suc (named_step n rd d))) h
+      private-both (rd (field (active_addr n rd d) d)) (index_of n (field Owned d)) (rd (field (active_val n rd d) d))
+      (held_at n rd d (suc (named_step n rd d))) h
   private-entry (Release a) h =
-      private-both (rd (field (active_addr n rd d) d)) (index_of n (field Owned d)) (rd (field (active_val n rd d) d)) (held_at n rd d (suc (named_step n rd d))) h
+      private-both (rd (field (active_addr n rd d) d)) (index_of n (field Owned d)) (rd (field (active_val n rd d) d))
+      (held_at n rd d (suc (named_step n rd d))) h
   private-entry (Assign a e) h = (eqb-true _ _ h, tt)
   private-entry (Jump a b) h = absurd (false≢true h)
   private-entry Finish h = absurd (false≢true h)

@@ -9,16 +9,15 @@ use lib.Seq.{take_all}
 use lib.Dec.{eqb}
 use borrow.Author.Tests.{eqb-true}
 use native.Mathlib.Omega.{arith}
+use Rattle.std.specs.Prelude.{Ok}
 use Rattle.base.proofs.Bools.{and_left, and_right}
 use Rattle.image.specs.declared.Field.TheVariants.{Count, Pc, Finished}
 use Rattle.image.specs.Place.{field, Memory}
 use Rattle.image.specs.Inner.Same.{upd_all}
 use Rattle.image.specs.Image.{Image, at, workers, header_ok, put_all}
 use Rattle.image.proofs.Lists.{header-all, workers-all}
-use Rattle.section.specs.declared.Verdict.TheVariants.{Pass}
 use Rattle.section.specs.Check.{code_of, check}
 use Rattle.section.proofs.Facts.{check-parts}
-use Rattle.intake.specs.declared.Submitted.TheVariants.{Taken}
 use Rattle.working.specs.Cursor.{on, is_idle, cursor_at, placed}
 use Rattle.working.specs.World.{World, world}
 use Rattle.intake.specs.Submit.{submission, free, submit_answer, is_taken}
@@ -95,8 +94,8 @@ module _ (mark n D : ℕ) (cells : List ℕ) (m : Image) (begun : List Given) (o
         full = resumed-full n (at n m) (workers m);
         locks = owed n (at n m);
         live =
-            subst (λ (e : ℕ). Live n e (at n (put_all n left m (plan n (at n m) (workers m)))) (cursor_at (resumed_all n (at n m) (workers m))) (owed n (at n m))
-            (λ d. 0) g.last) k.reached.many (recovery-whole mark n m k.reached.header crash left l g.last);
+            subst (λ (e : ℕ). Live n e (at n (put_all n left m (plan n (at n m) (workers m)))) (cursor_at (resumed_all n (at n m) (workers m)))
+            (owed n (at n m)) (λ d. 0) g.last) k.reached.many (recovery-whole mark n m k.reached.header crash left l g.last);
       }
 
 -- ---- submitting
@@ -109,9 +108,9 @@ pub record TakenAs (mark n : ℕ) (w : World) (d k : ℕ) (ws : List ℕ) : Type
   pub count : at n w.image (field Count d) ≡ 0
   pub pc : at n w.image (field Pc d) ≡ 0
   pub numbered : at n w.image (field Finished d) < k
-  pub passes : check n (length ws) (code_of ws) ≡ Pass
+  pub passes : check n (length ws) (code_of ws) ≡ Ok tt
 
-pub taken_as : (mark n : ℕ) (w : World) (d k : ℕ) (ws : List ℕ) → submit_answer mark n w d k ws ≡ Taken → TakenAs mark n w d k ws
+pub taken_as : (mark n : ℕ) (w : World) (d k : ℕ) (ws : List ℕ) → submit_answer mark n w d k ws ≡ Ok tt → TakenAs mark n w d k ws
 unfolding free
 taken_as mark n w d k ws e =
     let a = met mark n w d k ws (ap is_taken e) in

@@ -68,7 +68,8 @@ module _ (n D : ℕ) (rd : Memory) (cursor : ℕ → Cursor) (locks jumps : ℕ 
   old : (p q : Place) → target_of d (op_at n rd d k) ≡ p → same q (field Pc d) ≡ false → same q p ≡ false → virtual n (after n rd d k) D q ≡ virtual n rd D q
   old p q t f h = virtual-old n D rd cursor locks jumps given L d l k short F q f (rw t h)
 
-  new : (p : Place) (v : ℕ) → target_of d (op_at n rd d k) ≡ p → Guarded d (locks d) p → rd (field (spare_val n rd d) d) ≡ v → virtual n (after n rd d k) D p ≡ v
+  new : (p : Place) (v : ℕ) → target_of d (op_at n rd d k) ≡ p → Guarded d (locks d) p → rd (field (spare_val n rd d) d) ≡ v
+      → virtual n (after n rd d k) D p ≡ v
   new p v t g e =
       subst (λ (r : Place). virtual n (after n rd d k) D r ≡ rd (field (spare_val n rd d) d)) t
       (virtual-new n D rd cursor locks jumps given L d l k short (subst (Guarded d (locks d)) (sym t) g))

@@ -106,7 +106,9 @@ module _ (n : ℕ) (rd : Memory) (d : ℕ) (g : Given) (s locks : ℕ) (sec : Se
     unfolding operand
     due-assign = by (ltb a 512) refl
       where
-        by : (q : Bool) → ltb a 512 ≡ q → Stepped n rd d g locks 0 (stored (cond q (cell a) (own d (a - 512))) (rd (field (active_val n rd d) d)) (on (s + 1) 0))
+        by :
+            (q : Bool) → ltb a 512 ≡ q
+            → Stepped n rd d g locks 0 (stored (cond q (cell a) (own d (a - 512))) (rd (field (active_val n rd d) d)) (on (s + 1) 0))
         by true p = to_cell (rd (field (active_val n rd d) d)) refl (ltb-true a 512 p) (rw p)
         by false p =
             let l = ltb-false a 512 p in

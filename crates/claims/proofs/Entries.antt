@@ -90,7 +90,9 @@ active-spare-val n rd d = by (second n rd d)
     by true = refl
     by false = refl
 
-pub spare-val-apart : (n : ℕ) (rd : Memory) (d : ℕ) (f : Field) → same_field f Val0 ≡ false → same_field f Val1 ≡ false → same_field f (spare_val n rd d) ≡ false
+pub spare-val-apart :
+    (n : ℕ) (rd : Memory) (d : ℕ) (f : Field) → same_field f Val0 ≡ false → same_field f Val1 ≡ false
+    → same_field f (spare_val n rd d) ≡ false
 unfolding spare_val
 spare-val-apart n rd d f a b = by (second n rd d)
   where

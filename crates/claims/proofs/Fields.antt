@@ -179,7 +179,9 @@ module _ (n : ℕ) (rd : Memory) (d v : ℕ) where
   unfolding spare_addr spare_val
   spare-val-beside = beside rd d v Addr0 Addr1 Val0 Val1 (second n rd d) refl refl
 
-  pub spare-val-addr : upd rd (field (spare_val n rd d) d) v (field (spare_addr n (upd rd (field (spare_val n rd d) d) v) d) d) ≡ rd (field (spare_addr n rd d) d)
+  pub spare-val-addr :
+      upd rd (field (spare_val n rd d) d) v (field (spare_addr n (upd rd (field (spare_val n rd d) d) v) d) d)
+      ≡ rd (field (spare_addr n rd d) d)
   spare-val-addr =
       let p = field (spare_val n rd d) d in
       ap (λ (f : Field). upd rd p v (field f d)) (spare-addr-kept n rd (upd rd p v) d (spare-val-other Pc refl refl)) ∙ spare-val-beside

@@ -11,16 +11,15 @@ use native.Mathlib.Decide.{ℕ_discrete}
 use lib.ListN.{length}
 use lib.Dec.{ltb}
 use borrow.Author.Tests.{ltb-true}
+use Rattle.std.specs.Prelude.{Ok, Err}
 use Rattle.base.proofs.Bools.{and_left, and_right}
 use Rattle.image.specs.declared.Field.TheVariants.{Pc}
 use Rattle.image.specs.Place.{field}
 use Rattle.image.specs.Image.{Image, at, workers, cells_of, put_all}
-use Rattle.intake.specs.declared.Submitted.{Submitted}
-use Rattle.intake.specs.declared.Submitted.TheVariants.{Taken, Refused}
 use Rattle.working.specs.Cursor.{Cursor, on, cursor_at, placed, all_idle}
 use Rattle.plan.specs.Turn.{turn_at}
 use Rattle.turn.specs.Call.{outcome_at, outcome}
-use Rattle.intake.specs.Submit.{submission, submit_answer, submit_leaves}
+use Rattle.intake.specs.Submit.{Submitted, submission, submit_answer, submit_leaves}
 use Rattle.working.proofs.Placed.{placed_same, placed-other}
 use Rattle.working.proofs.Placed.{idle-is}
 use Rattle.claims.specs.Reference.{Given, given, initial}
@@ -116,8 +115,8 @@ module _ (mark n D : ℕ) (cells : List ℕ) where
     where
       by : (a : Submitted) → submit_answer mark n w.world d k ws ≡ a
           → Paired mark n D cells (traced (submit_leaves n w.world d k args ws a) (submit_trace mark n w.trace (given d k args ws) a))
-      by Taken e = submit-paired w d k args ws wide full r (taken_as mark n w.world d k ws e) paired w.world.left
-      by (Refused q) e = paired
+      by (Ok tt) e = submit-paired w d k args ws wide full r (taken_as mark n w.world d k ws e) paired w.world.left
+      by (Err q) e = paired
 
   -- ---- a turn
 

@@ -119,7 +119,8 @@ module _ (n D : ℕ) (rd : Memory) (cursor : ℕ → Cursor) (locks jumps : ℕ 
         (rw held-here (acquire-free n (rd (field Count d)) (code_in n rd d) k a sec.valid below x)) (rw held-here v))
 
     pub counted-release :
-        (a : ℕ) → op_at n rd d k ≡ Release a → rd (field (spare_val n rd d) d) ≡ without (held_at n rd d k) a → Counted n D rd S i (given d) d (switched n rd d k)
+        (a : ℕ) → op_at n rd d k ≡ Release a → rd (field (spare_val n rd d) d) ≡ without (held_at n rd d k) a
+        → Counted n D rd S i (given d) d (switched n rd d k)
     counted-release a x v =
         counted (switched n rd d k) (counts-release n D rd cursor locks jumps given L d l k few freed S M here poised-here below a x (rw held-here v))
 

@@ -9,15 +9,14 @@ use lib.ListN.{length}
 use lib.Dec.{ltb}
 use borrow.Author.Tests.{ltb-true, lt-ltb}
 use native.Mathlib.Omega.{arith}
+use Rattle.std.specs.Prelude.{Ok, Err}
 use Rattle.base.proofs.Bools.{and_left, and_right}
 use Rattle.image.specs.Image.{at, workers}
 use Rattle.working.specs.declared.Refusal.TheVariants.{Worker}
-use Rattle.intake.specs.declared.Submitted.{Submitted}
-use Rattle.intake.specs.declared.Submitted.TheVariants.{Taken, Refused}
 use Rattle.working.specs.Cursor.{cursor_at}
 use Rattle.plan.specs.Turn.{refused, turn_at}
 use Rattle.turn.specs.Call.{outcome_at, outcome}
-use Rattle.intake.specs.Submit.{submit_answer, submit_leaves}
+use Rattle.intake.specs.Submit.{Submitted, submit_answer, submit_leaves}
 use Rattle.recovery.specs.Recovery.{recovery}
 use Rattle.claims.specs.Reference.{given}
 use Rattle.claims.specs.Calls.{Traced, traced, turn_by, ran_by, rounds, submit_trace, recovered_by, Call, submits, turns, runs, recovers, Move, whole, cut}
@@ -105,8 +104,8 @@ module _ (mark n D : ℕ) (cells : List ℕ) where
     where
       by : (a : Submitted) → submit_answer mark n w.world d k ws ≡ a
           → Running mark n D cells (traced (submit_leaves n w.world d k args ws a) (submit_trace mark n w.trace (given d k args ws) a))
-      by Taken e = submit-whole mark n D cells w d k args ws wide full r (taken_as mark n w.world d k ws e) w.world.left (omega arith)
-      by (Refused x) e = r
+      by (Ok tt) e = submit-whole mark n D cells w d k args ws wide full r (taken_as mark n w.world d k ws e) w.world.left (omega arith)
+      by (Err x) e = r
 
   submit-cut-call : (w : Traced) (d k : ℕ) (args ws : List ℕ) → 8 ≤ n → length args ≡ 8 → Running mark n D cells w
       → Worth (traced (submit_leaves n w.world d k args ws (submit_answer mark n w.world d k ws))
@@ -115,8 +114,8 @@ module _ (mark n D : ℕ) (cells : List ℕ) where
     where
       by : (a : Submitted) → submit_answer mark n w.world d k ws ≡ a
           → Worth (traced (submit_leaves n w.world d k args ws a) (submit_trace mark n w.trace (given d k args ws) a))
-      by Taken e = submit-cut mark n D cells w d k args ws wide full r (taken_as mark n w.world d k ws e) w.world.left
-      by (Refused x) e = running-worth w r
+      by (Ok tt) e = submit-cut mark n D cells w d k args ws wide full r (taken_as mark n w.world d k ws e) w.world.left
+      by (Err x) e = running-worth w r
 
   recover-call : (w : Traced) → Worth w → plenty ≤ w.world.left → Running mark n D cells (recovered_by mark n w (recovery mark n w.world.image))
   recover-call w k l =

@@ -83,8 +83,8 @@ module _ (n : ℕ) (rd rd' : Memory) (d : ℕ) (f : Framed n rd rd' d) where
 
   -- whether the section is right
   pub section-frame :
-      rd' (field Count d) ≡ rd (field Count d) → rd' (field Number d) ≡ rd (field Number d) → rd' (field Finished d) ≡ rd (field Finished d) → section_ok n rd' d
-      ≡ section_ok n rd d
+      rd' (field Count d) ≡ rd (field Count d) → rd' (field Number d) ≡ rd (field Number d) → rd' (field Finished d) ≡ rd (field Finished d)
+      → section_ok n rd' d ≡ section_ok n rd d
   unfolding section_ok
   section-frame c k g =
       rw (c, k, g, f.pc, check-cong n (rd (field Count d)) (code_in n rd' d) (code_in n rd d) (λ j l. f.code j))

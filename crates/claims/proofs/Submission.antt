@@ -11,10 +11,10 @@ use native.Mathlib.Decide.{ℕ_discrete}
 use lib.ListN.{length, take}
 use lib.Dec.{eqb}
 use borrow.Author.Tests.{eq-eqb, ne_eqb, le-leb}
+use Rattle.std.specs.Prelude.{Ok}
 use Rattle.image.specs.declared.Field.TheVariants.{Count, Pc, Addr0, Val0, Addr1, Val1, Intent, Owned, Number, Finished}
 use Rattle.image.specs.Place.{Place, cell, lock, field, own, step, Memory, Store}
 use Rattle.image.specs.Inner.Same.{same_field, same, upd, upd_all}
-use Rattle.section.specs.declared.Verdict.TheVariants.{Pass}
 use Rattle.section.specs.Check.{code_of, check}
 use Rattle.section.proofs.Facts.{check-parts, check-cong}
 use Rattle.worklog.specs.Log.{code_in, second, active_addr, active_val}
@@ -180,11 +180,11 @@ module _ (n d k : ℕ) (args ws : List ℕ) (rd : Memory) where
       (rw private-last at (submitted-aside c)))
       i)
 
-  pub submitted-check : check n (length ws) (code_of ws) ≡ Pass → check n (length ws) (code_in n submitted d) ≡ Pass
+  pub submitted-check : check n (length ws) (code_of ws) ≡ Ok tt → check n (length ws) (code_in n submitted d) ≡ Ok tt
   submitted-check h = check-cong n (length ws) (code_in n submitted d) (code_of ws) laid.code-words ∙ h
 
   -- the section that was submitted is right
-  pub submitted-section : rd (field Count d) ≡ 0 → check n (length ws) (code_of ws) ≡ Pass → rd (field Finished d) < k → section_ok n submitted d ≡ true
+  pub submitted-section : rd (field Count d) ≡ 0 → check n (length ws) (code_of ws) ≡ Ok tt → rd (field Finished d) < k → section_ok n submitted d ≡ true
   unfolding section_ok
   submitted-section c h l =
       let some = (check-parts n (length ws) (code_of ws) h).0 in
@@ -201,7 +201,7 @@ module _ (n d k : ℕ) (args ws : List ℕ) (rd : Memory) where
       )
 
   pub submission-parts :
-      (D : ℕ) → Parts n D rd → rd (field Count d) ≡ 0 → rd (field Pc d) ≡ 0 → check n (length ws) (code_of ws) ≡ Pass → rd (field Finished d) < k
+      (D : ℕ) → Parts n D rd → rd (field Count d) ≡ 0 → rd (field Pc d) ≡ 0 → check n (length ws) (code_of ws) ≡ Ok tt → rd (field Finished d) < k
       → (i : ℕ) → Parts n D (upd_all rd (take i (submission n d k args ws)))
   submission-parts D p c z h l i =
       let start : Unbegun rd = ((λ p h. refl), c) in
@@ -216,6 +216,6 @@ module _ (n d k : ℕ) (args ws : List ℕ) (rd : Memory) where
       i)
 
   pub submission-prefix :
-      (D : ℕ) → Crashed n D rd → rd (field Count d) ≡ 0 → rd (field Pc d) ≡ 0 → check n (length ws) (code_of ws) ≡ Pass → rd (field Finished d) < k
+      (D : ℕ) → Crashed n D rd → rd (field Count d) ≡ 0 → rd (field Pc d) ≡ 0 → check n (length ws) (code_of ws) ≡ Ok tt → rd (field Finished d) < k
       → (i : ℕ) → Crashed n D (upd_all rd (take i (submission n d k args ws)))
   submission-prefix D q c z h l i = parts-crashed n D _ (submission-parts D (crashed-parts n D rd q) c z h l i)

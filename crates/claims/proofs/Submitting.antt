@@ -7,10 +7,10 @@ use mathlib.Core.Logic.{◌≢◌}
 use mathlib.Core.List.{List}
 use lib.ListN.{length}
 use native.Mathlib.Omega.{arith}
+use Rattle.std.specs.Prelude.{Ok}
 use Rattle.image.specs.declared.Field.TheVariants.{Count, Pc, Intent, Owned, Finished}
 use Rattle.image.specs.Place.{field, Memory}
 use Rattle.image.specs.Inner.Same.{same}
-use Rattle.section.specs.declared.Verdict.TheVariants.{Pass}
 use Rattle.section.specs.Check.{code_of, check}
 use Rattle.section.specs.Valid.{Valid}
 use Rattle.section.proofs.Facts.{check-cong, passed-valid}
@@ -36,14 +36,14 @@ module _ (n : ℕ) (rd : Memory) (d k : ℕ) (args ws : List ℕ) where
   submit-agrees : (e locks : ℕ) → e ≢ d → Agree rd after e locks
   submit-agrees e locks ne = record { fields = laid.fields e ne; steps = laid.steps e ne; owns = laid.owns e ne; cells = λ x l h. laid.cells x }
 
-  submit-code : check n (length ws) (code_of ws) ≡ Pass → Valid n (after (field Count d)) (code_in n after d)
+  submit-code : check n (length ws) (code_of ws) ≡ Ok tt → Valid n (after (field Count d)) (code_in n after d)
   submit-code h =
       rw laid.count
       (passed-valid n (length ws) (code_in n after d) (check-cong n (length ws) (code_in n after d) (code_of ws) laid.code-words ∙ h))
 
   -- the first turn of a section that is taken
   pub submit-phase :
-      8 ≤ n → length args ≡ 8 → check n (length ws) (code_of ws) ≡ Pass → rd (field Finished d) < k → rd (field Pc d) ≡ 0 → rd (field Intent d) ≡ 0 → rd
+      8 ≤ n → length args ≡ 8 → check n (length ws) (code_of ws) ≡ Ok tt → rd (field Finished d) < k → rd (field Pc d) ≡ 0 → rd (field Intent d) ≡ 0 → rd
       (field Owned d) ≡ 0
       → Phase n after d (given d k args ws) (on 0 0) 0 0
   submit-phase wide full h numbers p i o =
@@ -94,7 +94,7 @@ idle-rests n rd d g c locks j (ended s k p o i b q) e = absurd (on-not-idle _ _ 
 pub submit-live :
     (n D : ℕ) (rd : Memory) (cursor : ℕ → Cursor) (locks jumps : ℕ → ℕ) (last : ℕ → Given) (d k : ℕ) (args ws : List ℕ) → Live n D rd cursor locks jumps last →
     d < D → cursor d ≡ idle
-    → 8 ≤ n → length args ≡ 8 → check n (length ws) (code_of ws) ≡ Pass → rd (field Finished d) < k
+    → 8 ≤ n → length args ≡ 8 → check n (length ws) (code_of ws) ≡ Ok tt → rd (field Finished d) < k
     → Live n D (submitted_to n d k args ws rd) (but cursor d (on 0 0)) (but locks d 0) (but jumps d 0) (but last d (given d k args ws))
 submit-live n D rd cursor locks jumps last d k args ws L dl i wide full h numbers =
     let R = idle-rests n rd d (last d) (cursor d) (locks d) (jumps d) (L.phase d dl) i in

@@ -1,18 +1,16 @@
 -- Lists of calls, any of them cut, and what they leave. The effects are those of the engine's and the recovery's
 -- definitions; beside them a trace is kept of the sections taken and begun and of the order of whole instructions.
-use Rattle.std.specs.Prelude.{ℕ, suc, zero, ◌+◌, ◌-◌, ◌^◌, List, [], ◌∷◌, ◌++◌, Bool, true, false, cond, ◌&&◌, ◌||◌, not, length, replicate, ltb, eqb}
+use Rattle.std.specs.Prelude.{ℕ, suc, zero, ◌+◌, ◌-◌, ◌^◌, List, [], ◌∷◌, ◌++◌, Bool, true, false, cond, ◌&&◌, ◌||◌, not, length, replicate, ltb, eqb, Ok, Err}
 use Rattle.image.specs.declared.Field.TheVariants.{Pc}
 use Rattle.image.specs.Place.{offset, Place, cell, lock, field, own, step}
 use Rattle.image.specs.Image.{Image, at, workers, header_ok}
-use Rattle.intake.specs.declared.Submitted.{Submitted}
-use Rattle.intake.specs.declared.Submitted.TheVariants.{Taken, Refused}
 use Rattle.working.specs.Cursor.{step_no, cursor_at, all_idle}
 use Rattle.worklog.specs.declared.Passing.{Passing}
 use Rattle.worklog.specs.declared.Passing.TheVariants.{Jump, AlreadyFree, Others}
 use Rattle.plan.specs.Turn.{Outcome, stored, passed, waiting, resting, refused}
 use Rattle.working.specs.World.{World, world}
 use Rattle.turn.specs.Call.{answer_of, leaves, outcome_at, outcome, is_refused}
-use Rattle.intake.specs.Submit.{submit_answer, submit_leaves}
+use Rattle.intake.specs.Submit.{Submitted, submit_answer, submit_leaves}
 use Rattle.run.specs.Run.{any_open}
 use Rattle.recovery.specs.Recovery.{Recovered, recovery}
 use Rattle.recovery.specs.Recover.{cursors_of, recovery_leaves, recovery_left}
@@ -153,8 +151,8 @@ module _ (mark n : ℕ) where
   ran_by w r = cond (header_ok mark n w.world.image) (rounds r (workers w.world.image) w) w
 
   abbrev pub submit_trace : Trace → Given → Submitted → Trace
-  submit_trace g x Taken = taking g x
-  submit_trace g x (Refused r) = g
+  submit_trace g x (Ok u) = taking g x
+  submit_trace g x (Err r) = g
 
   abbrev pub recovered_by : Traced → Recovered → Traced
   recovered_by w r =

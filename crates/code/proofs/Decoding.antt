@@ -1,63 +1,40 @@
--- What the decoding functions ask: a number that is none of the eight kinds says no instruction and has no row, the largest
--- value of a field by its entry, the position that an instruction may have by its kind, that kinds above 2 leave the held set, and that the row of
--- the instruction decides cause 5 as the row of the kind does.
+-- What the decoding functions ask: the largest value of a field by its entry, that a number that is none of the eight kinds is out of range and the
+-- row of a kind decides it, the position that an instruction may have by its kind, that kinds above 2 leave the held set, and that the row of the
+-- instruction decides cause 5 as the row of the kind does.
 use Prim.Native.Nat.{ℕ, zero, suc, ◌+◌, ◌<◌, ◌≤◌}
 use mathlib.Core.Path.{◌≡◌, refl, sym, ap, ◌∙◌}
-use mathlib.Core.Bool.{Bool, cond, ◌&&◌, and-false}
+use mathlib.Core.Bool.{Bool, true, false, cond, ◌&&◌, and-false}
 use mathlib.Core.List.{List, [], ◌∷◌}
 use lib.ListN.{get_or}
 use lib.Dec.{leb, ltb, eqb}
 use native.Mathlib.Omega.{arith}
 use Rattle.code.specs.Table.{entry, highest, kind_of, field_a, field_b, field_c}
-use Rattle.code.specs.declared.Op.TheVariants.{Unknown}
 use Rattle.code.specs.Op.{by_kind, op_of}
 use Rattle.code.specs.Form.{in_range, in_place, well_formed, held_after}
 use Rattle.code.specs.Inner.Rows.{in_row, op_row}
-
-pub no_kind : (k a b c : ℕ) → (k ≡ 1 → ⊥) → (k ≡ 2 → ⊥) → (k ≡ 3 → ⊥) → (k ≡ 4 → ⊥) → (k ≡ 5 → ⊥) → (k ≡ 6 → ⊥) → (k ≡ 7 → ⊥) → (k ≡ 8 → ⊥)
-    → Unknown ≡ by_kind k a b c
-no_kind zero a b c n1 n2 n3 n4 n5 n6 n7 n8 = refl
-no_kind (suc zero) a b c n1 n2 n3 n4 n5 n6 n7 n8 = absurd (n1 refl)
-no_kind (suc (suc zero)) a b c n1 n2 n3 n4 n5 n6 n7 n8 = absurd (n2 refl)
-no_kind (suc (suc (suc zero))) a b c n1 n2 n3 n4 n5 n6 n7 n8 = absurd (n3 refl)
-no_kind (suc (suc (suc (suc zero)))) a b c n1 n2 n3 n4 n5 n6 n7 n8 = absurd (n4 refl)
-no_kind (suc (suc (suc (suc (suc zero))))) a b c n1 n2 n3 n4 n5 n6 n7 n8 = absurd (n5 refl)
-no_kind (suc (suc (suc (suc (suc (suc zero)))))) a b c n1 n2 n3 n4 n5 n6 n7 n8 = absurd (n6 refl)
-no_kind (suc (suc (suc (suc (suc (suc (suc zero))))))) a b c n1 n2 n3 n4 n5 n6 n7 n8 = absurd (n7 refl)
-no_kind (suc (suc (suc (suc (suc (suc (suc (suc zero)))))))) a b c n1 n2 n3 n4 n5 n6 n7 n8 = absurd (n8 refl)
-no_kind (suc (suc (suc (suc (suc (suc (suc (suc (suc k))))))))) a b c n1 n2 n3 n4 n5 n6 n7 n8 = refl
 
 -- ---- the table
 
 abbrev pub zeros : List ℕ
 zeros = 0 ∷ 0 ∷ 0 ∷ 0 ∷ []
 
-private-zeros : (j : ℕ) → get_or zeros j 0 ≡ zero
-private-zeros zero = refl
-private-zeros (suc zero) = refl
-private-zeros (suc (suc zero)) = refl
-private-zeros (suc (suc (suc zero))) = refl
-private-zeros (suc (suc (suc (suc j)))) = refl
-
--- a number that is none of the eight kinds has no row
-pub no_row : (k j : ℕ) → (k ≡ 1 → ⊥) → (k ≡ 2 → ⊥) → (k ≡ 3 → ⊥) → (k ≡ 4 → ⊥) → (k ≡ 5 → ⊥) → (k ≡ 6 → ⊥) → (k ≡ 7 → ⊥) → (k ≡ 8 → ⊥)
-    → get_or zeros j 0 ≡ entry k j
-unfolding entry
-no_row zero j n1 n2 n3 n4 n5 n6 n7 n8 = private-zeros j
-no_row (suc zero) j n1 n2 n3 n4 n5 n6 n7 n8 = absurd (n1 refl)
-no_row (suc (suc zero)) j n1 n2 n3 n4 n5 n6 n7 n8 = absurd (n2 refl)
-no_row (suc (suc (suc zero))) j n1 n2 n3 n4 n5 n6 n7 n8 = absurd (n3 refl)
-no_row (suc (suc (suc (suc zero)))) j n1 n2 n3 n4 n5 n6 n7 n8 = absurd (n4 refl)
-no_row (suc (suc (suc (suc (suc zero))))) j n1 n2 n3 n4 n5 n6 n7 n8 = absurd (n5 refl)
-no_row (suc (suc (suc (suc (suc (suc zero)))))) j n1 n2 n3 n4 n5 n6 n7 n8 = absurd (n6 refl)
-no_row (suc (suc (suc (suc (suc (suc (suc zero))))))) j n1 n2 n3 n4 n5 n6 n7 n8 = absurd (n7 refl)
-no_row (suc (suc (suc (suc (suc (suc (suc (suc zero)))))))) j n1 n2 n3 n4 n5 n6 n7 n8 = absurd (n8 refl)
-no_row (suc (suc (suc (suc (suc (suc (suc (suc (suc k))))))))) j n1 n2 n3 n4 n5 n6 n7 n8 = private-zeros j
-
 -- the largest value of a field, by its entry
 pub highest-entry : (own k j e : ℕ) → e ≡ entry k j → highest own k j ≡ cond (eqb e 511) (511 + own) e
 unfolding highest
 highest-entry own k j e h = rw h
+
+-- ---- ranges
+
+-- a kind that there is not
+pub range-outside : (own w : ℕ) → (leb 1 (kind_of w) && leb (kind_of w) 8) ≡ false → in_range own w ≡ false
+unfolding in_range
+range-outside own w e = rw e
+
+-- the row of a kind decides
+pub range-row : (own w : ℕ) (r : List ℕ) → (leb 1 (kind_of w) && leb (kind_of w) 8) ≡ true → ((j : ℕ) → get_or r j 0 ≡ entry (kind_of w) j)
+    → in_row own w r ≡ in_range own w
+unfolding in_range
+range-row own w r e f = rw (e, highest-entry own _ 0 _ (f 0), highest-entry own _ 1 _ (f 1), highest-entry own _ 2 _ (f 2))
 
 -- ---- positions
 

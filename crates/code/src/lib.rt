@@ -1,10 +1,10 @@
 // Instruction words: the fixed table of the kinds, the fields of an instruction word, the instruction that it says, and cause 5.
 #![tactic(auto)]
 
-ghost use Rattle.std.specs.Prelude.{◌≡◌, ℕ, ◌+◌, ◌<◌, ◌≤◌, true, cond, get_or, eqb};
-ghost use Rattle.code.specs.Table.{entry, turns_of, kind_of, field_a, field_b, field_c};
+ghost use Rattle.std.specs.Prelude.{◌≡◌, ℕ, ◌+◌, ◌<◌, ◌≤◌, true, cond, [], get_or, eqb};
+ghost use Rattle.code.specs.Table.{table, entry, turns_of, kind_of, field_a, field_b, field_c};
 ghost use Rattle.code.specs.Op.{by_kind, op_of};
-ghost use Rattle.code.specs.Inner.Rows.{in_row, expr_row, op_row};
+ghost use Rattle.code.specs.Inner.Rows.{in_row, op_row};
 ghost use Rattle.code.specs.Form.{in_range, in_place, well_formed, lock_ok, held_after};
 
 // What an assignment stores: a literal, or a sum, a difference or a comparison of two words.
@@ -39,21 +39,39 @@ const TABLE: [[u64; 4]; 8] = [
     [0, 0, 0, 3],
 ];
 
+// The rows by what their words say; an assignment has one for each expression.
+pub const ACQUIRE: usize = 0;
+
+pub const RELEASE: usize = 1;
+
+pub const LITERAL: usize = 2;
+
+pub const SUM: usize = 3;
+
+pub const DIFFERENCE: usize = 4;
+
+pub const LESS: usize = 5;
+
+pub const JUMP: usize = 6;
+
+pub const FINISH: usize = 7;
+
 // The turns of each instruction by its row, for who does not look the word up; the four rows of an assignment have as many.
-pub const ACQUIRE_TURNS: u64 = TABLE[0][3];
+pub const ACQUIRE_TURNS: u64 = TABLE[ACQUIRE][3];
 
-pub const RELEASE_TURNS: u64 = TABLE[1][3];
+pub const RELEASE_TURNS: u64 = TABLE[RELEASE][3];
 
-pub const ASSIGN_TURNS: u64 = TABLE[2][3];
+pub const ASSIGN_TURNS: u64 = TABLE[LITERAL][3];
 
-pub const JUMP_TURNS: u64 = TABLE[6][3];
+pub const JUMP_TURNS: u64 = TABLE[JUMP][3];
 
-pub const FINISH_TURNS: u64 = TABLE[7][3];
+pub const FINISH_TURNS: u64 = TABLE[FINISH][3];
 
 // As many as any instruction has.
 pub const MOST_TURNS: u64 = ACQUIRE_TURNS;
 
 // The row of a kind; zeros where there is none. Every index is constant, so that a look-up is a load of a constant.
+#[tactic(auto, unfolding(crate::specs::Table::entry))]
 fn row(kind: u64) -> [u64; 4]
     ensures { (j : ℕ) → get_or result j 0 ≡ entry kind j }
 {
@@ -74,8 +92,7 @@ fn row(kind: u64) -> [u64; 4]
 pub fn turns(w: u64) -> u64
     ensures { result ≡ turns_of w }
 {
-    let r = row(kind_of(w));
-    r[3]
+    row(kind_of(w))[3]
 }
 
 // The largest value of a field whose entry is e.
@@ -127,13 +144,14 @@ fn by_kind(k: u64, a: u64, b: u64, c: u64) -> Op
 }
 
 // The instruction that a word says.
+#[tactic(auto, unfolding(crate::specs::Op::op_of))]
 pub fn op_of(w: u64) -> Op
     ensures { result ≡ op_of w }
 {
     by_kind(kind_of(w), field_a(w), field_b(w), field_c(w))
 }
 
-// Whether each field of a word is in its range, by the row of its kind.
+// Whether each field of a word is in its range, by the row of its kind. (As a chain of `&&` it took `well_formed` 45 instructions a word for 32.)
 fn in_row(w: u64, r: [u64; 4], own: u16) -> bool
     ensures { result ≡ in_row own w r }
 {
@@ -151,13 +169,7 @@ fn in_range(w: u64, own: u16) -> bool
     ensures { result ≡ in_range own w }
 {
     let k = kind_of(w);
-    if k < 1 {
-        return false;
-    }
-    if 8 < k {
-        return false;
-    }
-    in_row(w, row(k), own)
+    (1..=8).contains(&k) && in_row(w, row(k), own)
 }
 
 // Whether step i of n is a position that the instruction of a word of a known kind may have.
@@ -173,10 +185,7 @@ fn in_place(w: u64, i: usize, n: usize) -> bool
         return i + 1 == n;
     }
     let b = field_b(w);
-    if b <= i as u64 {
-        return false;
-    }
-    b < n as u64
+    (i as u64) < b && b < n as u64
 }
 
 // Whether step i of n does not fail cause 5.
@@ -184,66 +193,15 @@ pub fn well_formed(w: u64, i: usize, n: usize, own: u16) -> bool
     requires { i < n }
     ensures { result ≡ well_formed own n i w }
 {
-    if !in_range(w, own) {
-        return false;
-    }
-    in_place(w, i, n)
+    in_range(w, own) && in_place(w, i, n)
 }
 
-// Whether each field of an acquire's word is in its range; below the same for each other instruction. Each has its row, so that no entry is looked up.
-pub fn acquire_fits(w: u64, own: u16) -> bool
-    ensures { (a : ℕ) → result ≡ in_row own w (op_row (Op.Acquire a)) }
+// Whether each field of a word is in its range by one row of the table, so that no entry is looked up.
+pub fn fits<const ROW: usize>(w: u64, own: u16) -> bool
+    requires { ROW < 8 }
+    ensures { result ≡ in_row own w (get_or table ROW []) }
 {
-    in_row(w, TABLE[0], own)
-}
-
-// A release's.
-pub fn release_fits(w: u64, own: u16) -> bool
-    ensures { (a : ℕ) → result ≡ in_row own w (op_row (Op.Release a)) }
-{
-    in_row(w, TABLE[1], own)
-}
-
-// Those of the assignments, by what they store.
-pub fn literal_fits(w: u64, own: u16) -> bool
-    ensures { (b c : ℕ) → result ≡ in_row own w (expr_row (Expr.Literal b c)) }
-{
-    in_row(w, TABLE[2], own)
-}
-
-// A sum's.
-pub fn sum_fits(w: u64, own: u16) -> bool
-    ensures { (b c : ℕ) → result ≡ in_row own w (expr_row (Expr.Sum b c)) }
-{
-    in_row(w, TABLE[3], own)
-}
-
-// A difference's.
-pub fn difference_fits(w: u64, own: u16) -> bool
-    ensures { (b c : ℕ) → result ≡ in_row own w (expr_row (Expr.Difference b c)) }
-{
-    in_row(w, TABLE[4], own)
-}
-
-// A comparison's.
-pub fn less_fits(w: u64, own: u16) -> bool
-    ensures { (b c : ℕ) → result ≡ in_row own w (expr_row (Expr.Less b c)) }
-{
-    in_row(w, TABLE[5], own)
-}
-
-// A jump's.
-pub fn jump_fits(w: u64, own: u16) -> bool
-    ensures { (a b : ℕ) → result ≡ in_row own w (op_row (Op.Jump a b)) }
-{
-    in_row(w, TABLE[6], own)
-}
-
-// A finish's.
-pub fn finish_fits(w: u64, own: u16) -> bool
-    ensures { result ≡ in_row own w (op_row Op.Finish) }
-{
-    in_row(w, TABLE[7], own)
+    in_row(w, TABLE[ROW], own)
 }
 
 // The same by the instruction that the word says.
@@ -251,16 +209,14 @@ fn op_in_row(w: u64, x: Op, own: u16) -> bool
     ensures { result ≡ in_row own w (op_row x) }
 {
     match x {
-        Op::Acquire(_) => acquire_fits(w, own),
-        Op::Release(_) => release_fits(w, own),
-        Op::Assign(_, e) => match e {
-            Expr::Literal(_, _) => literal_fits(w, own),
-            Expr::Sum(_, _) => sum_fits(w, own),
-            Expr::Difference(_, _) => difference_fits(w, own),
-            Expr::Less(_, _) => less_fits(w, own),
-        },
-        Op::Jump(_, _) => jump_fits(w, own),
-        Op::Finish => finish_fits(w, own),
+        Op::Acquire(_) => fits::<ACQUIRE>(w, own),
+        Op::Release(_) => fits::<RELEASE>(w, own),
+        Op::Assign(_, Expr::Literal(_, _)) => fits::<LITERAL>(w, own),
+        Op::Assign(_, Expr::Sum(_, _)) => fits::<SUM>(w, own),
+        Op::Assign(_, Expr::Difference(_, _)) => fits::<DIFFERENCE>(w, own),
+        Op::Assign(_, Expr::Less(_, _)) => fits::<LESS>(w, own),
+        Op::Jump(_, _) => fits::<JUMP>(w, own),
+        Op::Finish => fits::<FINISH>(w, own),
         Op::Unknown => in_row(w, [0, 0, 0, 0], own),
     }
 }
@@ -271,32 +227,23 @@ fn op_in_place(x: Op, i: usize, n: usize) -> bool
     ensures { result ≡ in_place n i x }
 {
     match x {
-        Op::Acquire(_) => i + 1 < n,
-        Op::Release(_) => i + 1 < n,
-        Op::Assign(_, _) => i + 1 < n,
-        Op::Jump(_, b) => {
-            if n as u64 <= b {
-                return false;
-            }
-            (i as u64) < b
-        }
+        Op::Acquire(_) | Op::Release(_) | Op::Assign(_, _) => i + 1 < n,
+        Op::Jump(_, b) => (i as u64) < b && b < n as u64,
         Op::Finish => i + 1 == n,
         Op::Unknown => false,
     }
 }
 
-// The same as `well_formed`, for a caller that goes by the instruction.
+// The same as `well_formed`, for a caller that goes by the instruction: each has its row as a constant, and nothing is looked up (docs/DECISIONS.md).
 pub fn formed(w: u64, x: Op, i: usize, n: usize, own: u16) -> bool
     requires { (x ≡ op_of w) × (i < n) }
     ensures { result ≡ well_formed own n i w }
 {
-    if !op_in_row(w, x, own) {
-        return false;
-    }
-    op_in_place(x, i, n)
+    op_in_row(w, x, own) && op_in_place(x, i, n)
 }
 
 // The held set after an instruction whose lock, if it has one, is in its range.
+#[tactic(auto, unfolding(crate::specs::Form::held_after))]
 pub fn held_after(h: u64, x: Op) -> u64
     requires { lock_ok x ≡ true }
     ensures { result ≡ held_after h x }
@@ -304,10 +251,7 @@ pub fn held_after(h: u64, x: Op) -> u64
     match x {
         Op::Acquire(a) => mask::with(h, a),
         Op::Release(a) => mask::without(h, a),
-        Op::Assign(_, _) => h,
-        Op::Jump(_, _) => h,
-        Op::Finish => h,
-        Op::Unknown => h,
+        _ => h,
     }
 }
 
@@ -317,7 +261,8 @@ pub fn held_past(h: u64, w: u64) -> u64
     ensures { result ≡ held_after h (op_of w) }
 {
     if 2 < kind_of(w) {
-        return h;
+        h
+    } else {
+        held_after(h, op_of(w))
     }
-    held_after(h, op_of(w))
 }

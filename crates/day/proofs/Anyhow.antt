@@ -91,7 +91,7 @@ module _ (l x : List ℕ) (s : Stage) where
   longer more (Rounds d r) o c = record { ready = refl; stage = refl; then = refl }
   longer more (Stores i) o c = record { ready = refl; stage = refl; then = refl }
   longer more Next o c = private-next more o c
-  longer more Stop o c = let z : ◌≡◌ {A = ℕ} 0 1 = cc in absurd (omega arith)
+  longer more Stop o c = cc
 
 -- ---- a call of the core
 

@@ -57,14 +57,14 @@ pub whole-stops : (more : Bool) (room : ℕ) (q : Point) → Stops more room (wh
 whole-stops more room q = stops (pieces_left q) more room q (omega arith)
 
 private-room : (t : Bool) (w : Want) → cond t Room w ≡ Nothing → (t ≡ false) × (w ≡ Nothing)
-private-room true w e = let z : ◌≡◌ {A = ℕ} 0 1 = cc in absurd (omega arith)
+private-room true w e = cc
 private-room false w e = (refl, e)
 
 private-over : (l : List ℕ) (j : Job) → input_for j ≡ Nothing → ready_for false l j ≡ false
-private-over l (Turns w k) e = let z : ◌≡◌ {A = ℕ} 0 1 = cc in absurd (omega arith)
-private-over l (Rounds d r) e = let z : ◌≡◌ {A = ℕ} 0 1 = cc in absurd (omega arith)
-private-over l (Stores i) e = let z : ◌≡◌ {A = ℕ} 0 1 = cc in absurd (omega arith)
-private-over l Next e = let z : ◌≡◌ {A = ℕ} 0 1 = cc in absurd (omega arith)
+private-over l (Turns w k) e = cc
+private-over l (Rounds d r) e = cc
+private-over l (Stores i) e = cc
+private-over l Next e = cc
 private-over l Stop e = refl
 
 -- a point with so much room

@@ -7,23 +7,23 @@ use mathlib.Core.List.{List, [], ◌∷◌, ◌++◌, append_assoc}
 use native.Mathlib.Omega.{arith}
 use lib.ListN.{length}
 use lib.Dec.{eqb}
+use Rattle.std.proofs.Common.{Some, None}
 use Rattle.image.specs.Image.{Image}
 use Rattle.working.specs.declared.Cursors.{Cursors}
 use Rattle.working.specs.Cursor.{all_idle}
 use Rattle.repair.specs.declared.Repair.{Repair}
 use Rattle.repair.specs.Repair.{no_repair}
-use Rattle.frames.specs.declared.Printed.{Printed}
-use Rattle.frames.specs.declared.Printed.TheVariants.{Nothing, Line as PrintedLine}
+use Rattle.frames.specs.Print.{Printed}
 use Rattle.lines.specs.declared.Job.{Job}
 use Rattle.lines.specs.declared.Job.TheVariants.{Turns, Rounds, Stores, Next, Stop}
 use Rattle.lines.specs.declared.Made.{Made}
-use Rattle.lines.specs.Play.{Stage, stage, played, no_turn, go_on}
+use Rattle.lines.specs.Play.{Stage, stage, played, no_turn, is_going, go_on}
 use Rattle.lines.specs.Whole.{Output, shown, onto}
 use Rattle.buffers.specs.Input.{line_of, rest_of, lines_of, complete, complete_at}
 use Rattle.buffers.specs.Output.{bytes_of}
 use Rattle.stages.specs.Begun.{fresh, line_on}
 use Rattle.stages.specs.Lines.{Line, Reading, whole_line, followed, lines_whole}
-use Rattle.pieces.specs.Pieces.{Point, point, dawn, ready, piece, job_pieces, is_going}
+use Rattle.pieces.specs.Pieces.{Point, point, dawn, ready, piece, job_pieces}
 use Rattle.day.specs.Days.{rest, day_of, Feed, feeds, bytes_in, Honest}
 use Rattle.day.specs.Printout.{texts, printout}
 use Rattle.buffers.proofs.Lines.{rest-less, lines-first}
@@ -38,16 +38,16 @@ use Rattle.day.proofs.Anyhow.{stopped, day-anyhow}
 
 texts-shown : (p : Printed) (ps : List Printed) → texts (shown p ++ ps) ≡ bytes_of p ++ texts ps
 unfolding texts
-texts-shown Nothing ps = refl
-texts-shown (PrintedLine i v) ps = refl
+texts-shown None ps = refl
+texts-shown (Some l) ps = refl
 
 -- ---- a line gone on with to its end
 
 stop_is : (j : Job) → is_stop j ≡ true → j ≡ Stop
-stop_is (Turns d k) e = let z : ◌≡◌ {A = ℕ} 0 1 = cc in absurd (omega arith)
-stop_is (Rounds d r) e = let z : ◌≡◌ {A = ℕ} 0 1 = cc in absurd (omega arith)
-stop_is (Stores i) e = let z : ◌≡◌ {A = ℕ} 0 1 = cc in absurd (omega arith)
-stop_is Next e = let z : ◌≡◌ {A = ℕ} 0 1 = cc in absurd (omega arith)
+stop_is (Turns d k) e = cc
+stop_is (Rounds d r) e = cc
+stop_is (Stores i) e = cc
+stop_is Next e = cc
 stop_is Stop e = refl
 
 -- the lines that follow, by the image and the cursors that they find
@@ -84,7 +84,7 @@ module _ (y : List ℕ) (more : Following)
 
   private-none : (s : Stage) (j : Job) → s.played.job ≡ j → job_pieces j ≤ 0 → is_stop j ≡ false → Through s
   private-none s Next e h o = private-next s e
-  private-none s Stop e h o = let z : ◌≡◌ {A = ℕ} 0 1 = cc in absurd (omega arith)
+  private-none s Stop e h o = cc
   private-none s (Turns d k) e h o = absurd (omega arith)
   private-none s (Rounds d r) e h o = absurd (omega arith)
   private-none s (Stores i) e h o = absurd (omega arith)
@@ -178,7 +178,7 @@ lines-printed (suc n) l h = by-line n l h (λ k e. lines-printed n k e)
 
 pub day-printout : (input : List ℕ) → day_of input ≡ printout input
 unfolding fresh
-day-printout input = lines-printed (length input) input (omega arith) [] all_idle Nothing no_repair no_turn
+day-printout input = lines-printed (length input) input (omega arith) [] all_idle None no_repair no_turn
 
 -- fed in any buffers to its end
 pub fed-printout : (hs : List Feed) → Honest hs → ready false (feeds hs (dawn [])).point ≡ false → (feeds hs (dawn [])).out ≡ printout (bytes_in hs)

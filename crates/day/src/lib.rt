@@ -38,57 +38,36 @@ pub fn advance(image: &mut [u64], d: Day, input: &[u8], more: bool, out: &mut [u
     ensures { Advanced image.old image.new input.now out.old out.new d result
         (whole more (length out.old) (point_of input.now image.old d)) }
 {
-    let mut s = d;
-    let mut from: usize = 0;
-    let mut used: usize = 0;
-    while 22 <= out.len() - used {
-        let p = pieces::make(image, s, input, from, more);
-        s = p.day;
-        from = p.from;
-        if !p.done {
-            return Stretch {
-                day: s,
-                taken: from,
-                used: used,
-            };
-        }
-        let played = s.played;
-        let printed = played.printed;
-        used = buffers::print(out, used, printed);
-        let r = pieces::run_on(image, s, out, used);
-        s = r.day;
-        used = r.used;
+    let mut s = Stretch {
+        day: d,
+        taken: 0,
+        used: 0,
+    };
+    while 22 <= out.len() - s.used {
+        let Some(p) = pieces::make(image, s.day, input, s.taken, more) else {
+            return s;
+        };
+        let used = buffers::print(out, s.used, p.day.played.printed);
+        let r = pieces::run_on(image, p.day, out, used);
+        s = Stretch {
+            day: r.day,
+            taken: p.from,
+            used: r.used,
+        };
     }
-    Stretch {
-        day: s,
-        taken: from,
-        used: used,
-    }
+    s
 }
 
 // What is to be done after the core has come to its end, with so much room left.
+#[tactic(auto, unfolding(crate::specs::Wants::want_of))]
 pub fn wants(d: Day, more: bool, room: usize) -> Want
     ensures { result ≡ want_of more room d.played.job }
 {
     if room < 22 {
-        return Want::Room;
-    }
-    if !more {
-        return Want::Nothing;
-    }
-    let p = d.played;
-    let job = p.job;
-    match job {
-        Job::Turns {
-            worker: _,
-            turns: _,
-        } => Want::Input,
-        Job::Rounds {
-            worker: _,
-            rounds: _,
-        } => Want::Input,
-        Job::Stores(_) => Want::Input,
-        Job::Next => Want::Input,
-        Job::Stop => Want::Nothing,
+        Want::Room
+    } else if more && !matches!(d.played.job, Job::Stop) {
+        Want::Input
+    } else {
+        Want::Nothing
     }
 }

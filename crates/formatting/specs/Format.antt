@@ -1,10 +1,13 @@
 -- Formatting: the stores, in document 01's order, and what they leave.
-use Rattle.std.specs.Prelude.{ℕ, ◌+◌, ◌-◌, Bool, cond, ◌&&◌, List, ◌∷◌, length, replicate, leb, eqb}
+use Rattle.std.specs.Prelude.{ℕ, ◌+◌, ◌-◌, Bool, cond, ◌&&◌, List, ◌∷◌, length, replicate, leb, eqb, Result, Ok, Err}
 use Rattle.image.specs.Image.{Image, length_of, put}
 use Rattle.rows.specs.Rows.{put_from}
+use Rattle.working.specs.declared.Refusal.{Refusal}
 use Rattle.working.specs.declared.Refusal.TheVariants.{Image as ImageRefused}
-use Rattle.formatting.specs.declared.Formatted.{Formatted}
-use Rattle.formatting.specs.declared.Formatted.TheVariants.{Done, Refused}
+
+-- done, or why not
+abbrev pub Formatted : Type 0
+Formatted = Result Unit Refusal
 
 -- length and number of workers are right (else cause 10)
 unfoldable pub formattable : ℕ → Image → ℕ → Bool
@@ -29,12 +32,12 @@ formatted mark n D = mark ∷ form_tail n D
 -- ---- the call, by its answer
 
 unfoldable pub format_answer : ℕ → Image → ℕ → Formatted
-format_answer n m D = cond (formattable n m D) Done (Refused ImageRefused)
+format_answer n m D = cond (formattable n m D) (Ok tt) (Err ImageRefused)
 
 abbrev pub format_leaves : ℕ → ℕ → ℕ → Image → ℕ → Formatted → Image
-format_leaves mark n left m D Done = format_stores mark n left m D
-format_leaves mark n left m D (Refused r) = m
+format_leaves mark n left m D (Ok u) = format_stores mark n left m D
+format_leaves mark n left m D (Err r) = m
 
 abbrev pub format_left : ℕ → ℕ → ℕ → Formatted → ℕ
-format_left n left D Done = left - (length_of n D + 1)
-format_left n left D (Refused r) = left
+format_left n left D (Ok u) = left - (length_of n D + 1)
+format_left n left D (Err r) = left

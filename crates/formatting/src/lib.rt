@@ -1,87 +1,75 @@
 // Formatting an image for a number of workers.
 #![tactic(auto)]
 
-use working::{Cursors, Refusal};
-
-pub mod codes;
-
 ghost use Rattle.std.specs.Prelude.{◌≡◌, true, ◌+◌, ◌-◌, ◌≤◌};
 ghost use Rattle.image.specs.Image.{length_of};
 ghost use Rattle.working.specs.Cursor.{all_idle};
 ghost use Rattle.formatting.specs.Format.{image_words, formattable, format_stores, format_answer, format_leaves, format_left};
 
-#[derive(Clone, Copy)]
-pub enum Formatted {
-    Done,
-    Refused(Refusal),
-}
+use image::Edition;
+use working::{Cursors, Refusal};
 
+// The answer of a formatting, and where the workers stand after it.
 #[derive(Clone, Copy)]
 pub struct Cleared {
-    pub answer: Formatted,
+    pub answer: Result<(), Refusal>,
     pub cursors: Cursors,
 }
 
 // The words of an image of so many workers; 0 for a number that no image has.
+#[tactic(auto, unfolding(crate::specs::Format::image_words, image::specs::Image::length_of))]
 pub fn image_words(workers: u64, own: usize) -> usize
     requires { own ≤ 64 }
     ensures { result ≡ image_words own workers }
 {
-    if workers < 1 {
-        return 0;
+    if (1..=8).contains(&workers) {
+        image::record_at(workers as usize, own)
+    } else {
+        0
     }
-    if 8 < workers {
-        return 0;
-    }
-    image::record_at(workers as usize, own)
 }
 
 // Whether an image of this length can hold so many workers.
+#[tactic(auto, unfolding(crate::specs::Format::formattable, image::specs::Image::length_of))]
 fn formattable(image: &[u64], workers: u64, own: usize) -> bool
     requires { own ≤ 64 }
     ensures { result ≡ formattable own image.now workers }
 {
-    if workers < 1 {
-        return false;
-    }
-    if 8 < workers {
-        return false;
-    }
-    image::words(image) == image::record_at(workers as usize, own)
+    (1..=8).contains(&workers) && image::words(image) == image::record_at(workers as usize, own)
 }
 
 // The stores of a formatting.
-fn store_all(image: &mut [u64], workers: u64, mark: u64, own: usize, left: &mut u64)
-    requires { (own ≤ 64) × (formattable own image.old workers ≡ true) }
-    ensures image { image.new ≡ format_stores mark own left.old image.old workers }
-    ensures left { left.new ≡ left.old - (length_of own workers + 1) }
+fn store_all(image: &mut [u64], workers: u64, e: Edition, left: &mut u64)
+    requires { formattable e.own image.old workers ≡ true }
+    ensures image { image.new ≡ format_stores e.mark e.own left.old image.old workers }
+    ensures left { left.new ≡ left.old - (length_of e.own workers + 1) }
 {
     let n = image::words(image);
     image::store(image, 0, 0, left);
     image::store(image, 1, workers, left);
     rows::clear(image, 2, n - 2, left);
-    image::store(image, 0, mark, left);
+    image::store(image, 0, e.mark, left);
 }
 
 // Formats an image for so many workers. All of them are idle, also where it is refused.
-pub fn format(image: &mut [u64], workers: u64, mark: u64, own: usize, left: &mut u64) -> Cleared
-    requires { own ≤ 64 }
-    ensures answer { result.answer ≡ format_answer own image.old workers }
+#[tactic(auto, unfolding(crate::specs::Format::format_answer))]
+pub fn format(image: &mut [u64], workers: u64, e: Edition, left: &mut u64) -> Cleared
+    ensures answer { result.answer ≡ format_answer e.own image.old workers }
     ensures cursors { result.cursors ≡ all_idle }
     ensures image { image.new
-        ≡ format_leaves mark own left.old image.old workers (format_answer own image.old workers) }
-    ensures left { left.new ≡ format_left own left.old workers (format_answer own image.old workers) }
+        ≡ format_leaves e.mark e.own left.old image.old workers (format_answer e.own image.old workers) }
+    ensures left { left.new ≡ format_left e.own left.old workers (format_answer e.own image.old workers) }
 {
-    let idle = working::all_idle();
-    if !formattable(image, workers, own) {
+    let cursors = Cursors::all_idle();
+    if !formattable(image, workers, e.own) {
         return Cleared {
-            answer: Formatted::Refused(Refusal::Image),
-            cursors: idle,
+            answer: Err(Refusal::Image),
+            cursors,
         };
     }
-    store_all(image, workers, mark, own, left);
+    store_all(image, workers, e, left);
     Cleared {
-        answer: Formatted::Done,
-        cursors: idle,
+        answer: Ok(()),
+        cursors,
     }
 }

@@ -2,13 +2,14 @@
 -- words read, one after the other.
 use Prim.Native.Nat.{ℕ, zero, suc, ◌+◌, ◌-◌, ◌*◌, ◌/◌, ◌^◌, ◌<◌, ◌≤◌}
 use mathlib.Core.Path.{◌≡◌, refl, ap}
-use mathlib.Core.Bool.{true, false, ◌&&◌}
-use mathlib.Core.List.{List, ◌++◌, append-nil}
+use mathlib.Core.Bool.{Bool, ◌&&◌}
+use mathlib.Core.List.{List, [], ◌∷◌, ◌++◌, append-nil}
 use native.Mathlib.Omega.{arith}
 use native.Mathlib.Nat.{pow-suc, pow-le-pow_right, lt_of_lt_of_le}
 use native.Mathlib.Numerals.{add-one}
-use lib.ListN.{length, get_or, take, drop, set, drop_of_length-le}
-use lib.Seq.{drop-cons, take-suc-set, append_snoc, take_at}
+use lib.ListN.{length, get_or, take, set}
+use lib.Seq.{take-suc-set, append_snoc, take_at}
+use Rattle.std.specs.List.{list_all}
 use Rattle.base.proofs.Counting.{left_step, left-none, left-all}
 use Rattle.frames.specs.Hex.{is_hex, hex_of, hex_from, hex_at, all_hex}
 use Rattle.frames.specs.Line.{words_from, words_of}
@@ -41,22 +42,10 @@ module _ (l : List ℕ) (at n : ℕ) where
 
 -- ---- all of a line
 
-module _ (l : List ℕ) where
-  private-next : (i : ℕ) → i < length l → all_hex (drop i l) ≡ (is_hex (get_or l i 0) && all_hex (drop (i + 1) l))
-  unfolding all_hex
-  private-next i h = rw (add-one i, drop-cons l i 0 h)
-
-  -- past a digit the rest decides
-  pub all-step : (i : ℕ) → i < length l → is_hex (get_or l i 0) ≡ true → all_hex (drop (i + 1) l) ≡ all_hex (drop i l)
-  all-step i h d = rw (private-next i h, d)
-
-  -- a byte that is no digit decides
-  pub all-fails : (i : ℕ) → i < length l → is_hex (get_or l i 0) ≡ false → all_hex (drop i l) ≡ false
-  all-fails i h d = rw (private-next i h, d)
-
-  pub all_end : (i : ℕ) → length l ≤ i → all_hex (drop i l) ≡ true
-  unfolding all_hex
-  all_end i h = rw (drop_of_length-le l {i = i} h)
+pub all-tests : (l : List ℕ) → list_all is_hex l ≡ all_hex l
+unfolding all_hex
+all-tests [] = refl
+all-tests (b ∷ bs) = ap (λ (t : Bool). is_hex b && t) (all-tests bs)
 
 -- ---- the words of a steps' part, put at the start of a list one after the other
 

@@ -1,14 +1,16 @@
 -- What a line's bytes say. (Document 01, 'Frame lines'; document 02, 7/14.)
-use Rattle.std.specs.Prelude.{ℕ, zero, suc, ◌+◌, ◌-◌, ◌*◌, ◌/◌, ◌%◌, List, [], ◌∷◌, cond, length, drop, ltb, eqb}
-use Rattle.frames.specs.declared.Opening.{Opening}
-use Rattle.frames.specs.declared.Opening.TheVariants.{Workers, Malformed as OpeningMalformed}
+use Rattle.std.specs.Prelude.{ℕ, zero, suc, ◌+◌, ◌-◌, ◌*◌, ◌/◌, ◌%◌, List, [], ◌∷◌, Option, Some, None, cond, length, drop, ltb, eqb}
 use Rattle.frames.specs.declared.Frame.{Frame}
 use Rattle.frames.specs.declared.Frame.TheVariants.{Submit, Turns, Recover, Rounds, Malformed}
 use Rattle.frames.specs.Hex.{all_hex, hex_at}
 
+-- what the first line says: a number of workers; None where it is malformed
+abbrev pub Opening : Type 0
+Opening = Option ℕ
+
 -- the first line: the number of workers in two digits
 unfoldable pub first_of : List ℕ → Opening
-first_of l = cond (eqb (length l) 2) (cond (all_hex l) (Workers (hex_at l 0 2)) OpeningMalformed) OpeningMalformed
+first_of l = cond (eqb (length l) 2) (cond (all_hex l) (Some (hex_at l 0 2)) None) None
 
 -- ---- later lines, by their first two digits
 

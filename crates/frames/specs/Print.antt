@@ -1,19 +1,26 @@
 -- What is printed: an index, or ffff for a refusal and fffe for a report, and a value; and the bytes of it. (Document 01: index, four
 -- digits, blank, value, sixteen; a refusal has ffff for the index, and its number. Document 02, 1/14: a report has fffe.)
-use Rattle.std.specs.Prelude.{ℕ, List, [], ◌∷◌}
-use Rattle.frames.specs.declared.Printed.{Printed}
-use Rattle.frames.specs.declared.Printed.TheVariants.{Line}
+use Rattle.std.specs.Prelude.{ℕ, List, [], ◌∷◌, Option, Some}
+use Rattle.frames.specs.declared.Line.{Line}
 use Rattle.frames.specs.Hex.{digit_at}
+
+-- what is printed, if anything
+abbrev pub Printed : Type 0
+Printed = Option Line
+
+-- a line with this index and this value
+abbrev pub line : ℕ → ℕ → Printed
+line i v = Some (record { at = i; value = v })
 
 -- the number of a malformed line
 abbrev pub malformed : ℕ
 malformed = 14
 
 abbrev pub refusal : ℕ → Printed
-refusal cause = Line 65535 cause
+refusal cause = line 65535 cause
 
 abbrev pub report : ℕ → Printed
-report found = Line 65534 found
+report found = line 65534 found
 
 -- ---- the bytes: four digits, a blank, sixteen digits, byte 10
 

@@ -12,13 +12,6 @@ ghost use Rattle.frames.specs.Print.{refusal, report, text_of};
 // The number of a malformed line.
 pub const MALFORMED: u64 = 14;
 
-// What the first line says.
-#[derive(Clone, Copy)]
-pub enum Opening {
-    Workers(u64),
-    Malformed,
-}
-
 // What a later line says. (Document 01: 01, 02, 03, or malformed; document 02, 7/14: 04.) The arguments and the steps' part of a submit stay in
 // the line.
 #[derive(Clone, Copy)]
@@ -30,15 +23,15 @@ pub enum Frame {
     Malformed,
 }
 
-// What is to be printed: an index, or ffff or fffe, and a value.
+// A line to be printed: an index, or ffff or fffe, and a value.
 #[derive(Clone, Copy)]
-pub enum Printed {
-    Nothing,
-    Line { at: usize, value: u64 },
+pub struct Line {
+    pub at: usize,
+    pub value: u64,
 }
 
-// The first line: the number of workers in two digits.
-pub fn first(line: &[u8]) -> Opening
+// The first line: the number of workers in two digits; None where it is malformed.
+pub fn first(line: &[u8]) -> Option<u64>
     ensures { result ≡ first_of line.now }
 {
     reading::first(line)
@@ -76,14 +69,14 @@ pub fn words(part: &[u8], out: &mut [u64]) -> usize
 }
 
 // A refusal with a cause, as it is printed.
-pub fn refusal(cause: u64) -> Printed
+pub fn refusal(cause: u64) -> Option<Line>
     ensures { result ≡ refusal cause }
 {
     saying::refusal(cause)
 }
 
 // What a release found, as it is printed.
-pub fn report(found: u64) -> Printed
+pub fn report(found: u64) -> Option<Line>
     ensures { result ≡ report found }
 {
     saying::report(found)

@@ -2,29 +2,26 @@
 ghost use Rattle.std.specs.Prelude.{◌≡◌, ◌≤◌, ◌/◌, ◌++◌, length, drop};
 ghost use Rattle.frames.specs.Line.{first_of, frame_of, submit_frame, turns_frame, recover_frame, rounds_frame, steps_part, arguments_of, words_of};
 
-use crate::{Frame, Opening, digits};
+use crate::{Frame, digits};
 
-pub fn first(line: &[u8]) -> Opening
+#[tactic(auto, unfolding(crate::specs::Line::first_of))]
+pub fn first(line: &[u8]) -> Option<u64>
     ensures { result ≡ first_of line.now }
 {
-    if line.len() != 2 {
-        return Opening::Malformed;
+    if line.len() == 2 && digits::all_digits(line) {
+        Some(digits::number(line, 0, 2))
+    } else {
+        None
     }
-    if !digits::all_digits(line) {
-        return Opening::Malformed;
-    }
-    Opening::Workers(digits::number(line, 0, 2))
 }
 
 // 01: the steps' part has any number of instructions.
+#[tactic(auto, unfolding(crate::specs::Line::submit_frame))]
 fn submit(line: &[u8]) -> Frame
     ensures { result ≡ submit_frame line.now }
 {
     let n = line.len();
-    if n < 148 {
-        return Frame::Malformed;
-    }
-    if (n - 148) % 16 != 0 {
+    if n < 148 || (n - 148) % 16 != 0 {
         return Frame::Malformed;
     }
     Frame::Submit {
@@ -34,6 +31,7 @@ fn submit(line: &[u8]) -> Frame
 }
 
 // 02.
+#[tactic(auto, unfolding(crate::specs::Line::turns_frame))]
 fn turns(line: &[u8]) -> Frame
     ensures { result ≡ turns_frame line.now }
 {
@@ -47,6 +45,7 @@ fn turns(line: &[u8]) -> Frame
 }
 
 // 03.
+#[tactic(auto, unfolding(crate::specs::Line::recover_frame))]
 fn recover(line: &[u8]) -> Frame
     ensures { result ≡ recover_frame line.now }
 {
@@ -57,6 +56,7 @@ fn recover(line: &[u8]) -> Frame
 }
 
 // 04.
+#[tactic(auto, unfolding(crate::specs::Line::rounds_frame))]
 fn rounds(line: &[u8]) -> Frame
     ensures { result ≡ rounds_frame line.now }
 {
@@ -66,21 +66,15 @@ fn rounds(line: &[u8]) -> Frame
     Frame::Rounds(digits::number(line, 2, 4))
 }
 
+#[tactic(auto, unfolding(crate::specs::Line::frame_of, crate::specs::Line::by_kind))]
 pub fn read(line: &[u8]) -> Frame
     ensures { result ≡ frame_of line.now }
 {
     let n = line.len();
-    if 4096 < n {
+    if 4096 < n || !digits::all_digits(line) || n < 2 {
         return Frame::Malformed;
     }
-    if !digits::all_digits(line) {
-        return Frame::Malformed;
-    }
-    if n < 2 {
-        return Frame::Malformed;
-    }
-    let kind = digits::number(line, 0, 2);
-    match kind {
+    match digits::number(line, 0, 2) {
         1 => submit(line),
         2 => turns(line),
         3 => recover(line),
@@ -104,16 +98,7 @@ pub fn arguments(line: &[u8]) -> [u64; 8]
     requires { 148 ≤ length line.now }
     ensures { result ≡ arguments_of line.now }
 {
-    [
-        digits::number(line, 20, 16),
-        digits::number(line, 36, 16),
-        digits::number(line, 52, 16),
-        digits::number(line, 68, 16),
-        digits::number(line, 84, 16),
-        digits::number(line, 100, 16),
-        digits::number(line, 116, 16),
-        digits::number(line, 132, 16),
-    ]
+    std::array::from_fn(|i| digits::number(line, 20 + 16 * i, 16))
 }
 
 // Puts the words of a steps' part at the start of a lent slice, and answers how many they are. What is behind them stays.
@@ -123,10 +108,8 @@ pub fn words(part: &[u8], out: &mut [u64]) -> usize
     ensures words { out.new ≡ words_of part.now ++ drop (length part.now / 16) out.old }
 {
     let n = part.len() / 16;
-    let mut i: usize = 0;
-    while i < n {
+    for i in 0..n {
         out[i] = digits::number(part, 16 * i, 16);
-        i += 1;
     }
     n
 }

@@ -2,28 +2,29 @@
 ghost use Rattle.std.specs.Prelude.{◌≡◌};
 ghost use Rattle.frames.specs.Print.{text_of, refusal, report};
 
-use crate::{Printed, digits};
+use crate::{Line, digits};
 
 // A refusal has ffff for the index, and its number.
-pub fn refusal(cause: u64) -> Printed
+pub fn refusal(cause: u64) -> Option<Line>
     ensures { result ≡ refusal cause }
 {
-    Printed::Line {
+    Some(Line {
         at: 65535,
         value: cause,
-    }
+    })
 }
 
 // A report has fffe, and what was found.
-pub fn report(found: u64) -> Printed
+pub fn report(found: u64) -> Option<Line>
     ensures { result ≡ report found }
 {
-    Printed::Line {
+    Some(Line {
         at: 65534,
         value: found,
-    }
+    })
 }
 
+// The bytes stand one by one, as they do on the page: those of 22 calls by from_fn are more facts than one search looks into.
 pub fn text(at: usize, value: u64) -> [u8; 22]
     ensures { result ≡ text_of at value }
 {

@@ -57,10 +57,16 @@ module _ (mark n : ℕ) (m : Image) where
   pub header-inside : (d : ℕ) → n ≤ 64 → header_ok mark n m ≡ true → d < workers m → Inside n m d
   header-inside d small h below = let e = header-true h in record { few = small; below = below; most = e.few; whole = e.size }
 
-  -- the code's last test decides, once the others have passed
+  -- the last test decides, once the others have passed
   pub header-last : 1 ≤ workers m → workers m ≤ 8 → length m ≡ length_of n (workers m) → get_or m 0 0 ≡ mark → header_ok mark n m ≡ zeros (take 6 (drop 2 m))
   unfolding header_ok
   header-last a b c d = rw (le-leb _ _ a, le-leb _ _ b, eq-eqb _ _ c, eq-eqb _ _ d)
+
+  -- the same where the others are told joined
+  pub header-by : (t : Bool) → t ≡ (leb 1 (workers m) && leb (workers m) 8 && eqb (length m) (length_of n (workers m)) && eqb (get_or m 0 0) mark)
+      → header_ok mark n m ≡ (t && zeros (take 6 (drop 2 m)))
+  unfolding header_ok
+  header-by t e = rw e
 
   -- an image that is not as the test says fails it
   pub header-false : (Header mark n m → ⊥) → header_ok mark n m ≡ false

@@ -11,7 +11,7 @@ use Rattle.image.specs.Place.{Place, valid, Memory, Store}
 use Rattle.image.specs.Inner.Same.{upd, upd_all}
 use Rattle.image.specs.Image.{Image, index_of, workers, at, header_ok, put, put_all}
 use Rattle.image.proofs.Header.{Sized}
-use Rattle.image.proofs.Stores.{put-none, put_some, length-store, workers-store, header-store, sized_set, at_set}
+use Rattle.image.proofs.Stores.{put-none, put_some, workers-store, header-store, sized_set, at_set}
 
 -- all places of a list are places of an image of D workers with n own words each
 abbrev pub all_valid : ℕ → ℕ → List Store → Bool

@@ -28,6 +28,21 @@ pub enum Field {
     Finished,
 }
 
+// What an edition fixes: the mark in word 0 of its images, and how many own words a record has.
+#[derive(Clone, Copy)]
+pub struct Edition {
+    pub mark: u64,
+    pub own: usize,
+    pub ghost few: { own ≤ 64 },
+}
+
+// An index of an image, and a word for it.
+#[derive(Clone, Copy)]
+pub struct Word {
+    pub at: usize,
+    pub value: u64,
+}
+
 // How many words an image has.
 pub fn words(image: &[u64]) -> usize
     ensures { result ≡ length image.now }
@@ -42,7 +57,7 @@ pub fn load(image: &[u64], at: usize) -> u64
     if at < image.len() { image[at] } else { 0 }
 }
 
-// The word at an index that the image has, with no test.
+// The word at an index that the image has, with no test: who knows that it is inside is spared one (docs/DECISIONS.md).
 pub fn load_inside(image: &[u64], at: usize) -> u64
     requires { at < length image.now }
     ensures { result ≡ get_or image.now at 0 }
@@ -51,6 +66,7 @@ pub fn load_inside(image: &[u64], at: usize) -> u64
 }
 
 // Stores one word while stores are left. A store past the end changes nothing and is taken off all the same.
+#[tactic(auto, unfolding(crate::specs::Image::put))]
 pub fn store(image: &mut [u64], at: usize, value: u64, left: &mut u64)
     ensures image { image.new ≡ put left.old image.old at value }
     ensures left { left.new ≡ left.old - 1 }
@@ -66,6 +82,7 @@ pub fn store(image: &mut [u64], at: usize, value: u64, left: &mut u64)
 }
 
 // The same at an index that the image has, with no test of it.
+#[tactic(auto, unfolding(crate::specs::Image::put))]
 pub fn store_inside(image: &mut [u64], at: usize, value: u64, left: &mut u64)
     requires { at < length image.old }
     ensures image { image.new ≡ put left.old image.old at value }
@@ -79,29 +96,23 @@ pub fn store_inside(image: &mut [u64], at: usize, value: u64, left: &mut u64)
     *left = rest - 1;
 }
 
-// Whether length and words 0 to 7 are right, for an edition with this mark and this number of own words.
-pub fn header_ok(image: &[u64], mark: u64, own: usize) -> bool
-    requires { own ≤ 64 }
-    ensures { result ≡ header_ok mark own image.now }
+// Whether length and words 0 to 7 are right.
+pub fn header_ok(image: &[u64], e: Edition) -> bool
+    ensures { result ≡ header_ok e.mark e.own image.now }
 {
     let n = image.len();
     if n < 8 {
         return false;
     }
     let d = image[1];
-    if d < 1 || 8 < d {
-        return false;
-    }
-    if n != record_at(d as usize, own) {
-        return false;
-    }
-    if image[0] != mark {
-        return false;
-    }
-    image[2] | image[3] | image[4] | image[5] | image[6] | image[7] == 0
+    (1..=8).contains(&d)
+        && n == record_at(d as usize, e.own)
+        && image[0] == e.mark
+        && image[2] | image[3] | image[4] | image[5] | image[6] | image[7] == 0
 }
 
 // The start of worker d's record; of an image of d workers, its length.
+#[tactic(auto, unfolding(crate::specs::Image::record_at))]
 pub fn record_at(d: usize, own: usize) -> usize
     requires { (d ≤ 8) × (own ≤ 64) }
     ensures { result ≡ record_at own d }
@@ -110,6 +121,7 @@ pub fn record_at(d: usize, own: usize) -> usize
 }
 
 // The index of a cell.
+#[tactic(auto, unfolding(crate::specs::Image::index_of))]
 pub fn cell_index(x: u64) -> usize
     requires { x < 512 }
     ensures { (n : ℕ) → result ≡ index_of n (cell x) }
@@ -118,6 +130,7 @@ pub fn cell_index(x: u64) -> usize
 }
 
 // The index of a lock's owner word.
+#[tactic(auto, unfolding(crate::specs::Image::index_of))]
 pub fn lock_index(b: u64) -> usize
     requires { b < 64 }
     ensures { (n : ℕ) → result ≡ index_of n (lock b) }
@@ -129,18 +142,7 @@ pub fn lock_index(b: u64) -> usize
 fn offset_of(f: Field) -> usize
     ensures { result ≡ offset f }
 {
-    match f {
-        Field::Count => 0,
-        Field::Pc => 1,
-        Field::Addr0 => 2,
-        Field::Val0 => 3,
-        Field::Addr1 => 4,
-        Field::Val1 => 5,
-        Field::Intent => 6,
-        Field::Owned => 7,
-        Field::Number => 8,
-        Field::Finished => 9,
-    }
+    f as usize
 }
 
 // The index of a single word of worker d's record.
@@ -200,6 +202,7 @@ pub fn read_lock(image: &[u64], b: u64) -> u64
 }
 
 // The number of workers that the header names.
+#[tactic(auto, unfolding(crate::specs::Image::workers))]
 pub fn workers(image: &[u64]) -> u64
     ensures { result ≡ workers image.now }
 {

@@ -8,22 +8,19 @@ use mathlib.Core.List.{List, [], ◌∷◌, ◌++◌}
 use native.Mathlib.Omega.{arith}
 use lib.ListN.{length, replicate, length-append, length-replicate}
 use lib.Dec.{ltb}
+use Rattle.std.specs.Prelude.{Ok, Err, is_err}
 use Rattle.base.proofs.Bools.{and_both}
 use Rattle.image.specs.declared.Field.TheVariants.{Count, Number, Finished}
 use Rattle.image.specs.Place.{field, own, step, valid, Store}
 use Rattle.image.specs.Image.{Image, index_of, at, workers, header_ok, put, put_all}
 use Rattle.image.proofs.Lists.{all_valid, put_all-nil, put_all-cons, put_all-append}
-use Rattle.section.specs.declared.Verdict.{Verdict}
-use Rattle.section.specs.declared.Verdict.TheVariants.{Pass, Length, Malformed, Unbracketed, Unordered, Unguarded, Unlevel}
-use Rattle.section.specs.Check.{code_of, check, passes}
+use Rattle.section.specs.Check.{Verdict, code_of, check, passes}
 use Rattle.section.proofs.Passing.{passed_is}
 use Rattle.working.specs.declared.Refusal.TheVariants.{Worker, Busy, Number as NumberRefused, Image as ImageRefused}
-use Rattle.intake.specs.declared.Submitted.{Submitted}
-use Rattle.intake.specs.declared.Submitted.TheVariants.{Taken, Refused}
 use Rattle.working.specs.Cursor.{on, placed}
 use Rattle.working.specs.World.{World, world}
 use Rattle.rows.specs.Rows.{put_from}
-use Rattle.intake.specs.Submit.{assigns, submission, verdict_answer, free, submit_answer, submit_leaves, is_taken}
+use Rattle.intake.specs.Submit.{Submitted, assigns, submission, verdict_answer, free, submit_answer, submit_leaves, is_taken}
 use Rattle.intake.proofs.Assigns.{row_words, assigns-length, assigns-append, assigns-valid}
 
 -- ---- by the answer
@@ -33,20 +30,19 @@ pub record Accepted (mark n : ℕ) (w : World) (d k : ℕ) (ws : List ℕ) : Typ
   pub below : d < workers w.image
   pub unused : free n w d ≡ true
   pub newer : at n w.image (field Finished d) < k
-  pub checked : check n (length ws) (code_of ws) ≡ Pass
+  pub checked : check n (length ws) (code_of ws) ≡ Ok tt
 
 pub verdict-taken : (v : Verdict) → is_taken (verdict_answer v) ≡ passes v
-verdict-taken Pass = refl
-verdict-taken Length = refl
-verdict-taken (Malformed i) = refl
-verdict-taken (Unbracketed i) = refl
-verdict-taken (Unordered i) = refl
-verdict-taken (Unguarded i) = refl
-verdict-taken (Unlevel i) = refl
+verdict-taken (Ok tt) = refl
+verdict-taken (Err f) = refl
+
+pub taken-by : (a : Submitted) → is_err a ≡ false → is_taken a ≡ true
+taken-by (Ok tt) h = refl
+taken-by (Err r) h = absurd (true≢false h)
 
 private-parts : (a b c e : Bool) (v : Verdict)
-    → is_taken (cond a (cond b (cond c (cond e (verdict_answer v) (Refused NumberRefused)) (Refused Busy)) (Refused Worker)) (Refused ImageRefused)) ≡ true
-    → (a ≡ true) × (b ≡ true) × (c ≡ true) × (e ≡ true) × (v ≡ Pass)
+    → is_taken (cond a (cond b (cond c (cond e (verdict_answer v) (Err NumberRefused)) (Err Busy)) (Err Worker)) (Err ImageRefused)) ≡ true
+    → (a ≡ true) × (b ≡ true) × (c ≡ true) × (e ≡ true) × (v ≡ Ok tt)
 private-parts true true true true v h = (refl, refl, refl, refl, passed_is v (sym (verdict-taken v) ∙ h))
 private-parts true true true false v h = absurd (false≢true h)
 private-parts true true false e v h = absurd (false≢true h)
@@ -62,14 +58,14 @@ accepted mark n w d k ws h =
 
 module _ (n : ℕ) (w : World) (d k : ℕ) (args ws : List ℕ) where
   pub leaves-refused : (a : Submitted) → is_taken a ≡ false → submit_leaves n w d k args ws a ≡ w
-  leaves-refused Taken h = absurd (true≢false h)
-  leaves-refused (Refused r) h = refl
+  leaves-refused (Ok tt) h = absurd (true≢false h)
+  leaves-refused (Err r) h = refl
 
   pub leaves-taken : (a : Submitted) → is_taken a ≡ true
       → submit_leaves n w d k args ws a
       ≡ world (put_all n w.left w.image (submission n d k args ws)) (placed w.cursors d (on 0 0)) (w.left - length (submission n d k args ws))
-  leaves-taken Taken h = refl
-  leaves-taken (Refused r) h = absurd (false≢true h)
+  leaves-taken (Ok tt) h = refl
+  leaves-taken (Err r) h = absurd (false≢true h)
 
 -- ---- the stores
 

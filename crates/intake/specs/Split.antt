@@ -1,17 +1,14 @@
 -- A submit in two operations (document 02, 6/14): the check of a section alone, which asks for no image and stores nothing (`check` in
 -- section/specs/Check.antt), and the load, which tests causes 10, 1, 2, 3 and then does that very check. The load is `submit_answer` and
 -- `submit_leaves`, which were there before the two were told apart.
-use Rattle.std.specs.Prelude.{ℕ, ◌≡◌, true, false, cond, List, length, ltb}
+use Rattle.std.specs.Prelude.{ℕ, ◌≡◌, true, false, cond, List, length, ltb, Ok, Err}
 use Rattle.image.specs.declared.Field.TheVariants.{Finished}
 use Rattle.image.specs.Place.{field}
 use Rattle.image.specs.Image.{at, workers, header_ok}
-use Rattle.section.specs.declared.Verdict.{Verdict}
-use Rattle.section.specs.Check.{code_of, check, passes, cause_of, step_of}
+use Rattle.section.specs.Check.{Verdict, code_of, check, passes, cause_of, step_of}
 use Rattle.working.specs.declared.Refusal.TheVariants.{Worker, Busy, Number as NumberRefused, Image as ImageRefused}
-use Rattle.intake.specs.declared.Submitted.{Submitted}
-use Rattle.intake.specs.declared.Submitted.TheVariants.{Taken, Refused}
 use Rattle.working.specs.World.{World}
-use Rattle.intake.specs.Submit.{verdict_answer, is_taken, free, submit_answer, submit_leaves}
+use Rattle.intake.specs.Submit.{Submitted, verdict_answer, is_taken, free, submit_answer, submit_leaves}
 use Rattle.intake.specs.Codes.{submit_code, submit_detail}
 
 -- causes 10, 1, 2, 3 by themselves: taken, as far as they go. They ask for no section
@@ -19,9 +16,9 @@ unfoldable pub before_check : ℕ → ℕ → World → ℕ → ℕ → Submitte
 before_check mark n w d k =
     cond (header_ok mark n w.image)
     (cond (ltb d (workers w.image))
-    (cond (free n w d) (cond (ltb (at n w.image (field Finished d)) k) Taken (Refused NumberRefused)) (Refused Busy))
-    (Refused Worker))
-    (Refused ImageRefused)
+    (cond (free n w d) (cond (ltb (at n w.image (field Finished d)) k) (Ok tt) (Err NumberRefused)) (Err Busy))
+    (Err Worker))
+    (Err ImageRefused)
 
 -- what the check alone says of the words of a section; n: own words in a record
 abbrev pub verdict_of : ℕ → List ℕ → Verdict
@@ -29,8 +26,8 @@ verdict_of n ws = check n (length ws) (code_of ws)
 
 -- an answer, where it is taken the next
 abbrev pub where_taken : Submitted → Submitted → Submitted
-where_taken Taken a = a
-where_taken (Refused r) a = Refused r
+where_taken (Ok u) a = a
+where_taken (Err r) a = Err r
 
 -- mark: word 0 of an image
 module _ (mark n : ℕ) where

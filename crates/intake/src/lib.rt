@@ -1,24 +1,19 @@
 // Submitting a section to a worker: causes 10, 1, 2, 3, then the check that `section` has by itself, then the stores.
 #![tactic(auto)]
 
+use image::Edition;
 use working::{Cursors, Refusal};
 
-pub mod codes;
 mod submitting;
 
 ghost use Rattle.std.specs.Prelude.{◌≡◌, ◌≤◌};
 ghost use Rattle.working.specs.World.{world};
 ghost use Rattle.intake.specs.Submit.{submit_answer, submit_leaves};
 
-#[derive(Clone, Copy)]
-pub enum Submitted {
-    Taken,
-    Refused(Refusal),
-}
-
+// Whether a section is taken, and where the workers stand after the call.
 #[derive(Clone, Copy)]
 pub struct Entered {
-    pub answer: Submitted,
+    pub answer: Result<(), Refusal>,
     pub cursors: Cursors,
 }
 
@@ -32,32 +27,28 @@ pub fn submit(
     number: u64,
     args: &[u64; 8],
     words: &[u64],
-    mark: u64,
-    own: usize,
+    e: Edition,
     left: &mut u64,
 ) -> Entered
-    requires { (8 ≤ own) × (own ≤ 64) }
-    ensures answer { result.answer ≡ submit_answer mark own (world image.old c left.old) d number words.now }
+    requires { 8 ≤ e.own }
+    ensures answer { result.answer ≡ submit_answer e.mark e.own (world image.old c left.old) d number words.now }
     ensures after { world image.new result.cursors left.new
-        ≡ submit_leaves own (world image.old c left.old) d number args.now words.now
-        (submit_answer mark own (world image.old c left.old) d number words.now) }
+        ≡ submit_leaves e.own (world image.old c left.old) d number args.now words.now
+        (submit_answer e.mark e.own (world image.old c left.old) d number words.now) }
 {
     let mut step = c.step;
     let mut turn = c.turn;
     working::put(&mut step, &mut turn, d, 0, 0);
-    let a = submitting::judge(image, c, d, number, words, mark, own);
-    if !submitting::taken(a) {
-        return Entered {
-            answer: a,
-            cursors: c,
-        };
+    let answer = submitting::judge(image, c, d, number, words, e);
+    if answer.is_err() {
+        return Entered { answer, cursors: c };
     }
-    submitting::store_section(image, d, number, args, words, own, left);
+    submitting::store_section(image, d, number, args, words, e.own, left);
     Entered {
-        answer: a,
+        answer,
         cursors: Cursors {
-            step: step,
-            turn: turn,
+            step,
+            turn,
             held: c.held,
         },
     }

@@ -4,11 +4,10 @@ ghost use Rattle.image.specs.Place.{field, own, step};
 ghost use Rattle.image.specs.Image.{index_of, put, put_all};
 ghost use Rattle.image.specs.Inner.Inside.{Inside};
 ghost use Rattle.working.specs.World.{world};
-ghost use Rattle.intake.specs.Submit.{assigns, submission, verdict_answer, free, submit_answer, is_taken};
+ghost use Rattle.intake.specs.Submit.{assigns, submission, free, submit_answer};
 ghost use Rattle.intake.specs.Split.{before_check};
 
-use crate::Submitted;
-use image::Field;
+use image::{Edition, Field};
 use working::{Cursors, Refusal};
 
 // One word of worker d's record.
@@ -63,81 +62,48 @@ pub fn store_section(
 }
 
 // Whether worker d has no section.
+#[tactic(auto, unfolding(crate::specs::Submit::free))]
 fn free(image: &[u64], c: Cursors, d: usize, own: usize) -> bool
     requires { Inside own image.now d }
     ensures { (k : ℕ) → result ≡ free own (world image.now c k) d }
 {
-    if !working::idle(c, d) {
-        return false;
-    }
-    if image::read_field(image, Field::Count, d, own) != 0 {
-        return false;
-    }
-    image::read_field(image, Field::Pc, d, own) == 0
-}
-
-// The check's verdict as an answer.
-fn by_verdict(v: section::Verdict) -> Submitted
-    ensures { result ≡ verdict_answer v }
-{
-    if section::passes(v) {
-        return Submitted::Taken;
-    }
-    Submitted::Refused(Refusal::Section(v))
+    c.idle(d)
+        && image::read_field(image, Field::Count, d, own) == 0
+        && image::read_field(image, Field::Pc, d, own) == 0
 }
 
 // Causes 10, 1, 2, 3: whether worker d can be given a section of this number, whatever the section.
-fn before_check(
-    image: &[u64],
-    c: Cursors,
-    d: usize,
-    number: u64,
-    mark: u64,
-    own: usize,
-) -> Submitted
-    requires { own ≤ 64 }
-    ensures { (k : ℕ) → result ≡ before_check mark own (world image.now c k) d number }
+#[tactic(auto, unfolding(crate::specs::Split::before_check))]
+fn before_check(image: &[u64], c: Cursors, d: usize, number: u64, e: Edition) -> Result<(), Refusal>
+    ensures { (k : ℕ) → result ≡ before_check e.mark e.own (world image.now c k) d number }
 {
-    if !image::header_ok(image, mark, own) {
-        return Submitted::Refused(Refusal::Image);
+    if !image::header_ok(image, e) {
+        return Err(Refusal::Image);
     }
     if image::workers(image) <= d as u64 {
-        return Submitted::Refused(Refusal::Worker);
+        return Err(Refusal::Worker);
     }
-    if !free(image, c, d, own) {
-        return Submitted::Refused(Refusal::Busy);
+    if !free(image, c, d, e.own) {
+        return Err(Refusal::Busy);
     }
-    if number <= image::read_field(image, Field::Finished, d, own) {
-        return Submitted::Refused(Refusal::Number);
+    if number <= image::read_field(image, Field::Finished, d, e.own) {
+        return Err(Refusal::Number);
     }
-    Submitted::Taken
+    Ok(())
 }
 
 // Whether a section is taken, or why not: causes 10, 1, 2, 3, and then the very check that `section` has by itself.
+#[tactic(auto, using(crate::proofs::Split::submit_divides))]
 pub fn judge(
     image: &[u64],
     c: Cursors,
     d: usize,
     number: u64,
     words: &[u64],
-    mark: u64,
-    own: usize,
-) -> Submitted
-    requires { own ≤ 64 }
-    ensures { (k : ℕ) → result ≡ submit_answer mark own (world image.now c k) d number words.now }
+    e: Edition,
+) -> Result<(), Refusal>
+    ensures { (k : ℕ) → result ≡ submit_answer e.mark e.own (world image.now c k) d number words.now }
 {
-    let a = before_check(image, c, d, number, mark, own);
-    if !taken(a) {
-        return a;
-    }
-    by_verdict(section::check(words, own as u16))
-}
-
-pub fn taken(a: Submitted) -> bool
-    ensures { result ≡ is_taken a }
-{
-    match a {
-        Submitted::Taken => true,
-        Submitted::Refused(_) => false,
-    }
+    before_check(image, c, d, number, e)?;
+    Ok(section::check(words, e.own as u16)?)
 }

@@ -5,6 +5,7 @@ use Prim.Native.Nat.{ℕ, zero, suc, ◌+◌, ◌-◌, ◌<◌, ◌≤◌}
 use mathlib.Core.Path.{◌≡◌, refl, sym, ap, ◌∙◌}
 use mathlib.Core.Bool.{Bool, true, false}
 use mathlib.Core.List.{List, [], ◌∷◌, ◌++◌, append-nil}
+use Rattle.std.proofs.Common.{None}
 use native.Mathlib.Omega.{arith}
 use borrow.Author.Tests.{ltb-true, ltb-false}
 use lib.ListN.{replicate}
@@ -24,8 +25,7 @@ use Rattle.recovery.specs.Recover.{stores_of}
 use Rattle.recovery.specs.Repairs.{repair_by}
 use Rattle.repair.proofs.Slots.{single, slot-single}
 use Rattle.recovery.proofs.Answers.{stores-are}
-use Rattle.frames.specs.declared.Printed.{Printed}
-use Rattle.frames.specs.declared.Printed.TheVariants.{Nothing, Line}
+use Rattle.frames.specs.Print.{Printed, line}
 use Rattle.lines.specs.declared.Job.TheVariants.{Turns as TurnsLeft, Stores, Next}
 use Rattle.lines.specs.Answers.{slot_prints}
 use Rattle.lines.specs.declared.Made.{Made}
@@ -36,7 +36,7 @@ use Rattle.lines.specs.Whole.{Took, took, Output, output, onto, turn_then, turns
 pub next-rests : (f : ℕ) (m : Image) (c : Cursors) (x : Printed) (r : Repair) (t : Made) → pieces f (stage m (played c x Next r t)) ≡ output [] [] m c
 unfolding pieces
 next-rests zero m c x r t = refl
-next-rests (suc f) m c x r t = ap (onto Nothing []) (next-rests f m c Nothing r no_turn)
+next-rests (suc f) m c x r t = ap (onto None []) (next-rests f m c None r no_turn)
 
 -- ---- turns
 
@@ -53,7 +53,7 @@ abbrev private-same : ℕ → ℕ → Outcome → List Took
 private-same k d o = replicate k (took d (answer_of own_words o))
 
 private-then : (o : Outcome) (more : Image → Cursors → Output) (m : Image) (c : Cursors) (d : ℕ) → Still o
-    → turn_then more m c d o ≡ onto Nothing (private-same 1 d o) (more m c)
+    → turn_then more m c d o ≡ onto None (private-same 1 d o) (more m c)
 private-then (stored p v c₁) more m c d h = absurd h
 private-then (passed why c₁) more m c d h = absurd h
 private-then (waiting b) more m c d h = refl
@@ -67,15 +67,15 @@ unfolding turns_line
 turns-still zero m c d h = refl
 turns-still (suc k) m c d h =
     let o = outcome mark own_words (uncut m c) d in
-    private-then o (λ m' c'. turns_line k m' c' d) m c d h ∙ ap (onto Nothing (private-same 1 d o)) (turns-still k m c d h)
+    private-then o (λ m' c'. turns_line k m' c' d) m c d h ∙ ap (onto None (private-same 1 d o)) (turns-still k m c d h)
 
 -- the rest counted at once, by a piece behind which nothing is left
 private-rest : (f k : ℕ) (m : Image) (c : Cursors) (x : Printed) (r : Repair) (t : Made) (a : Took) (rest : Output) → rest ≡ output [] (replicate k a) m c
-    → onto Nothing (replicate (suc k) a) (pieces f (stage m (played c x Next r t))) ≡ onto Nothing (a ∷ []) rest
+    → onto None (replicate (suc k) a) (pieces f (stage m (played c x Next r t))) ≡ onto None (a ∷ []) rest
 private-rest f k m c x r t a rest e =
-    ap (onto Nothing (replicate (suc k) a)) (next-rests f m c x r t)
+    ap (onto None (replicate (suc k) a)) (next-rests f m c x r t)
     ∙ ap (λ (l : List Took). output [] l m c) (append-nil (replicate (suc k) a))
-    ∙ ap (onto Nothing (a ∷ [])) (sym e)
+    ∙ ap (onto None (a ∷ [])) (sym e)
 
 module _ (f k : ℕ) (m : Image) (c : Cursors) (d : ℕ) (r : Repair) where
   -- the piece of a turn with this outcome, and the pieces behind it
@@ -97,7 +97,7 @@ pub turns-whole : (k f : ℕ) (m : Image) (c : Cursors) (d : ℕ) (x : Printed) 
     → pieces f (stage m (played c x (TurnsLeft d k) r t)) ≡ turns_line k m c d
 unfolding pieces turn_stage turns_line
 turns-whole k zero m c d x r t h = absurd (omega arith)
-turns-whole zero (suc f) m c d x r t h = ap (onto Nothing []) (next-rests f m c Nothing r no_turn)
+turns-whole zero (suc f) m c d x r t h = ap (onto None []) (next-rests f m c None r no_turn)
 turns-whole (suc k) (suc f) m c d x r t h =
     private-turn f k m c d r (outcome mark own_words (uncut m c) d) (λ m' c' y u. turns-whole k f m' c' d y r u (omega arith)) (turns-still k m c d)
 
@@ -111,7 +111,7 @@ private-slot (s ∷ u ∷ ss) t h = absurd h
 
 private-lines : (ss us : List Store) → stores_line (ss ++ us) ≡ stores_line ss ++ stores_line us
 private-lines [] us = refl
-private-lines (s ∷ ss) us = ap (λ (l : List Printed). Line (index_of own_words s.place) s.value ∷ l) (private-lines ss us)
+private-lines (s ∷ ss) us = ap (λ (l : List Printed). line (index_of own_words s.place) s.value ∷ l) (private-lines ss us)
 
 module _ (r : Repair) (i : ℕ) where
   private-step : i < 592 → rows (slot_at r) i (592 - i) ≡ slot_at r i ++ rows (slot_at r) (i + 1) (592 - (i + 1))
@@ -139,7 +139,7 @@ stores-whole (suc f) i m c x r t h = by (ltb i 592) refl (λ b y u. stores-whole
         (ap (onto (slot_prints (slot_of own_words (slot_at r i))) []) (more b _ _)
         ∙ private-slot (slot_at r i) _ (slot-single r i)
         ∙ ap (λ (l : List Printed). output l [] m c) (sym (private-lines (slot_at r i) _) ∙ ap stores_line (sym (private-step r i b))))
-    by false e more = rw (e, private-end r i (ltb-false i 592 e)) (ap (onto Nothing []) (next-rests f m c Nothing r no_turn))
+    by false e more = rw (e, private-end r i (ltb-false i 592 e)) (ap (onto None []) (next-rests f m c None r no_turn))
 
 -- 03, where it is accepted
 pub recovery-whole : (f : ℕ) (m m' : Image) (c : Cursors) (x : Printed) (t : Made) → 592 < f

@@ -27,9 +27,8 @@ use Rattle.repair.specs.declared.Repair.{Repair}
 use Rattle.run.specs.Run.{any_open}
 use Rattle.run.specs.Round.{next_open}
 use Rattle.run.proofs.Next.{Comes, next-from, next-open, next-refused, next-over, next-turn}
-use Rattle.frames.specs.declared.Printed.{Printed}
-use Rattle.frames.specs.declared.Printed.TheVariants.{Nothing}
-use Rattle.frames.specs.Print.{refusal}
+use Rattle.std.proofs.Common.{None}
+use Rattle.frames.specs.Print.{Printed, refusal}
 use Rattle.lines.specs.declared.Job.TheVariants.{Rounds as RoundsLeft}
 use Rattle.lines.specs.declared.Made.{Made}
 use Rattle.lines.specs.Play.{Stage, stage, played, no_turn, uncut, lapped_by, round_stage}
@@ -184,7 +183,7 @@ module _ (D f r : ℕ) (m : Image) (c : Cursors) (q : Repair) (h : private-Heade
   private-turn d e (passed why x) k goes =
       let o = passed why x in
       ap (onto (lapped_by m c d e (suc r) q o).played.printed (took e (answer_of own_words o) ∷ [])) (goes _ _ _ _ h)
-  private-turn d e (waiting b) k goes = ap (onto Nothing (took e (answer_of own_words (waiting b)) ∷ [])) (goes _ _ _ _ h)
+  private-turn d e (waiting b) k goes = ap (onto None (took e (answer_of own_words (waiting b)) ∷ [])) (goes _ _ _ _ h)
   private-turn d e resting k goes = absurd k
   private-turn d e (refused x) k goes = ap (onto (lapped_by m c d e (suc r) q (refused x)).played.printed []) (next-rests f m c _ q _)
 
@@ -195,11 +194,11 @@ module _ (D f r : ℕ) (m : Image) (c : Cursors) (q : Repair) (h : private-Heade
   unfolding rounds_over
   private-over zero e l g goes =
       let n = rw (left-all D) at g in
-      rw (private-nobody c D 0 (omega arith)) (ap (onto Nothing []) (next-rests f m c _ q _))
+      rw (private-nobody c D 0 (omega arith)) (ap (onto None []) (next-rests f m c _ q _))
   private-over (suc d) e l g goes =
       let z : suc r - 1 ≡ r = omega arith in
       rw (z, ne_eqb (suc d) 0 (λ y. omega arith))
-      (ap (onto Nothing []) (goes (omega arith) _ _) ∙ sym (private-none (rounds_over r D) m c (D - suc d) (suc d) (omega arith)))
+      (ap (onto None []) (goes (omega arith) _ _) ∙ sym (private-none (rounds_over r D) m c (D - suc d) (suc d) (omega arith)))
 
 module _ (D d : ℕ) (m : Image) (c : Cursors) (h : private-Headed D m) where
   private-comes : private-next D d c < D
@@ -236,7 +235,7 @@ private-laps : (D : ℕ) → D ≤ 8 → (f d r : ℕ) (m : Image) (c : Cursors)
     → 10 * r + 10 ≤ f + d → pieces f (stage m (played c x (RoundsLeft d r) q t)) ≡ private-left D d r m c
 unfolding pieces round_stage
 private-laps D few zero d r m c x q t h l w = absurd (omega arith)
-private-laps D few (suc f) d zero m c x q t h l w = ap (onto Nothing []) (next-rests f m c Nothing q no_turn) ∙ sym (private-left-zero D d m c)
+private-laps D few (suc f) d zero m c x q t h l w = ap (onto None []) (next-rests f m c None q no_turn) ∙ sym (private-left-zero D d m c)
 private-laps D few (suc f) d (suc r) m c x q t h l w =
     private-lap D f d r m c x q t h l (λ e a b m' c' y u g. private-laps D few f (e + 1) (suc r) m' c' y q u g (omega arith) (omega arith))
     (λ a y u. private-laps D few f 0 r m c y q u h (omega arith) (omega arith))
@@ -255,7 +254,7 @@ pub rounds-whole : (r f : ℕ) (m : Image) (c : Cursors) (x : Printed) (q : Repa
     → pieces f (stage m (played c x (RoundsLeft 0 r) q t)) ≡ rounds_line r m c
 unfolding pieces round_stage rounds_line
 rounds-whole r zero m c x q t h = absurd (omega arith)
-rounds-whole zero (suc f) m c x q t h = ap (onto Nothing []) (next-rests f m c Nothing q no_turn)
+rounds-whole zero (suc f) m c x q t h = ap (onto None []) (next-rests f m c None q no_turn)
 rounds-whole (suc r) (suc f) m c x q t h = by (header_ok mark own_words m) refl
   where
     by : (b : Bool) → header_ok mark own_words m ≡ b → pieces (suc f) (stage m (played c x (RoundsLeft 0 (suc r)) q t)) ≡ rounds_line (suc r) m c

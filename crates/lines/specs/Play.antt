@@ -1,9 +1,8 @@
 -- One line played on an image and cursors: what is printed, what is left to do, and what the image then is. A line is begun
 -- (`begin`), and gone on with (`go_on`) while turns are to be made or stores to be printed. With it the turns that were made, for the sums of a day.
-use Rattle.std.specs.Prelude.{ℕ, zero, suc, ◌+◌, ◌-◌, List, Bool, true, false, cond, ltb, eqb}
+use Rattle.std.specs.Prelude.{ℕ, zero, suc, ◌+◌, ◌-◌, List, Bool, true, false, None, Ok, Err, cond, ltb, eqb}
 use Rattle.image.specs.Image.{Image}
 use Rattle.working.specs.declared.Cursors.{Cursors}
-use Rattle.intake.specs.declared.Submitted.{Submitted}
 use Rattle.turn.specs.declared.Answer.{Answer}
 use Rattle.turn.specs.declared.Answer.TheVariants.{Stored, Passed, Waiting, Idle, Refused as TurnRefused}
 use Rattle.edition.specs.Edition.{mark, own_words}
@@ -11,24 +10,21 @@ use Rattle.plan.specs.Turn.{Outcome}
 use Rattle.working.specs.World.{World, world}
 use Rattle.turn.specs.Call.{outcome, answer_of, leaves}
 use Rattle.run.specs.Round.{next_worker, next_outcome}
-use Rattle.intake.specs.Submit.{submit_answer, submit_leaves}
+use Rattle.intake.specs.Submit.{Submitted, submit_answer, submit_leaves}
 use Rattle.repair.specs.declared.Repair.{Repair}
-use Rattle.soundness.specs.declared.Answer.{Answer as Recovery}
-use Rattle.soundness.specs.declared.Answer.TheVariants.{Done, Refused as RecoveryRefused}
+use Rattle.soundness.specs.Answer.{Answer as Recovery}
 use Rattle.repair.specs.Repair.{no_repair, slot_at, slot_of}
 use Rattle.recovery.specs.Recovery.{Recovered, recovery}
 use Rattle.recovery.specs.Recover.{answer_of as recovery_answer, cursors_of, recovery_leaves}
 use Rattle.recovery.specs.Repairs.{repair_by}
 use Rattle.frames.specs.declared.Frame.{Frame}
 use Rattle.frames.specs.declared.Frame.TheVariants.{Submit, Turns, Recover, Rounds, Malformed}
-use Rattle.frames.specs.declared.Printed.{Printed}
-use Rattle.frames.specs.declared.Printed.TheVariants.{Nothing}
 use Rattle.lines.specs.declared.Job.{Job}
 use Rattle.lines.specs.declared.Job.TheVariants.{Turns as TurnsLeft, Rounds as RoundsLeft, Stores, Next, Stop}
 use Rattle.lines.specs.declared.Made.{Made}
 use Rattle.lines.specs.declared.Played.{Played}
 use Rattle.frames.specs.Line.{frame_of, arguments_of, steps_part, words_of}
-use Rattle.frames.specs.Print.{malformed, refusal}
+use Rattle.frames.specs.Print.{Printed, malformed, refusal}
 use Rattle.lines.specs.Answers.{submit_prints, turn_prints, recover_prints, slot_prints}
 
 -- an image with where the playing of a line on it stands
@@ -91,14 +87,14 @@ turned_by m c d k r o = turned (leaves own_words (uncut m c) d o) (answer_of own
 
 -- the first of so many turns of worker d
 unfoldable pub turn_stage : Image → Played → ℕ → ℕ → Stage
-turn_stage m p d zero = stage m (played p.cursors Nothing Next p.repair no_turn)
+turn_stage m p d zero = stage m (played p.cursors None Next p.repair no_turn)
 turn_stage m p d (suc k) = turned_by m p.cursors d k p.repair (outcome mark own_words (uncut m p.cursors) d)
 
 -- ---- 03
 
 abbrev pub print_job : Recovery → Job
-print_job Done = Stores 0
-print_job (RecoveryRefused r) = Next
+print_job (Ok x) = Stores 0
+print_job (Err r) = Next
 
 abbrev pub recovered : Image → Recovered → Stage
 recovered m g =
@@ -109,7 +105,7 @@ recovered m g =
 unfoldable pub slot_stage : Image → Played → ℕ → Stage
 slot_stage m p i =
     cond (ltb i 592) (stage m (played p.cursors (slot_prints (slot_of own_words (slot_at p.repair i))) (Stores (i + 1)) p.repair no_turn))
-    (stage m (played p.cursors Nothing Next p.repair no_turn))
+    (stage m (played p.cursors None Next p.repair no_turn))
 
 -- ---- 04
 
@@ -142,7 +138,7 @@ lapped_by m c from d r q o = lapped (leaves own_words (uncut m c) d o) (answer_o
 
 -- the next turn of so many rounds, from a worker on
 unfoldable pub round_stage : Image → Played → ℕ → ℕ → Stage
-round_stage m p from zero = stage m (played p.cursors Nothing Next p.repair no_turn)
+round_stage m p from zero = stage m (played p.cursors None Next p.repair no_turn)
 round_stage m p from (suc r) =
     let w = uncut m p.cursors in
     lapped_by m p.cursors from (next_worker mark own_words w from) (suc r) p.repair (next_outcome mark own_words w from)
@@ -151,9 +147,9 @@ round_stage m p from (suc r) =
 
 abbrev pub begin_frame : Image → Cursors → List ℕ → Frame → Stage
 begin_frame m c l (Submit d k) = submit_stage m c l d k
-begin_frame m c l (Turns d k) = stage m (played c Nothing (TurnsLeft d k) no_repair no_turn)
+begin_frame m c l (Turns d k) = stage m (played c None (TurnsLeft d k) no_repair no_turn)
 begin_frame m c l Recover = recovered m (recovery mark own_words m)
-begin_frame m c l (Rounds r) = stage m (played c Nothing (RoundsLeft 0 r) no_repair no_turn)
+begin_frame m c l (Rounds r) = stage m (played c None (RoundsLeft 0 r) no_repair no_turn)
 begin_frame m c l Malformed = stage m (played c (refusal malformed) Stop no_repair no_turn)
 
 abbrev pub begin : Image → Cursors → List ℕ → Stage
@@ -163,8 +159,16 @@ abbrev pub go_on_job : Image → Played → Job → Stage
 go_on_job m p (TurnsLeft d k) = turn_stage m p d k
 go_on_job m p (RoundsLeft d r) = round_stage m p d r
 go_on_job m p (Stores i) = slot_stage m p i
-go_on_job m p Next = stage m (played p.cursors Nothing Next p.repair no_turn)
-go_on_job m p Stop = stage m (played p.cursors Nothing Stop p.repair no_turn)
+go_on_job m p Next = stage m (played p.cursors None Next p.repair no_turn)
+go_on_job m p Stop = stage m (played p.cursors None Stop p.repair no_turn)
 
 abbrev pub go_on : Stage → Stage
 go_on s = go_on_job s.image s.played s.played.job
+
+-- whether a line is to be gone on with
+abbrev pub is_going : Job → Bool
+is_going (TurnsLeft d k) = true
+is_going (RoundsLeft d r) = true
+is_going (Stores i) = true
+is_going Next = false
+is_going Stop = false

@@ -1,6 +1,6 @@
 -- What a whole line prints, the turns it makes and what it leaves: as documents 01 and 02 say it for turns, rounds and recoveries (`turns_line`, `rounds_line`,
 -- `stores_line`), and as the pieces of `Play` put together (`pieces`). proofs/Whole.antt and proofs/WholeRounds.antt show that they are the same.
-use Rattle.std.specs.Prelude.{ℕ, zero, suc, ◌+◌, List, [], ◌∷◌, ◌++◌, cond, replicate}
+use Rattle.std.specs.Prelude.{ℕ, zero, suc, ◌+◌, List, [], ◌∷◌, ◌++◌, Some, None, cond, replicate}
 use Rattle.image.specs.Place.{Store}
 use Rattle.image.specs.Image.{Image, index_of, workers, header_ok}
 use Rattle.working.specs.declared.Cursors.{Cursors}
@@ -13,9 +13,7 @@ use Rattle.turn.specs.Call.{is_refused}
 use Rattle.plan.specs.Turn.{Outcome}
 use Rattle.turn.specs.Call.{outcome, outcome_at, answer_of, leaves}
 use Rattle.run.specs.Run.{any_open}
-use Rattle.frames.specs.declared.Printed.{Printed}
-use Rattle.frames.specs.declared.Printed.TheVariants.{Nothing, Line}
-use Rattle.frames.specs.Print.{refusal}
+use Rattle.frames.specs.Print.{Printed, line, refusal}
 use Rattle.lines.specs.declared.Made.{Made}
 use Rattle.lines.specs.Answers.{turn_prints}
 use Rattle.lines.specs.Play.{Stage, uncut, go_on}
@@ -39,8 +37,8 @@ abbrev pub output : List Printed → List Took → Image → Cursors → Output
 output ps ts m c = record { lines = ps; turns = ts; image = m; cursors = c }
 
 abbrev pub shown : Printed → List Printed
-shown Nothing = []
-shown (Line i v) = Line i v ∷ []
+shown None = []
+shown (Some l) = Some l ∷ []
 
 -- something printed and some turns before the rest
 abbrev pub onto : Printed → List Took → Output → Output
@@ -79,7 +77,7 @@ rounds_line (suc r) m c = cond (header_ok mark own_words m) (rounds_over (suc r)
 
 abbrev pub stores_line : List Store → List Printed
 stores_line [] = []
-stores_line (s ∷ ss) = Line (index_of own_words s.place) s.value ∷ stores_line ss
+stores_line (s ∷ ss) = line (index_of own_words s.place) s.value ∷ stores_line ss
 
 -- ---- the pieces of a line put together
 

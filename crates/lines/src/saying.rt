@@ -1,66 +1,55 @@
 // What is printed of an answer.
 ghost use Rattle.std.specs.Prelude.{◌≡◌};
-ghost use Rattle.lines.specs.Answers.{submit_prints, pass_prints, turn_prints, recover_prints, slot_prints};
+ghost use Rattle.lines.specs.Answers.{answer_prints, pass_prints, turn_prints, slot_prints};
 
-use frames::Printed;
-use intake::Submitted;
-use repair::Slot;
+use frames::Line;
+use image::Word;
 use turn::Answer;
+use working::Cause;
 use worklog::Passing;
 
-pub fn submitted(a: Submitted) -> Printed
-    ensures { result ≡ submit_prints a }
+// Of a submit or a recovery that is made nothing is printed, else why it is refused.
+pub fn answered<E: Cause + Copy>(a: Result<(), E>) -> Option<Line>
+    ensures { result ≡ answer_prints E.cause_of a }
 {
     match a {
-        Submitted::Taken => Printed::Nothing,
-        Submitted::Refused(r) => frames::refusal(working::cause(r)),
+        Ok(_) => None,
+        Err(r) => frames::refusal(r.cause()),
     }
 }
 
 // What a release found is printed; of a jump nothing is.
-fn passed(why: Passing) -> Printed
+fn passed(why: Passing) -> Option<Line>
     ensures { result ≡ pass_prints why }
 {
     match why {
-        Passing::Jump => Printed::Nothing,
+        Passing::Jump => None,
         Passing::AlreadyFree => frames::report(0),
         Passing::Others => frames::report(1),
     }
 }
 
 // A turn's store is printed with the word that now stands there.
-pub fn turned(image: &[u64], a: Answer) -> Printed
+pub fn turned(image: &[u64], a: Answer) -> Option<Line>
     ensures { result ≡ turn_prints image.now a }
 {
     match a {
-        Answer::Stored(at) => Printed::Line {
-            at: at,
+        Answer::Stored(at) => Some(Line {
+            at,
             value: image::load(image, at),
-        },
+        }),
         Answer::Passed(why) => passed(why),
-        Answer::Waiting(_) => Printed::Nothing,
-        Answer::Idle => Printed::Nothing,
-        Answer::Refused(r) => frames::refusal(working::cause(r)),
+        Answer::Waiting(_) | Answer::Idle => None,
+        Answer::Refused(r) => frames::refusal(r.cause()),
     }
 }
 
-pub fn recovered(a: soundness::Answer) -> Printed
-    ensures { result ≡ recover_prints a }
-{
-    match a {
-        soundness::Answer::Done => Printed::Nothing,
-        soundness::Answer::Refused(r) => frames::refusal(soundness::cause(r)),
-    }
-}
-
-pub fn slot(s: Slot) -> Printed
+// The store of a slot, if it has one.
+pub fn slot(s: Option<Word>) -> Option<Line>
     ensures { result ≡ slot_prints s }
 {
-    match s {
-        Slot::Store { at, value } => Printed::Line {
-            at: at,
-            value: value,
-        },
-        Slot::Empty => Printed::Nothing,
-    }
+    s.map(|w| Line {
+        at: w.at,
+        value: w.value,
+    })
 }

@@ -6,6 +6,7 @@ ghost use Rattle.std.specs.Int.Count.{ones};
 ghost use Rattle.mask.specs.Mask.{has, with, without, above};
 
 // Whether lock b is in the set.
+#[tactic(auto, unfolding(crate::specs::Mask::has))]
 pub fn has(m: u64, b: u64) -> bool
     requires { b < 64 }
     ensures { result ≡ has m b }
@@ -26,19 +27,19 @@ pub fn without(m: u64, b: u64) -> u64
     requires { b < 64 }
     ensures { result ≡ without m b }
 {
-    m - (m & (1 << b))
+    m & !(1 << b)
 }
 
 // How many locks are in the set.
 pub fn count(m: u64) -> u32
     ensures { result ≡ ones m }
 {
-    u64::count_ones(m)
+    m.count_ones()
 }
 
 // Whether lock a is above all that are in the set: above the highest, which the leading zeros give.
 pub fn above(m: u64, a: u64) -> bool
     ensures { result ≡ above m a }
 {
-    64 - u64::leading_zeros(m) as u64 <= a
+    64 - m.leading_zeros() as u64 <= a
 }

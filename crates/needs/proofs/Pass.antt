@@ -1,6 +1,7 @@
 -- What the pass from the end stands on: a section that passes the check may be passed over; a step's turns and what counts of the two steps that it
 -- leads to, looked up, are what it needs (`summed`); and an array that is filled from the end.
-use Prim.Native.Nat.{ℕ, zero, suc, ◌+◌, ◌<◌, ◌≤◌}
+use Rattle.std.proofs.Common.{Ok, Err}
+use Prim.Native.Nat.{ℕ, zero, suc, ◌+◌, ◌<◌, ◌≤◌, min, max}
 use mathlib.Core.Path.{◌≡◌, refl, sym, ap, ◌∙◌}
 use mathlib.Core.Bool.{Bool, true, false, cond, false≢true}
 use mathlib.Core.List.{List}
@@ -16,48 +17,40 @@ use Rattle.code.specs.declared.Op.TheVariants.{Acquire, Release, Assign, Jump, F
 use Rattle.code.specs.Table.{turns_of}
 use Rattle.code.specs.Op.{op_of}
 use Rattle.code.specs.Form.{in_range, in_place, well_formed}
-use Rattle.section.specs.declared.Verdict.{Verdict}
-use Rattle.section.specs.declared.Verdict.TheVariants.{Pass, Length, Malformed, Unbracketed, Unordered, Unguarded, Unlevel}
-use Rattle.section.specs.Check.{Code, code_of, check, passes}
+use Rattle.section.specs.declared.Fault.{Fault}
+use Rattle.section.specs.declared.Fault.TheVariants.{Malformed}
+use Rattle.section.specs.Check.{Code, code_of, check}
 use Rattle.section.proofs.Facts.{check-parts}
-use Rattle.needs.specs.declared.Needed.TheVariants.{Turns, Refused}
-use Rattle.needs.specs.From.{lesser, larger, needs_by, fewest, most, needs_for, needs_of}
+use Rattle.needs.specs.declared.Span.{Span}
+use Rattle.needs.specs.From.{lesser, larger, needs_by, fewest, most, span, needs_of}
 use Rattle.needs.specs.Inner.Pass.{other_step, Passable}
-use Rattle.needs.proofs.Unrolled.{behind, unrolled}
+use Rattle.needs.proofs.Unrolled.{behind, unrolled, needs-end, lesser-min, larger-max}
 
 -- ---- a section that passes the check
 
-pub passed-placed : (own n : ℕ) (code : Code) → check own n code ≡ Pass → (i : ℕ) → i < n → in_place n i (op_of (code i)) ≡ true
+pub passed-placed : (own n : ℕ) (code : Code) → check own n code ≡ Ok tt → (i : ℕ) → i < n → in_place n i (op_of (code i)) ≡ true
 unfolding well_formed
 passed-placed own n code p i l = and_right (in_range own (code i)) (in_place n i (op_of (code i))) ((check-parts own n code p).2 i l)
 
-pub passed-passable : (own : ℕ) (words : List ℕ) (from : ℕ) → check own (length words) (code_of words) ≡ Pass → from ≤ length words → Passable words from
+pub passed-passable : (own : ℕ) (words : List ℕ) (from : ℕ) → check own (length words) (code_of words) ≡ Ok tt → from ≤ length words → Passable words from
 passed-passable own words from p l =
     record { few = (check-parts own (length words) (code_of words) p).1; placed = passed-placed own (length words) (code_of words) p; inside = l }
 
 -- ---- by the check's answer
 
-private-refused : (n : ℕ) (code : Code) (i : ℕ) (v : Verdict) → passes v ≡ false → Refused v ≡ needs_for n code i v
-private-refused n code i Pass h = absurd (false≢true (sym h))
-private-refused n code i Length h = refl
-private-refused n code i (Malformed j) h = refl
-private-refused n code i (Unbracketed j) h = refl
-private-refused n code i (Unordered j) h = refl
-private-refused n code i (Unguarded j) h = refl
-private-refused n code i (Unlevel j) h = refl
-
 module _ (own n : ℕ) (code : Code) (i : ℕ) where
-  pub needs-refused : (v : Verdict) → v ≡ check own n code → passes v ≡ false → Refused v ≡ needs_of own n code i
+  pub needs-refused : {f : Fault} → check own n code ≡ Err f → Err f ≡ needs_of own n code i
   unfolding needs_of
-  needs-refused v e h = private-refused n code i v h ∙ ap (needs_for n code i) e
+  needs-refused e = rw e
 
-  pub needs-past : check own n code ≡ Pass → n ≤ i → Refused (Malformed i) ≡ needs_of own n code i
-  unfolding needs_of
-  needs-past p h = rw (p, le-ltb i n h)
+  module _ (p : check own n code ≡ Ok tt) where
+    pub needs-past : n ≤ i → Err (Malformed i) ≡ needs_of own n code i
+    unfolding needs_of
+    needs-past h = rw (p, le-ltb i n h)
 
-  pub needs-given : (f m : ℕ) → check own n code ≡ Pass → i < n → f ≡ fewest n code i → m ≡ most n code i → Turns f m ≡ needs_of own n code i
-  unfolding needs_of
-  needs-given f m p h least largest = rw (p, lt-ltb i n h, least, largest)
+    pub needs-given : {s : Span} → i < n → s ≡ span n code i → Ok s ≡ needs_of own n code i
+    unfolding needs_of
+    needs-given h e = rw (p, lt-ltb i n h, e)
 
 -- ---- one step
 
@@ -105,12 +98,12 @@ module _ (pick : ℕ → ℕ → ℕ) (same : (x : ℕ) → pick x x ≡ x) wher
   -- the step's turns and what counts of the two that are looked up
   pub summed :
       (n : ℕ) (code : Code) (i next w other : ℕ) (x : Op) → Reached n code i next w other x
-      → (l : List ℕ) → ((j : ℕ) → next ≤ j → get_or l j 0 ≡ needs_by pick n code j)
-      → (t v : ℕ) → t ≡ turns_of w → v ≡ pick (get_or l next 0) (get_or l other 0) → t + v ≡ needs_by pick n code i
-  summed n code i next w other x r l known t v turns counts =
+      → (g : ℕ → ℕ) → ((j : ℕ) → next ≤ j → g j ≡ needs_by pick n code j) → (t v : ℕ) → t ≡ turns_of w → v ≡ pick (g next) (g other)
+      → t + v ≡ needs_by pick n code i
+  summed n code i next w other x r g known t v turns counts =
       let inside = reached-other n code i next w other x r in
-      let a : get_or l next 0 ≡ needs_by pick n code (suc i) = known next (omega arith) ∙ ap (needs_by pick n code) r.after in
-      let b : get_or l other 0 ≡ needs_by pick n code (other_step (suc i) (op_of (code i))) =
+      let a : g next ≡ needs_by pick n code (suc i) = known next (omega arith) ∙ ap (needs_by pick n code) r.after in
+      let b : g other ≡ needs_by pick n code (other_step (suc i) (op_of (code i))) =
       known other inside.0 ∙ ap (needs_by pick n code) (private-other n code i next w other x r)
       in
       rw (unrolled pick n code i r.below r.placed, counts, a, b, turns, r.word, private-looked (needs_by pick n code) i (op_of (code i)))
@@ -125,18 +118,39 @@ lesser-same x = private-same (ltb x x) x
 pub larger-same : (x : ℕ) → larger x x ≡ x
 larger-same x = private-same (ltb x x) x
 
+-- of spans that are looked up
+abbrev pub none : Span
+none = record { fewest = 0; most = 0 }
+
+module _
+    (n : ℕ) (code : Code) (i next w other : ℕ) (x : Op) (r : Reached n code i next w other x)
+    (l : List Span) (known : (j : ℕ) → next ≤ j → get_or l j none ≡ span n code j) (t : ℕ) (turns : t ≡ turns_of w) where
+  pub summed-fewest : (v : ℕ) → v ≡ min (get_or l next none).fewest (get_or l other none).fewest → t + v ≡ fewest n code i
+  summed-fewest v e =
+      summed lesser lesser-same n code i next w other x r (λ j. (get_or l j none).fewest) (λ j h. ap (λ (s : Span). s.fewest) (known j h)) t v turns
+      (e ∙ lesser-min (get_or l next none).fewest (get_or l other none).fewest)
+
+  pub summed-most : (v : ℕ) → v ≡ max (get_or l next none).most (get_or l other none).most → t + v ≡ most n code i
+  summed-most v e =
+      summed larger larger-same n code i next w other x r (λ j. (get_or l j none).most) (λ j h. ap (λ (s : Span). s.most) (known j h)) t v turns
+      (e ∙ larger-max (get_or l next none).most (get_or l other none).most)
+
 -- ---- an array that is filled from the end
 
-pub same_at : (n j a : ℕ) → get_or (replicate n a) j a ≡ a
+pub same_at : {A : Type 0} (n j : ℕ) (a : A) → get_or (replicate n a) j a ≡ a
 same_at zero j a = refl
 same_at (suc n) zero a = refl
 same_at (suc n) (suc j) a = same_at n j a
 
+-- behind the last step there is nothing
+pub span-end : (n : ℕ) (code : Code) (i : ℕ) → n ≤ i → span n code i ≡ none
+span-end n code i h = rw (needs-end lesser n code i h, needs-end larger n code i h)
+
 pub filled-back :
-    (l : List ℕ) (i next v : ℕ) (f : ℕ → ℕ) → i < length l → next ≡ suc i → ((j : ℕ) → next ≤ j → get_or l j 0 ≡ f j) → v ≡ f i
-    → (j : ℕ) → i ≤ j → get_or (set l i v) j 0 ≡ f j
-filled-back l i next v f h after above e j g = by (ℕ_discrete j i)
+    {A : Type 0} (l : List A) (i next : ℕ) (v d : A) (f : ℕ → A) → i < length l → next ≡ suc i → ((j : ℕ) → next ≤ j → get_or l j d ≡ f j)
+    → v ≡ f i → (j : ℕ) → i ≤ j → get_or (set l i v) j d ≡ f j
+filled-back l i next v d f h after above e j g = by (ℕ_discrete j i)
   where
-    by : Dec (j ≡ i) → get_or (set l i v) j 0 ≡ f j
-    by (yes p) = rw p (get_or-set_same l i v 0 h ∙ e)
-    by (no p) = get_or-set_other l i j v 0 p ∙ above j (omega arith)
+    by : Dec (j ≡ i) → get_or (set l i v) j d ≡ f j
+    by (yes p) = rw p (get_or-set_same l i v d h ∙ e)
+    by (no p) = get_or-set_other l i j v d p ∙ above j (omega arith)

@@ -1,5 +1,6 @@
 -- What a worker's section still needs, by the pc: nothing where it is 0; else the named instruction's turns from its target store on and what the
 -- steps behind it need. Of a sound record the step that the pc names is no last one, since its instruction is logged (`sound-begun`).
+use Rattle.std.proofs.Common.{Ok, Err}
 use Prim.Native.Nat.{ℕ, suc, ◌+◌, ◌-◌, ◌%◌, ◌^◌, ◌<◌, ◌≤◌}
 use mathlib.Core.Path.{◌≡◌, sym, ap, ◌∙◌}
 use mathlib.Core.Bool.{Bool, true, false, cond, ◌&&◌, false≢true}
@@ -16,7 +17,6 @@ use Rattle.code.specs.declared.Op.{Op}
 use Rattle.code.specs.declared.Op.TheVariants.{Acquire, Release, Assign, Jump, Finish, Unknown}
 use Rattle.code.specs.Op.{op_of}
 use Rattle.code.specs.Form.{in_place}
-use Rattle.section.specs.declared.Verdict.TheVariants.{Pass}
 use Rattle.section.specs.Check.{Code, code_of, check, passes}
 use Rattle.section.proofs.Passing.{passed_is}
 use Rattle.worklog.specs.Log.{code_in}
@@ -25,9 +25,10 @@ use Rattle.soundness.specs.Sound.{section_ok, pc_ok, sound}
 use Rattle.soundness.specs.Inner.Reading.{loaded}
 use Rattle.soundness.proofs.Loaded.{first-length, first-at, first-checks}
 use Rattle.soundness.proofs.Legible.{section-passes, sound-legible}
-use Rattle.needs.specs.declared.Left.TheVariants.{Turns, Image as ImageRefused, Worker, Record}
-use Rattle.needs.specs.From.{lesser, larger, needs_by}
-use Rattle.needs.specs.Left.{resumed_turns, left_by, left_of}
+use Rattle.needs.specs.declared.Refusal.TheVariants.{Image as ImageRefused, Worker, Record}
+use Rattle.needs.specs.declared.Span.{Span}
+use Rattle.needs.specs.From.{lesser, larger, span}
+use Rattle.needs.specs.Left.{resumed_turns, left_by, span_left, left_of}
 use Rattle.needs.specs.Inner.Pass.{Passable}
 use Rattle.needs.proofs.Unrolled.{needs-cong}
 use Rattle.needs.proofs.Pass.{passed-placed, passed-passable}
@@ -41,8 +42,10 @@ module _ (code : Code) (ws : List ℕ) (k : ℕ) (w : List ℕ) (e : w ≡ loade
       passed-passable own (take k w) from (first-checks code ws k w e h own ∙ passed_is (check own k code) p) (rw (first-length code ws k w e h) l)
 
   -- and needs what they need
-  pub first-needs : (pick : ℕ → ℕ → ℕ) (from : ℕ) → needs_by pick (length (take k w)) (code_of (take k w)) from ≡ needs_by pick k code from
-  first-needs pick from = rw (first-length code ws k w e h) (needs-cong pick k (code_of (take k w)) code (first-at code ws k w e h) from)
+  pub first-needs : (from : ℕ) → span (length (take k w)) (code_of (take k w)) from ≡ span k code from
+  first-needs from =
+      let same = λ (pick : ℕ → ℕ → ℕ). needs-cong pick k (code_of (take k w)) code (first-at code ws k w e h) from in
+      rw (first-length code ws k w e h, same lesser, same larger)
 
 -- ---- the turns of a named instruction
 
@@ -85,7 +88,7 @@ module _ (n : ℕ) (rd : Memory) (d : ℕ) where
 
   -- the section that is begun passes the check, and the step named is before its last
   pub sound-begun : sound n rd d ≡ true → (rd (field Pc d) ≡ 0 → ⊥)
-      → (check n (rd (field Count d)) (code_in n rd d) ≡ Pass) × (named_step n rd d + 1 < rd (field Count d))
+      → (check n (rd (field Count d)) (code_in n rd d) ≡ Ok tt) × (named_step n rd d + 1 < rd (field Count d))
   unfolding named_op
   sound-begun e h =
       let (s, p) = private-parts e in
@@ -109,37 +112,16 @@ module _ (n : ℕ) (rd : Memory) (d : ℕ) where
 
   -- ---- what is left, by the pc
 
-  pub left-none : (pc : ℕ) → pc ≡ rd (field Pc d) → pc ≡ 0 → (pick : ℕ → ℕ → ℕ) → 0 ≡ left_by n rd d pick
+  pub left-none : (pc : ℕ) → pc ≡ rd (field Pc d) → pc ≡ 0 → record { fewest = 0; most = 0 } ≡ span_left n rd d
   unfolding left_by
-  left-none pc e z pick = rw (← e, eq-eqb pc 0 z)
+  left-none pc e z = rw (← e, eq-eqb pc 0 z)
 
   -- as the code works it out: `next` is the step behind the one named
-  pub left-begun : (pick : ℕ → ℕ → ℕ) (pc next k w t s : ℕ) (x : Op) → pc ≡ rd (field Pc d) → (pc ≡ 0 → ⊥) → next ≡ pc % 9223372036854775808 → 1 ≤ next
-      → k ≡ rd (field Count d) → w ≡ code_in n rd d (next - 1) → x ≡ op_of w → t ≡ resumed_turns x → s ≡ needs_by pick k (code_in n rd d) next
-      → t + s ≡ left_by n rd d pick
+  pub left-begun : (pc next k w t : ℕ) (x : Op) (s : Span) → pc ≡ rd (field Pc d) → (pc ≡ 0 → ⊥) → next ≡ pc % 9223372036854775808 → 1 ≤ next
+      → k ≡ rd (field Count d) → w ≡ code_in n rd d (next - 1) → x ≡ op_of w → t ≡ resumed_turns x → s ≡ span k (code_in n rd d) next
+      → record { fewest = t + s.fewest; most = t + s.most } ≡ span_left n rd d
   unfolding left_by named_op named_step
-  left-begun pick pc next k w t s x e h after some count word op turns rest =
+  left-begun pc next k w t x s e h after some count word op turns rest =
       let f : next - 1 ≡ rd (field Pc d) % 9223372036854775808 - 1 = rw (after, e) in
       let g : suc (next - 1) ≡ next = omega arith in
       rw (← e, ne_eqb pc 0 h, e, ← f, g, turns, op, word, rest, count)
-
--- ---- by the tests of the image, the worker and its record
-
-module _ (mark n : ℕ) (m : Image) (d : ℕ) where
-  pub left-image : header_ok mark n m ≡ false → ImageRefused ≡ left_of mark n m d
-  unfolding left_of
-  left-image h = rw h
-
-  module _ (image : header_ok mark n m ≡ true) where
-    pub left-worker : ltb d (workers m) ≡ false → Worker ≡ left_of mark n m d
-    unfolding left_of
-    left-worker h = rw (image, h)
-
-    pub left-record : ltb d (workers m) ≡ true → sound n (at n m) d ≡ false → Record ≡ left_of mark n m d
-    unfolding left_of
-    left-record w h = rw (image, w, h)
-
-    pub left-given : ltb d (workers m) ≡ true → sound n (at n m) d ≡ true → (f t : ℕ) → f ≡ left_by n (at n m) d lesser → t ≡ left_by n (at n m) d larger
-        → Turns f t ≡ left_of mark n m d
-    unfolding left_of
-    left-given w h f t least largest = rw (image, w, h, least, largest)

@@ -1,7 +1,7 @@
 -- What a section needs from a step on, by one step: the turns of its instruction and what the steps need that it leads to (`unrolled`), which is
 -- at most six turns a step (`needs-most`). The definition makes a list from the end; by induction on it, the list has at each place what
 -- the step there needs (`ahead-at`), and it reads no word but those of the section.
-use Prim.Native.Nat.{ℕ, zero, suc, ◌+◌, ◌*◌, ◌-◌, ◌<◌, ◌≤◌}
+use Prim.Native.Nat.{ℕ, zero, suc, ◌+◌, ◌*◌, ◌-◌, ◌<◌, ◌≤◌, min, max}
 use mathlib.Core.Path.{◌≡◌, refl, sym, ap, ◌∙◌}
 use mathlib.Core.Bool.{Bool, true, false, cond}
 use mathlib.Core.List.{List}
@@ -51,6 +51,21 @@ larger-most x y = by (ltb x y) refl
     by : (b : Bool) → ltb x y ≡ b → (x ≤ cond b y x) × (y ≤ cond b y x)
     by true e = let h = ltb-true x y e in (omega arith, omega arith)
     by false e = let h = ltb-false x y e in (omega arith, omega arith)
+
+-- they are the library's
+pub lesser-min : (x y : ℕ) → min x y ≡ lesser x y
+lesser-min x y = by (ltb x y) refl
+  where
+    by : (b : Bool) → ltb x y ≡ b → min x y ≡ cond b x y
+    by true e = let h = ltb-true x y e in omega arith
+    by false e = let h = ltb-false x y e in omega arith
+
+pub larger-max : (x y : ℕ) → max x y ≡ larger x y
+larger-max x y = by (ltb x y) refl
+  where
+    by : (b : Bool) → ltb x y ≡ b → max x y ≡ cond b y x
+    by true e = let h = ltb-true x y e in omega arith
+    by false e = let h = ltb-false x y e in omega arith
 
 -- ---- a section of n steps, and either of the two
 

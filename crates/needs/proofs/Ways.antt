@@ -1,6 +1,7 @@
 -- What fewest and most mean, for a section that passes the check: no way from a step to a finish takes fewer turns than the fewest or more than
 -- the most (`ways-between`, by induction on the way), and of each there is a way that takes just as many (`bounds-met`, by induction on
 -- what is left of the section: at a jump it is the way on that counts).
+use Rattle.std.proofs.Common.{Ok}
 use Prim.Native.Nat.{ℕ, zero, suc, ◌+◌, ◌<◌, ◌≤◌}
 use mathlib.Core.Path.{◌≡◌, refl, ap}
 use mathlib.Core.Bool.{Bool, true, false, ◌||◌, false≢true}
@@ -15,7 +16,6 @@ use Rattle.code.specs.declared.Op.TheVariants.{Acquire, Release, Assign, Jump, F
 use Rattle.code.specs.Table.{turns_of}
 use Rattle.code.specs.Op.{op_of, is_finish}
 use Rattle.code.specs.Form.{in_place}
-use Rattle.section.specs.declared.Verdict.TheVariants.{Pass}
 use Rattle.section.specs.Check.{Code, check}
 use Rattle.section.proofs.Passing.{passed_is}
 use Rattle.needs.specs.Path.{turns_along}
@@ -71,7 +71,7 @@ module _ (n i k : ℕ) (f g : ℕ → ℕ) where
 
 -- ---- every way
 
-module _ (own n : ℕ) (code : Code) (passed : check own n code ≡ Pass) where
+module _ (own n : ℕ) (code : Code) (passed : check own n code ≡ Ok tt) where
   -- a finish is the last step
   private-last : (pick : ℕ → ℕ → ℕ) (i : ℕ) → i < n → is_finish (op_of (code i)) ≡ true → needs_by pick n code i ≡ turns_of (code i) + 0
   private-last pick i l h =
@@ -105,7 +105,7 @@ ways-between own n code h = λ i p l g. private-between own n code (passed_is (c
 
 -- ---- a way that takes just as many
 
-module _ (own n : ℕ) (code : Code) (passed : check own n code ≡ Pass) (pick : ℕ → ℕ → ℕ) (one : (x y : ℕ) → (pick x y ≡ x) ⊎ (pick x y ≡ y)) where
+module _ (own n : ℕ) (code : Code) (passed : check own n code ≡ Ok tt) (pick : ℕ → ℕ → ℕ) (one : (x y : ℕ) → (pick x y ≡ x) ⊎ (pick x y ≡ y)) where
   abbrev Met : ℕ → Type 0
   Met i = (p : List ℕ) × (goes_on code i p ≡ true) × (turns_along code (i ∷ p) ≡ needs_by pick n code i)
 

@@ -1,15 +1,14 @@
 -- What a section needs from a step on before its path is known: over both ways of each jump the fewest turns, and the most. Worked out from
 -- the end, so that each step is looked at once. (Document 02, 4/14.)
-use Rattle.std.specs.Prelude.{ℕ, suc, zero, ◌+◌, ◌-◌, cond, List, [], ◌∷◌, get_or, ltb}
+use Rattle.std.specs.Prelude.{ℕ, suc, zero, ◌+◌, ◌-◌, cond, List, [], ◌∷◌, get_or, ltb, Result, Ok, Err}
 use Rattle.code.specs.declared.Op.{Op}
 use Rattle.code.specs.declared.Op.TheVariants.{Acquire, Release, Assign, Jump, Finish, Unknown}
 use Rattle.code.specs.Table.{turns_of}
 use Rattle.code.specs.Op.{op_of}
-use Rattle.section.specs.declared.Verdict.{Verdict}
-use Rattle.section.specs.declared.Verdict.TheVariants.{Pass, Length, Malformed, Unbracketed, Unordered, Unguarded, Unlevel}
-use Rattle.section.specs.Check.{Code, check}
-use Rattle.needs.specs.declared.Needed.{Needed}
-use Rattle.needs.specs.declared.Needed.TheVariants.{Turns, Refused}
+use Rattle.section.specs.declared.Fault.{Fault}
+use Rattle.section.specs.declared.Fault.TheVariants.{Malformed}
+use Rattle.section.specs.Check.{Code, Verdict, check}
+use Rattle.needs.specs.declared.Span.{Span}
 
 -- which of a jump's two ways counts
 abbrev pub lesser : ℕ → ℕ → ℕ
@@ -45,15 +44,17 @@ fewest n code i = needs_by lesser n code i
 abbrev pub most : ℕ → Code → ℕ → ℕ
 most n code i = needs_by larger n code i
 
+abbrev pub span : ℕ → Code → ℕ → Span
+span n code i = record { fewest = fewest n code i; most = most n code i }
+
+-- the fewest turns and the most from a step on; or why the section, or the step, is refused
+abbrev pub Needed : Type 0
+Needed = Result Span Fault
+
 -- by the check's answer; past the end a step is refused with cause 5
 abbrev pub needs_for : ℕ → Code → ℕ → Verdict → Needed
-needs_for n code i Pass = cond (ltb i n) (Turns (fewest n code i) (most n code i)) (Refused (Malformed i))
-needs_for n code i Length = Refused Length
-needs_for n code i (Malformed j) = Refused (Malformed j)
-needs_for n code i (Unbracketed j) = Refused (Unbracketed j)
-needs_for n code i (Unordered j) = Refused (Unordered j)
-needs_for n code i (Unguarded j) = Refused (Unguarded j)
-needs_for n code i (Unlevel j) = Refused (Unlevel j)
+needs_for n code i (Ok u) = cond (ltb i n) (Ok (span n code i)) (Err (Malformed i))
+needs_for n code i (Err f) = Err f
 
 -- what a question about a section and a step is answered
 unfoldable pub needs_of : ℕ → ℕ → Code → ℕ → Needed

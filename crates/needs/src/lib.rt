@@ -3,34 +3,51 @@
 #![tactic(auto)]
 
 pub mod ahead;
-pub mod codes;
 pub mod path;
 pub mod record;
 
-use section::Verdict;
+ghost use Rattle.std.specs.Prelude.{zero};
+ghost use Rattle.needs.specs.Codes.{refusal_cause};
 
-// The turns along a path, or the first of its steps that is none of the section, or fails cause 5.
+use working::Cause;
+
+// The fewest turns and the most.
 #[derive(Clone, Copy)]
-pub enum Along {
-    Turns(u64),
-    Malformed(u64),
+pub struct Span {
+    pub fewest: u64,
+    pub most: u64,
 }
 
-// The fewest turns and the most from a step on; or why the section, or the step, is refused.
-#[derive(Clone, Copy)]
-pub enum Needed {
-    Turns(u64, u64),
-    Refused(Verdict),
+impl Span {
+    // Of nothing that is left.
+    pub const NONE: Span = Span { fewest: 0, most: 0 };
 }
 
-// The fewest turns and the most that a worker's section still needs after a recovery.
+// Why a question about what a worker's section still needs is refused.
 #[derive(Clone, Copy)]
-pub enum Left {
-    Turns(u64, u64),
+pub enum Refusal {
     // The image's length or header is wrong: cause 10.
     Image,
     // It has no such worker: cause 1.
     Worker,
     // The worker's record is not sound: cause 12.
     Record,
+}
+
+impl Cause for Refusal {
+    ghost cause_of = { refusal_cause };
+
+    ghost value_of = { λ _. zero };
+
+    fn cause(self) -> u64 {
+        match self {
+            Refusal::Image => 10,
+            Refusal::Worker => 1,
+            Refusal::Record => 12,
+        }
+    }
+
+    fn value(self) -> u64 {
+        0
+    }
 }

@@ -19,10 +19,8 @@ fn set_logged(image: &[u64], d: usize, set: u64, own: usize) -> bool
     requires { Inside own image.now d }
     ensures { result ≡ set_logged own (at own image.now) d set }
 {
-    if worklog::logged_addr(image, d, own) != image::field_index(Field::Owned, d, own) as u64 {
-        return false;
-    }
-    worklog::logged_value(image, d, own) == set
+    worklog::logged_addr(image, d, own) == image::field_index(Field::Owned, d, own) as u64
+        && worklog::logged_value(image, d, own) == set
 }
 
 // Whether the active entry logs the store of an instruction, after which `next` is held.
@@ -31,14 +29,11 @@ pub fn entry_ok(image: &[u64], d: usize, x: Op, next: u64, own: usize) -> bool
     ensures { result ≡ entry_ok own (at own image.now) d x }
 {
     match x {
-        Op::Acquire(_) => set_logged(image, d, next, own),
-        Op::Release(_) => set_logged(image, d, next, own),
+        Op::Acquire(_) | Op::Release(_) => set_logged(image, d, next, own),
         Op::Assign(a, _) => {
             worklog::logged_addr(image, d, own) == worklog::words::operand_index(d, a, own) as u64
         }
-        Op::Jump(_, _) => false,
-        Op::Finish => false,
-        Op::Unknown => false,
+        _ => false,
     }
 }
 
@@ -46,10 +41,7 @@ pub fn entry_ok(image: &[u64], d: usize, x: Op, next: u64, own: usize) -> bool
 pub fn owned_ok(owned: u64, here: u64, next: u64) -> bool
     ensures { result ≡ (eqb owned here || eqb owned next) }
 {
-    if owned == here {
-        return true;
-    }
-    owned == next
+    owned == here || owned == next
 }
 
 // The owed set at an instruction: of an acquire the held set after it, since its lock may be taken and not yet owned.
@@ -58,11 +50,7 @@ pub fn owed_by(x: Op, next: u64, owned: u64) -> u64
 {
     match x {
         Op::Acquire(_) => next,
-        Op::Release(_) => owned,
-        Op::Assign(_, _) => owned,
-        Op::Jump(_, _) => owned,
-        Op::Finish => owned,
-        Op::Unknown => owned,
+        _ => owned,
     }
 }
 
@@ -73,32 +61,26 @@ pub fn covers(big: u64, small: u64) -> bool
     small & big == small
 }
 
-// The lowest lock that two of the first n sets have; 64 where there is none.
-pub fn shared(sets: &[u64], n: usize) -> u64
-    requires { n ≤ length sets.now }
-    ensures { result ≡ shared_from (sets_in sets.now) n 0 64 }
+// The lowest lock that two of the sets have; 64 where there is none. (A number and no Option: it bounds a loop over the locks below it.)
+pub fn shared(sets: &[u64]) -> u64
+    ensures { result ≡ shared_from (sets_in sets.now) (length sets.now) 0 64 }
 {
     let mut once: u64 = 0;
     let mut twice: u64 = 0;
-    let mut d: usize = 0;
-    while d < n {
-        twice = twice | (once & sets[d]);
-        once = once | sets[d];
-        d += 1;
+    for set in sets {
+        twice |= once & *set;
+        once |= *set;
     }
-    u64::trailing_zeros(twice) as u64
+    twice.trailing_zeros() as u64
 }
 
-// The locks of the first n sets together.
-pub fn union(sets: &[u64], n: usize) -> u64
-    requires { n ≤ length sets.now }
-    ensures { result ≡ union (sets_in sets.now) n }
+// The locks of the sets together.
+pub fn union(sets: &[u64]) -> u64
+    ensures { result ≡ union (sets_in sets.now) (length sets.now) }
 {
     let mut all: u64 = 0;
-    let mut d: usize = 0;
-    while d < n {
-        all = all | sets[d];
-        d += 1;
+    for set in sets {
+        all |= *set;
     }
     all
 }
@@ -112,11 +94,9 @@ pub fn owner_ok(image: &[u64], b: u64, own: usize) -> bool
     if w == 0 {
         return true;
     }
-    if image::workers(image) < w {
-        return false;
-    }
-    mask::has(
-        image::read_field(image, Field::Intent, w as usize - 1, own),
-        b,
-    )
+    w <= image::workers(image)
+        && mask::has(
+            image::read_field(image, Field::Intent, w as usize - 1, own),
+            b,
+        )
 }

@@ -7,6 +7,7 @@ use mathlib.Core.List.{List, [], append-nil}
 use native.Mathlib.Omega.{arith}
 use lib.ListN.{length}
 use lib.Dec.{eqb, leb}
+use Rattle.std.proofs.Common.{Some, None}
 use Rattle.image.specs.Image.{Image}
 use Rattle.working.specs.declared.Cursors.{Cursors}
 use Rattle.repair.specs.declared.Repair.{Repair}
@@ -15,23 +16,20 @@ use Rattle.recovery.specs.Recovery.{Recovered, accepted, rejected, recovery}
 use Rattle.recovery.specs.Recover.{stores_of}
 use Rattle.recovery.specs.Repairs.{repair_by}
 use Rattle.edition.specs.Edition.{mark, own_words}
-use Rattle.frames.specs.declared.Opening.{Opening}
-use Rattle.frames.specs.declared.Opening.TheVariants.{Workers, Malformed as OpeningMalformed}
 use Rattle.frames.specs.declared.Frame.{Frame}
 use Rattle.frames.specs.declared.Frame.TheVariants.{Submit, Turns as TurnsFrame, Recover, Rounds as RoundsFrame, Malformed}
-use Rattle.frames.specs.declared.Printed.{Printed}
-use Rattle.frames.specs.declared.Printed.TheVariants.{Nothing}
-use Rattle.frames.specs.Line.{first_of, frame_of}
+use Rattle.frames.specs.Line.{Opening, first_of, frame_of}
+use Rattle.frames.specs.Print.{Printed}
 use Rattle.lines.specs.declared.Job.{Job}
 use Rattle.lines.specs.declared.Job.TheVariants.{Turns, Rounds, Stores, Next, Stop}
 use Rattle.lines.specs.declared.Made.{Made}
-use Rattle.lines.specs.Play.{Stage, stage, played, no_turn, recovered, begin_frame, go_on}
+use Rattle.lines.specs.Play.{Stage, stage, played, no_turn, recovered, begin_frame, is_going, go_on}
 use Rattle.lines.specs.Whole.{Output, output, shown, onto, turns_in, pieces, stores_line}
 use Rattle.lines.proofs.Whole.{next-rests, turns-whole, recovery-whole}
 use Rattle.lines.proofs.WholeRounds.{rounds-whole}
 use Rattle.stages.specs.Begun.{fresh, ended, format_stage, opened, line_on}
 use Rattle.stages.specs.Lines.{Line, line_whole, first_whole, whole_line}
-use Rattle.pieces.specs.Pieces.{job_pieces, is_going, ends_of}
+use Rattle.pieces.specs.Pieces.{job_pieces, ends_of}
 use Rattle.pieces.proofs.Runs.{on-less}
 use Rattle.pieces.proofs.Stopping.{is_stop}
 
@@ -43,7 +41,7 @@ gathers s = pieces (job_pieces s.played.job) s
 stop-rests : (f : ℕ) (m : Image) (c : Cursors) (x : Printed) (r : Repair) (t : Made) → pieces f (stage m (played c x Stop r t)) ≡ output [] [] m c
 unfolding pieces
 stop-rests zero m c x r t = refl
-stop-rests (suc f) m c x r t = ap (onto Nothing []) (stop-rests f m c Nothing r no_turn)
+stop-rests (suc f) m c x r t = ap (onto None []) (stop-rests f m c None r no_turn)
 
 module _ (s : Stage) where
   abbrev Left : Output
@@ -55,9 +53,9 @@ module _ (s : Stage) where
       ap (λ (i : Job). pieces f (stage s.image (played s.played.cursors s.played.printed i s.played.repair s.played.made))) e
 
   private-rests : (f : ℕ) (j : Job) → s.played.job ≡ j → is_going j ≡ false → pieces f s ≡ Left
-  private-rests f (Turns d k) e o = let z : ◌≡◌ {A = ℕ} 0 1 = cc in absurd (omega arith)
-  private-rests f (Rounds d r) e o = let z : ◌≡◌ {A = ℕ} 0 1 = cc in absurd (omega arith)
-  private-rests f (Stores i) e o = let z : ◌≡◌ {A = ℕ} 0 1 = cc in absurd (omega arith)
+  private-rests f (Turns d k) e o = cc
+  private-rests f (Rounds d r) e o = cc
+  private-rests f (Stores i) e o = cc
   private-rests f Next e o = private-job f Next e ∙ next-rests f s.image s.played.cursors _ _ _
   private-rests f Stop e o = private-job f Stop e ∙ stop-rests f s.image s.played.cursors _ _ _
 
@@ -114,8 +112,8 @@ unfolding pieces
 recover-whole m (accepted ss cs) e c l =
     let b = recovered m (accepted ss cs) in record {
       output =
-          ap (λ (g : Recovered). pieces 593 (stage b.image (played b.played.cursors Nothing (Stores 0) (repair_by own_words m g) no_turn))) (sym e)
-          ∙ recovery-whole 593 m b.image b.played.cursors Nothing no_turn (omega arith)
+          ap (λ (g : Recovered). pieces 593 (stage b.image (played b.played.cursors None (Stores 0) (repair_by own_words m g) no_turn))) (sym e)
+          ∙ recovery-whole 593 m b.image b.played.cursors None no_turn (omega arith)
           ∙ ap (λ (g : Recovered). output (stores_line (stores_of g)) [] b.image b.played.cursors) e
           ∙ rw e;
       ends = refl;
@@ -129,18 +127,18 @@ unfolding pieces
 frame-whole m c l (Submit d k) =
     let b = begin_frame m c l (Submit d k) in
     record { output = over-whole b.image b.played.cursors b.played.printed; ends = refl; stops = refl }
-frame-whole m c l (TurnsFrame d k) = record { output = turns-whole k (k + 1) m c d Nothing no_repair no_turn (omega arith); ends = refl; stops = refl }
+frame-whole m c l (TurnsFrame d k) = record { output = turns-whole k (k + 1) m c d None no_repair no_turn (omega arith); ends = refl; stops = refl }
 frame-whole m c l Recover = recover-whole m (recovery mark own_words m) refl c l
 frame-whole m c l (RoundsFrame r) =
-    record { output = rounds-whole r (10 * r + 9 + 1) m c Nothing no_repair no_turn (omega arith); ends = refl; stops = refl }
+    record { output = rounds-whole r (10 * r + 9 + 1) m c None no_repair no_turn (omega arith); ends = refl; stops = refl }
 frame-whole m c l Malformed = record { output = refl; ends = refl; stops = refl }
 
 first-whole : (o : Opening) → Wholly (opened o) (first_whole o)
 unfolding format_stage fresh ended pieces
-first-whole OpeningMalformed = record { output = refl; ends = refl; stops = refl }
-first-whole (Workers D) = by (leb 1 D && leb D 8) refl
+first-whole None = record { output = refl; ends = refl; stops = refl }
+first-whole (Some D) = by (leb 1 D && leb D 8) refl
   where
-    by : (t : Bool) → (leb 1 D && leb D 8) ≡ t → Wholly (opened (Workers D)) (first_whole (Workers D))
+    by : (t : Bool) → (leb 1 D && leb D 8) ≡ t → Wholly (opened (Some D)) (first_whole (Some D))
     by true e = rw e record { output = refl; ends = refl; stops = refl }
     by false e = rw e record { output = refl; ends = refl; stops = refl }
 

@@ -10,12 +10,12 @@ use Rattle.turn.specs.declared.Answer.TheVariants.{Stored, Passed, Waiting, Idle
 use Rattle.turn.specs.Call.{outcome, answer_of}
 use Rattle.run.specs.Round.{next_outcome}
 use Rattle.edition.specs.Edition.{mark, own_words}
-use Rattle.frames.specs.declared.Printed.{Printed}
+use Rattle.frames.specs.Print.{Printed}
 use Rattle.lines.specs.declared.Job.{Job}
 use Rattle.lines.specs.declared.Job.TheVariants.{Turns, Rounds, Stores, Next, Stop}
 use Rattle.lines.specs.declared.Played.{Played}
-use Rattle.lines.specs.Play.{Stage, uncut, goes_on, turn_stage, round_job, round_stage, slot_stage, go_on, go_on_job}
-use Rattle.pieces.specs.Pieces.{is_going, ends_by, ends_of}
+use Rattle.lines.specs.Play.{Stage, uncut, goes_on, turn_stage, round_job, round_stage, slot_stage, is_going, go_on, go_on_job}
+use Rattle.pieces.specs.Pieces.{ends_by, ends_of}
 
 -- the line ends the day
 abbrev pub is_stop : Job → Bool
@@ -63,7 +63,7 @@ stays_on m p (Turns d k) e = turn_on m p d k
 stays_on m p (Rounds d r) e = round-on m p d r
 stays_on m p (Stores i) e = slot-on m p i
 stays_on m p Next e = refl
-stays_on m p Stop e = let z : ◌≡◌ {A = ℕ} 0 1 = cc in absurd (omega arith)
+stays_on m p Stop e = cc
 
 -- ---- the cause
 
@@ -72,21 +72,21 @@ going-ends x (Turns d k) e = refl
 going-ends x (Rounds d r) e = refl
 going-ends x (Stores i) e = refl
 going-ends x Next e = refl
-going-ends x Stop e = let z : ◌≡◌ {A = ℕ} 0 1 = cc in absurd (omega arith)
+going-ends x Stop e = cc
 
 going_on : (j : Job) → is_going j ≡ true → is_stop j ≡ false
 going_on (Turns d k) e = refl
 going_on (Rounds d r) e = refl
 going_on (Stores i) e = refl
 going_on Next e = refl
-going_on Stop e = let z : ◌≡◌ {A = ℕ} 0 1 = cc in absurd (omega arith)
+going_on Stop e = cc
 
 on_none : (x : Printed) (j : Job) → is_stop j ≡ false → ends_by x j ≡ 0
 on_none x (Turns d k) e = refl
 on_none x (Rounds d r) e = refl
 on_none x (Stores i) e = refl
 on_none x Next e = refl
-on_none x Stop e = let z : ◌≡◌ {A = ℕ} 0 1 = cc in absurd (omega arith)
+on_none x Stop e = cc
 
 -- a line that is gone on with has no cause, before and after
 module _ (s : Stage) (e : is_going s.played.job ≡ true) where

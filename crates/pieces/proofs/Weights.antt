@@ -8,6 +8,7 @@ use native.Mathlib.Omega.{arith}
 use borrow.Author.Tests.{ltb-true}
 use lib.ListN.{length}
 use lib.Dec.{ltb, leb, eqb}
+use Rattle.std.proofs.Common.{Some, None, Ok, Err}
 use Rattle.image.specs.Image.{Image}
 use Rattle.working.specs.declared.Cursors.{Cursors}
 use Rattle.turn.specs.Call.{outcome, answer_of}
@@ -15,16 +16,13 @@ use Rattle.turn.specs.declared.Answer.{Answer as TurnAnswer}
 use Rattle.turn.specs.declared.Answer.TheVariants.{Stored, Passed, Waiting, Idle, Refused as TurnRefused}
 use Rattle.run.specs.Round.{next_worker, next_outcome}
 use Rattle.run.proofs.Next.{next-above}
-use Rattle.soundness.specs.declared.Answer.{Answer}
-use Rattle.soundness.specs.declared.Answer.TheVariants.{Done, Refused}
+use Rattle.soundness.specs.Answer.{Answer}
 use Rattle.recovery.specs.Recovery.{recovery}
 use Rattle.recovery.specs.Recover.{answer_of as recovery_answer}
 use Rattle.edition.specs.Edition.{mark, own_words}
-use Rattle.frames.specs.declared.Opening.{Opening}
-use Rattle.frames.specs.declared.Opening.TheVariants.{Workers, Malformed as OpeningMalformed}
 use Rattle.frames.specs.declared.Frame.{Frame}
 use Rattle.frames.specs.declared.Frame.TheVariants.{Submit, Turns as TurnsFrame, Recover, Rounds as RoundsFrame, Malformed}
-use Rattle.frames.specs.Line.{first_of, frame_of}
+use Rattle.frames.specs.Line.{Opening, first_of, frame_of}
 use Rattle.frames.proofs.Frames.{times_in, times-most}
 use Rattle.lines.specs.declared.Job.{Job}
 use Rattle.lines.specs.declared.Job.TheVariants.{Turns, Rounds, Stores, Next, Stop}
@@ -39,8 +37,8 @@ use Rattle.buffers.proofs.Lines.{rest-less}
 -- ---- a line begun
 
 print-most : (a : Answer) → job_pieces (print_job a) ≤ 655360
-print-most Done = omega arith
-print-most (Refused r) = omega arith
+print-most (Ok tt) = omega arith
+print-most (Err r) = omega arith
 
 begin-most : (m : Image) (c : Cursors) (l : List ℕ) (f : Frame) → times_in f ≤ 65535 → job_pieces (begin_frame m c l f).played.job ≤ 655360
 begin-most m c l (Submit d k) h = omega arith
@@ -51,10 +49,10 @@ begin-most m c l Malformed h = omega arith
 
 open-most : (o : Opening) → job_pieces (opened o).played.job ≤ 655360
 unfolding format_stage fresh ended
-open-most OpeningMalformed = omega arith
-open-most (Workers D) = by (leb 1 D && leb D 8) refl
+open-most None = omega arith
+open-most (Some D) = by (leb 1 D && leb D 8) refl
   where
-    by : (t : Bool) → (leb 1 D && leb D 8) ≡ t → job_pieces (opened (Workers D)).played.job ≤ 655360
+    by : (t : Bool) → (leb 1 D && leb D 8) ≡ t → job_pieces (opened (Some D)).played.job ≤ 655360
     by true e = rw e (omega arith)
     by false e = rw e (omega arith)
 
@@ -121,15 +119,15 @@ module _ (more : Bool) (q : Point) where
       omega (arith, slot-less q.stage.image q.stage.played i, ap job_pieces (private-on (Stores i) e))
   private-less Next e r =
       rw r (omega (arith, rest-less more q.input r, line-most q.stage (line_of q.input)))
-  private-less Stop e r = let z : ◌≡◌ {A = ℕ} 0 1 = cc in absurd (omega arith)
+  private-less Stop e r = cc
 
   pub piece-less : ready more q ≡ true → pieces_left (piece more q) < pieces_left q
   piece-less r = private-less q.stage.played.job refl r
 
   private-none : (j : Job) → ready_for more q.input j ≡ false → piece_for more q j ≡ q
-  private-none (Turns w k) r = let z : ◌≡◌ {A = ℕ} 0 1 = cc in absurd (omega arith)
-  private-none (Rounds d k) r = let z : ◌≡◌ {A = ℕ} 0 1 = cc in absurd (omega arith)
-  private-none (Stores i) r = let z : ◌≡◌ {A = ℕ} 0 1 = cc in absurd (omega arith)
+  private-none (Turns w k) r = cc
+  private-none (Rounds d k) r = cc
+  private-none (Stores i) r = cc
   private-none Next r = rw r
   private-none Stop r = refl
 

@@ -1,9 +1,8 @@
 -- A day of frame lines, piece by piece. Where it stands is a stage of `lines`: the image, which has no words before the first line, and
 -- where the playing of a line stands; a line whose job is `Stop` ends the day. A piece is one turn or one printed store of a line, or the
 -- next line begun; it prints one line of 22 bytes at most.
-use Rattle.std.specs.Prelude.{ℕ, zero, suc, ◌+◌, ◌-◌, ◌*◌, List, [], ◌++◌, Bool, true, false, cond, ◌&&◌, length, leb}
-use Rattle.frames.specs.declared.Printed.{Printed}
-use Rattle.frames.specs.declared.Printed.TheVariants.{Nothing, Line}
+use Rattle.std.specs.Prelude.{ℕ, zero, suc, ◌+◌, ◌-◌, ◌*◌, List, [], ◌++◌, Bool, true, false, Some, None, cond, ◌&&◌, length, leb}
+use Rattle.frames.specs.Print.{Printed}
 use Rattle.lines.specs.declared.Job.{Job}
 use Rattle.lines.specs.declared.Job.TheVariants.{Turns, Rounds, Stores, Next, Stop}
 use Rattle.lines.specs.declared.Played.{Played}
@@ -82,20 +81,12 @@ pieces_left q = 655361 * length q.input + job_pieces q.stage.played.job
 abbrev pub whole : Bool → ℕ → Point → Progress
 whole more room q = advance (pieces_left q) more room q
 
--- whether a line is to be gone on with
-abbrev pub is_going : Job → Bool
-is_going (Turns w k) = true
-is_going (Rounds d r) = true
-is_going (Stores i) = true
-is_going Next = false
-is_going Stop = false
-
 -- ---- the end of a day
 
 -- the cause of a printed refusal
 abbrev pub cause_in : Printed → ℕ
-cause_in Nothing = 0
-cause_in (Line i v) = v
+cause_in None = 0
+cause_in (Some l) = l.value
 
 abbrev pub ends_by : Printed → Job → ℕ
 ends_by x (Turns w k) = 0

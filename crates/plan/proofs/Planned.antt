@@ -1,14 +1,13 @@
 -- What the plan of a turn rests on: the cases of the definitions that go by the number of a turn, for a turn that is known
 -- only by what it is not; and what a cursor that is ready says of its instruction.
-use Prim.Native.Nat.{ℕ, suc, zero, ◌+◌, ◌-◌, ◌<◌}
+use Prim.Native.Nat.{ℕ, suc, zero, ◌-◌, ◌<◌}
 use mathlib.Core.Path.{◌≡◌, refl}
 use mathlib.Core.Bool.{Bool, true, false, cond, ◌&&◌, false≢true}
 use mathlib.Core.Logic.{◌≢◌}
 use native.Mathlib.Omega.{arith}
 use lib.Dec.{leb, ltb}
 use borrow.Author.Tests.{leb-true, ltb-true, lt-ltb}
-use Rattle.mask.specs.Mask.{with}
-use Rattle.image.specs.declared.Field.TheVariants.{Count, Owned}
+use Rattle.image.specs.declared.Field.TheVariants.{Count}
 use Rattle.image.specs.declared.Field.{Field}
 use Rattle.image.specs.Place.{Place, cell, field, own, Memory}
 use Rattle.image.specs.Image.{index_of}
@@ -18,10 +17,10 @@ use Rattle.code.specs.Op.{op_of}
 use Rattle.code.specs.Inner.Fits.{fits}
 use Rattle.code.specs.Form.{well_formed}
 use Rattle.code.proofs.Ranges.{formed-range, in-range, turns-most}
-use Rattle.working.specs.Cursor.{idle, on}
+use Rattle.working.specs.Cursor.{on}
 use Rattle.worklog.specs.Log.{operand, code_in}
 use Rattle.worklog.specs.declared.Plan.TheVariants.{Store}
-use Rattle.plan.specs.Turn.{stored, logged, acquire_turn, finish_turn, op_turn, ready, turn_at}
+use Rattle.plan.specs.Turn.{logged, op_turn, ready, turn_at}
 use Rattle.worklog.specs.Inner.Logged.{logged_plan}
 use Rattle.plan.specs.Inner.Plan.{store_plan, plan_of}
 
@@ -59,20 +58,6 @@ module _ (n : ℕ) (rd : Memory) (d s t : ℕ) where
   value-plan i v ns nt (suc zero) a = absurd (a refl)
   value-plan i v ns nt (suc (suc zero)) a = refl
   value-plan i v ns nt (suc (suc (suc j))) a = refl
-
-module _ (n : ℕ) (rd : Memory) (d s : ℕ) where
-  -- an acquire from turn 2 on
-  pub acquire-plan : (a t : ℕ) → t ≢ 0 → t ≢ 1
-      → plan_of n (acquire_turn n rd d a s t) ≡ logged_plan n rd d s t (index_of n (field Owned d)) (with (rd (field Owned d)) a) (s + 1) 0 (t - 2)
-  acquire-plan a zero x y = absurd (x refl)
-  acquire-plan a (suc zero) x y = absurd (y refl)
-  acquire-plan a (suc (suc t)) x y = let e : suc (suc t) - 2 ≡ t = omega arith in rw e (logged-plan n rd d s _ _ _ _ _ t (field-indexed n Owned d))
-
-  -- a finish from turn 2 on
-  pub finish-last : (t : ℕ) → t ≢ 0 → t ≢ 1 → finish_turn n rd d s t ≡ stored (field Count d) 0 idle
-  finish-last zero x y = absurd (x refl)
-  finish-last (suc zero) x y = absurd (y refl)
-  finish-last (suc (suc t)) x y = refl
 
 -- each of five tests
 private-tests : (p q r s t : Bool) → (p && q && r && s && t) ≡ true → (p ≡ true) × (q ≡ true) × (r ≡ true) × (s ≡ true) × (t ≡ true)

@@ -77,8 +77,8 @@ module _ (n : ℕ) (rd : Memory) (d : ℕ) where
   -- cause 11 does not hold at step s, turn t
   unfoldable pub ready : ℕ → ℕ → Bool
   ready s t =
-      leb 3 (rd (field Count d)) && leb (rd (field Count d)) 64 && ltb s (rd (field Count d)) && well_formed n (rd (field Count d)) s (code_in n rd d s) && ltb t
-      (turns_of (code_in n rd d s))
+      leb 3 (rd (field Count d)) && leb (rd (field Count d)) 64 && ltb s (rd (field Count d)) && well_formed n (rd (field Count d)) s (code_in n rd d s)
+      && ltb t (turns_of (code_in n rd d s))
 
   -- a turn at a cursor
   unfoldable pub turn_at : Cursor → Outcome

@@ -23,28 +23,21 @@ pub enum Report {
 }
 
 // Whether step s, turn t is a turn of the section in worker d's record.
+#[tactic(auto, unfolding(crate::specs::Turn::ready))]
 pub fn ready(image: &[u64], d: usize, own: usize, s: u8, t: u8) -> bool
     requires { Inside own image.now d }
     ensures { result ≡ ready own (at own image.now) d s t }
 {
     let k = image::read_field(image, Field::Count, d, own);
-    if k < 3 {
-        return false;
-    }
-    if 64 < k {
-        return false;
-    }
-    if k <= s as u64 {
+    if !(3..=64).contains(&k) || k <= s as u64 {
         return false;
     }
     let w = image::read_step(image, d, s as usize, own);
-    if !code::well_formed(w, s as usize, k as usize, own as u16) {
-        return false;
-    }
-    (t as u64) < code::turns(w)
+    code::well_formed(w, s as usize, k as usize, own as u16) && (t as u64) < code::turns(w)
 }
 
 // What worker d's turn is to do at step s, turn t, which is ready.
+#[inline(always)]
 pub fn next(image: &[u64], d: usize, own: usize, s: u8, t: u8) -> Plan
     requires { (Inside own image.now d) × (ready own (at own image.now) d s t ≡ true) }
     ensures { result ≡ plan_of own (turn_at own (at own image.now) d (on s t)) }

@@ -9,6 +9,7 @@ use native.Mathlib.Omega.{arith}
 use borrow.Author.Tests.{ltb-true}
 use lib.Dec.{leb, ltb, eqb}
 use lib.ListN.{length}
+use Rattle.std.proofs.Common.{Some, None}
 use Rattle.image.specs.Image.{Image, at, workers, header_ok}
 use Rattle.image.proofs.Header.{header-workers}
 use Rattle.working.specs.declared.Cursors.{Cursors}
@@ -22,11 +23,9 @@ use Rattle.turn.specs.Call.{outcome, outcome_at}
 use Rattle.turn.proofs.Holding.{Within, within-turn}
 use Rattle.run.specs.Run.{any_open}
 use Rattle.edition.specs.Edition.{mark, own_words}
-use Rattle.frames.specs.declared.Opening.{Opening}
-use Rattle.frames.specs.declared.Opening.TheVariants.{Workers, Malformed as OpeningMalformed}
 use Rattle.frames.specs.declared.Frame.{Frame}
 use Rattle.frames.specs.declared.Frame.TheVariants.{Submit, Turns, Recover, Rounds, Malformed}
-use Rattle.frames.specs.Line.{first_of, frame_of}
+use Rattle.frames.specs.Line.{Opening, first_of, frame_of}
 use Rattle.buffers.specs.Input.{lines_of}
 use Rattle.lines.specs.Play.{uncut}
 use Rattle.lines.specs.Whole.{Took, Output, turn_then, turns_line, round_line, rounds_over, rounds_line}
@@ -137,8 +136,8 @@ private-lines-either true x y p q = p
 private-lines-either false x y p q = q
 
 private-first : (o : Opening) → AllKept (first_whole o).output.turns
-private-first OpeningMalformed = tt
-private-first (Workers D) = private-lines-either (leb 1 D && leb D 8) _ _ tt tt
+private-first None = tt
+private-first (Some D) = private-lines-either (leb 1 D && leb D 8) _ _ tt tt
 
 private-line : (m : Image) (c : Cursors) (l : List ℕ) → AllKept (whole_line m c l).output.turns
 unfolding whole_line

@@ -3,12 +3,11 @@
 use Prim.Native.Nat.{ℕ}
 use mathlib.Core.Path.{◌≡◌, refl, ◌∙◌}
 use mathlib.Core.List.{List, [], ◌∷◌, append-nil}
+use Rattle.std.proofs.Common.{Ok, Err}
 use Rattle.image.specs.Image.{Image, header_ok}
 use Rattle.image.proofs.Lists.{header-all, put_all-none}
 use Rattle.edition.specs.Edition.{mark, own_words}
-use Rattle.intake.specs.declared.Submitted.{Submitted}
-use Rattle.intake.specs.declared.Submitted.TheVariants.{Taken, Refused}
-use Rattle.intake.specs.Submit.{submission, submit_answer, submit_leaves}
+use Rattle.intake.specs.Submit.{Submitted, submission, submit_answer, submit_leaves}
 use Rattle.recovery.specs.Recovery.{Recovered, accepted, rejected, recovery}
 use Rattle.recovery.specs.Recover.{recovery_leaves}
 use Rattle.frames.specs.Line.{arguments_of, steps_part, words_of}
@@ -52,7 +51,7 @@ module _ (w : Traced) (ts : List Took) (d k : ℕ) (args ws : List ℕ) (g : Goo
   answer-played : (a : Submitted)
       → Ends ts (submit_whole (submitted (submit_leaves own_words (uncut w.world.image w.world.cursors) d k args ws a) a))
       (traced (submit_leaves own_words (all-lent w).world d k args ws a) (submit_trace mark own_words w.trace (given d k args ws) a))
-  answer-played Taken =
+  answer-played (Ok u) =
       record {
         image = refl;
         cursors = refl;
@@ -61,7 +60,7 @@ module _ (w : Traced) (ts : List Took) (d k : ℕ) (args ws : List ℕ) (g : Goo
           told = rw append-nil (told-taken ts w.trace.events (given d k args ws) g.told);
         };
       }
-  answer-played (Refused r) = record { image = refl; cursors = refl; good = record { header = g.header; told = rw append-nil g.told } }
+  answer-played (Err r) = record { image = refl; cursors = refl; good = record { header = g.header; told = rw append-nil g.told } }
 
 pub submit-played : (w : Traced) (ts : List Took) (l : List ℕ) (d k : ℕ) → Good ts w
     → Ends ts (submit_whole (submit_stage w.world.image w.world.cursors l d k))

@@ -14,7 +14,7 @@ use Rattle.edition.specs.Edition.{mark, own_words}
 use Rattle.plan.specs.Turn.{Outcome, stored, passed, waiting, resting, refused}
 use Rattle.turn.specs.Call.{answer_of, leaves, outcome, outcome_at}
 use Rattle.claims.specs.Calls.{Traced, turn_by, refuses, turns, whole, call, lent, move, play}
-use Rattle.frames.specs.declared.Printed.{Printed}
+use Rattle.frames.specs.Print.{Printed}
 use Rattle.lines.specs.Answers.{turn_prints}
 use Rattle.lines.specs.Play.{uncut}
 use Rattle.lines.specs.Whole.{Took, took, Output, output, onto, turn_then, turns_line}

@@ -10,24 +10,22 @@ use native.Mathlib.Omega.{arith}
 use borrow.Author.Tests.{ltb-true, leb-true}
 use lib.Dec.{ltb, leb, eqb}
 use lib.ListN.{length}
+use Rattle.std.proofs.Common.{Some, None, Ok, Err}
 use Rattle.base.proofs.Bools.{and_left, and_right}
 use Rattle.image.specs.declared.Field.TheVariants.{Finished}
 use Rattle.image.specs.Place.{Place, field, valid, Store}
 use Rattle.image.specs.Image.{Image, at, workers, header_ok, cells_of, length_of, index_of}
 use Rattle.image.proofs.Apart.{index-lt, record-small}
 use Rattle.image.proofs.Lists.{all_valid}
-use Rattle.section.specs.declared.Verdict.{Verdict}
-use Rattle.section.specs.declared.Verdict.TheVariants.{Pass, Length, Malformed as SectionMalformed, Unbracketed, Unordered, Unguarded, Unlevel}
-use Rattle.section.specs.Check.{code_of, check}
+use Rattle.section.specs.declared.Fault.TheVariants.{Length, Malformed as SectionMalformed, Unbracketed, Unordered, Unguarded, Unlevel}
+use Rattle.section.specs.Check.{Verdict, code_of, check}
 use Rattle.working.specs.declared.Cursors.{Cursors}
 use Rattle.working.specs.Cursor.{is_idle, cursor_at, all_idle}
 use Rattle.working.specs.World.{World}
 use Rattle.formatting.specs.Format.{formatted}
 use Rattle.formatting.proofs.Formats.{formatted-header}
-use Rattle.intake.specs.declared.Submitted.{Submitted}
-use Rattle.intake.specs.declared.Submitted.TheVariants.{Refused}
 use Rattle.working.specs.declared.Refusal.TheVariants.{Worker, Busy, Number as NumberRefused, Image as ImageRefused}
-use Rattle.intake.specs.Submit.{verdict_answer, free, submit_answer}
+use Rattle.intake.specs.Submit.{Submitted, verdict_answer, free, submit_answer}
 use Rattle.worklog.specs.declared.Passing.{Passing}
 use Rattle.worklog.specs.declared.Passing.TheVariants.{Jump, AlreadyFree, Others}
 use Rattle.plan.specs.Turn.{Outcome, stored, passed, waiting, resting, refused, turn_at}
@@ -37,14 +35,10 @@ use Rattle.run.specs.Run.{any_open}
 use Rattle.edition.specs.Edition.{mark, own_words}
 use Rattle.repair.specs.Plan.{plan}
 use Rattle.recovery.specs.Recovery.{recovery}
-use Rattle.frames.specs.declared.Printed.{Printed}
-use Rattle.frames.specs.declared.Printed.TheVariants.{Nothing, Line}
-use Rattle.frames.specs.declared.Opening.{Opening}
-use Rattle.frames.specs.declared.Opening.TheVariants.{Workers, Malformed as OpeningMalformed}
 use Rattle.frames.specs.declared.Frame.{Frame}
 use Rattle.frames.specs.declared.Frame.TheVariants.{Submit, Turns, Recover, Rounds, Malformed}
-use Rattle.frames.specs.Line.{first_of, frame_of, steps_part, words_of}
-use Rattle.frames.specs.Print.{refusal}
+use Rattle.frames.specs.Line.{Opening, first_of, frame_of, steps_part, words_of}
+use Rattle.frames.specs.Print.{Printed, line as printed_line, refusal}
 use Rattle.frames.proofs.Frames.{times_in, times-most}
 use Rattle.buffers.specs.Input.{lines_of}
 use Rattle.claims.specs.Calls.{Traced, turn_by, turned_at, play, from}
@@ -78,14 +72,14 @@ abbrev AllClear : Output → Type 0
 AllClear o = All Clear o.lines
 
 index_in : Printed → ℕ
-index_in Nothing = 0
-index_in (Line i v) = i
+index_in None = 0
+index_in (Some l) = l.at
 
 value_in : Printed → ℕ
-value_in Nothing = 0
-value_in (Line i v) = v
+value_in None = 0
+value_in (Some l) = l.value
 
-index-clear : (i v : ℕ) → i < 65535 → Clear (Line i v)
+index-clear : (i v : ℕ) → i < 65535 → Clear (printed_line i v)
 unfolding index_in
 index-clear i v h e = let z : i ≡ 65535 = ap index_in e in omega arith
 
@@ -93,7 +87,7 @@ cause-clear : (c : ℕ) → c ≢ halting → Clear (refusal c)
 unfolding value_in
 cause-clear c h e = h (ap value_in e)
 
-nothing-clear : Clear Nothing
+nothing-clear : Clear None
 unfolding index_in
 nothing-clear e = let z : ◌≡◌ {A = ℕ} 0 65535 = ap index_in e in omega arith
 
@@ -103,8 +97,8 @@ pass-clear m AlreadyFree = index-clear 65534 0 (omega arith)
 pass-clear m Others = index-clear 65534 1 (omega arith)
 
 shown-clear : (p : Printed) → Clear p → All Clear (shown p)
-shown-clear Nothing h = tt
-shown-clear (Line i v) h = (h, tt)
+shown-clear None h = tt
+shown-clear (Some l) h = (h, tt)
 
 either-clear : (b : Bool) (x y : Output) → AllClear x → AllClear y → AllClear (cond b x y)
 either-clear true x y h k = h
@@ -122,13 +116,13 @@ then-clear more m c d o h k =
 -- ---- 01
 
 verdict-clear : (v : Verdict) → Clear (submit_prints (verdict_answer v))
-verdict-clear Pass = nothing-clear
-verdict-clear Length = cause-clear 4 (omega arith)
-verdict-clear (SectionMalformed i) = cause-clear 5 (omega arith)
-verdict-clear (Unbracketed i) = cause-clear 6 (omega arith)
-verdict-clear (Unordered i) = cause-clear 7 (omega arith)
-verdict-clear (Unguarded i) = cause-clear 8 (omega arith)
-verdict-clear (Unlevel i) = cause-clear 9 (omega arith)
+verdict-clear (Ok u) = nothing-clear
+verdict-clear (Err Length) = cause-clear 4 (omega arith)
+verdict-clear (Err (SectionMalformed i)) = cause-clear 5 (omega arith)
+verdict-clear (Err (Unbracketed i)) = cause-clear 6 (omega arith)
+verdict-clear (Err (Unordered i)) = cause-clear 7 (omega arith)
+verdict-clear (Err (Unguarded i)) = cause-clear 8 (omega arith)
+verdict-clear (Err (Unlevel i)) = cause-clear 9 (omega arith)
 
 record Said (a : Submitted) : Type 0 where
   clear : Clear (submit_prints a)
@@ -149,10 +143,10 @@ answer-said w d k ws =
     (said-either (free own_words w d) _ _
     (said-either (ltb (at own_words w.image (field Finished d)) k) _ _
     (said v (verdict-clear (check own_words (length ws) (code_of ws))))
-    (said (Refused NumberRefused) (cause-clear 3 (omega arith))))
-    (said (Refused Busy) (cause-clear 2 (omega arith))))
-    (said (Refused Worker) (cause-clear 1 (omega arith))))
-    (said (Refused ImageRefused) (cause-clear 10 (omega arith)))
+    (said (Err NumberRefused) (cause-clear 3 (omega arith))))
+    (said (Err Busy) (cause-clear 2 (omega arith))))
+    (said (Err Worker) (cause-clear 1 (omega arith))))
+    (said (Err ImageRefused) (cause-clear 10 (omega arith)))
 
 module _ (D : ℕ) (cells : List ℕ) where
   abbrev Runs : Traced → Type 0
@@ -160,7 +154,7 @@ module _ (D : ℕ) (cells : List ℕ) where
 
   -- ---- a turn
 
-  store-clear : (p : Place) (v : ℕ) → D ≤ 8 → valid D own_words p ≡ true → Clear (Line (index_of own_words p) v)
+  store-clear : (p : Place) (v : ℕ) → D ≤ 8 → valid D own_words p ≡ true → Clear (printed_line (index_of own_words p) v)
   unfolding length_of
   store-clear p v most ok = index-clear (index_of own_words p) v (omega (arith, index-lt own_words D p ok, record-small own_words D most (omega arith)))
 
@@ -295,8 +289,8 @@ module _ (D : ℕ) (cells : List ℕ) where
 
 opened-clear : (o : Opening) (ls : List (List ℕ)) → AllClear (followed (first_whole o) (lines_whole ls)).output
 unfolding FormattedRests
-opened-clear OpeningMalformed ls = (cause-clear 14 (omega arith), tt)
-opened-clear (Workers D) ls = by (leb 1 D && leb D 8) refl
+opened-clear None ls = (cause-clear 14 (omega arith), tt)
+opened-clear (Some D) ls = by (leb 1 D && leb D 8) refl
   where
     m : Image
     m = formatted mark own_words D

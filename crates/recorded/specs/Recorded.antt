@@ -1,20 +1,17 @@
 -- A day is a list of calls as in demand 3, so that every claim over such lists holds of it; and what a day then prints and counts.
-use Rattle.std.specs.Prelude.{ℕ, suc, ◌≤◌, ◌≡◌, ◌≢◌, List, [], ◌∷◌, Bool, true, false, cond, eqb}
+use Rattle.std.specs.Prelude.{ℕ, suc, ◌≤◌, ◌≡◌, ◌≢◌, List, [], ◌∷◌, Bool, true, false, cond, eqb, Some, Ok}
 use Rattle.working.specs.Cursor.{all_idle}
 use Rattle.formatting.specs.Format.{formatted}
 use Rattle.edition.specs.Edition.{mark, own_words}
-use Rattle.soundness.specs.declared.Answer.TheVariants.{Done}
 use Rattle.recovery.specs.Recovery.{recovery}
 use Rattle.recovery.specs.Recover.{answer_of}
-use Rattle.frames.specs.declared.Opening.TheVariants.{Workers}
 use Rattle.frames.specs.Line.{first_of}
 use Rattle.buffers.specs.Input.{lines_of}
 use Rattle.claims.specs.Calls.{Traced, legal, ends_cut, machine}
 use Rattle.claims.specs.Claims.{after}
 use Rattle.claims.specs.Events.{Event, taken, moved, waited, recorded, ended, lost}
 use Rattle.told.specs.Turns.{All}
-use Rattle.frames.specs.declared.Printed.{Printed}
-use Rattle.frames.specs.Print.{refusal}
+use Rattle.frames.specs.Print.{Printed, refusal}
 use Rattle.lines.specs.Whole.{Output}
 use Rattle.stages.specs.Lines.{lines_whole}
 use Rattle.sums.specs.Sums.{wait_on, wait_of, move_of, count}
@@ -66,7 +63,7 @@ listed D ls = after mark own_words (formatted mark own_words D) (moves_of ls)
 -- what the lines of bytes do whose first line opens an image is that
 unfoldable pub DaysOpen : Type 0
 DaysOpen =
-    (bytes l : List ℕ) (ls : List (List ℕ)) (D : ℕ) → lines_of bytes ≡ l ∷ ls → first_of l ≡ Workers D → 1 ≤ D → D ≤ 8
+    (bytes l : List ℕ) (ls : List (List ℕ)) (D : ℕ) → lines_of bytes ≡ l ∷ ls → first_of l ≡ Some D → 1 ≤ D → D ≤ 8
     → (day_reading bytes).output ≡ played D ls
 
 pub record Listed (D : ℕ) (ls : List (List ℕ)) : Type 0 where
@@ -87,7 +84,7 @@ DaysAreLists = (D : ℕ) → 1 ≤ D → D ≤ 8 → (ls : List (List ℕ)) → 
 
 -- so a recovery behind any lines is accepted: no 03 prints a refusal
 unfoldable pub RecoveriesAccepted : Type 0
-RecoveriesAccepted = (D : ℕ) → 1 ≤ D → D ≤ 8 → (ls : List (List ℕ)) → answer_of (recovery mark own_words (played D ls).image) ≡ Done
+RecoveriesAccepted = (D : ℕ) → 1 ≤ D → D ≤ 8 → (ls : List (List ℕ)) → answer_of (recovery mark own_words (played D ls).image) ≡ Ok tt
 
 -- the cause of a turn that is refused where its worker stands, or for its count
 abbrev pub halting : ℕ

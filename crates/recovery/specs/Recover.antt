@@ -1,18 +1,17 @@
 -- The call: what it answers and leaves, by what the definition of recovery says of the image.
-use Rattle.std.specs.Prelude.{ℕ, ◌-◌, List, [], length}
+use Rattle.std.specs.Prelude.{ℕ, ◌-◌, List, [], length, Ok, Err}
 use Rattle.image.specs.Place.{Store}
 use Rattle.image.specs.Image.{Image, put_all}
 use Rattle.working.specs.declared.Cursors.{Cursors}
 use Rattle.working.specs.Cursor.{all_idle}
-use Rattle.soundness.specs.declared.Answer.{Answer}
-use Rattle.soundness.specs.declared.Answer.TheVariants.{Done, Refused}
+use Rattle.soundness.specs.Answer.{Answer}
 use Rattle.recovery.specs.Recovery.{Recovered, accepted, rejected}
 
 -- ---- answers
 
 abbrev pub answer_of : Recovered → Answer
-answer_of (accepted ss cs) = Done
-answer_of (rejected r) = Refused r
+answer_of (accepted ss cs) = Ok tt
+answer_of (rejected r) = Err r
 
 -- ---- what it leaves: an accepted one makes its stores, while stores are left, and resumes; any other makes none, and all
 -- workers are idle

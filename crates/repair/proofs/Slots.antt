@@ -18,9 +18,9 @@ use Rattle.image.proofs.Lists.{put_all-append}
 use Rattle.repair.specs.declared.Repair.{Repair}
 use Rattle.owed.specs.Owed.{owed}
 use Rattle.soundness.specs.Sound.{eight, owed_at}
-use Rattle.repair.specs.Plan.{rows, intend, withdraw, relock, relocks, unlock, plan}
+use Rattle.repair.specs.Plan.{rows, when, intend, withdraw, relock, relocks, unlock, plan}
 use Rattle.repair.specs.Repair.{freed_by, withdrawn_by, repair_of, no_repair}
-use Rattle.repair.specs.Repair.{lock_slot, intent_slot, withdraw_slot, relock_slot, slot_at, slot_of, slot_put, slot_left}
+use Rattle.repair.specs.Repair.{lock_slot, intent_slot, withdraw_slot, relock_slot, slot_at, Slot, slot_of, slot_put, slot_left}
 use Rattle.repair.proofs.Rows.{rows_at, rows_same, rows_none, rows-part}
 use Rattle.soundness.proofs.Sets.{eight-at, owed-inside, owed-outside}
 use Rattle.repair.proofs.Sets.{freed-has, withdrawn-has, withdrawn-past}
@@ -62,39 +62,40 @@ left-slot n left [] h = omega arith
 left-slot n left (s ∷ []) h = refl
 left-slot n left (s ∷ (t ∷ ss)) h = absurd h
 
--- ---- a loop over the slots
+-- ---- a loop over rows that are slots
 
-module _ (r : Repair) (a k d : ℕ) where
-  -- the slots that are left of k from slot a on, after d of them
+at-most : (ss : List Store) → length ss ≤ 1 → single ss
+at-most [] h = tt
+at-most (s ∷ []) h = tt
+at-most (s ∷ (t ∷ ss)) h = absurd (omega arith)
 
-  slots-step : d < k → rows (slot_at r) (a + d) (k - d) ≡ slot_at r (a + d) ++ rows (slot_at r) (a + (d + 1)) (k - (d + 1))
+module _ (f : ℕ → List Store) (k d : ℕ) where
+  -- the rows that are left of k, after d of them
+
+  rows-step : d < k → rows f d (k - d) ≡ f d ++ rows f (d + 1) (k - (d + 1))
   unfolding rows
-  slots-step h =
-      let e : a + (d + 1) ≡ a + d + 1 = omega arith in
-      rw (left_step k d h, e)
+  rows-step h = rw (left_step k d h)
 
-  pub slots_end : k ≤ d → rows (slot_at r) (a + d) (k - d) ≡ []
+  pub rows_end : k ≤ d → rows f d (k - d) ≡ []
   unfolding rows
-  slots_end h = rw (left-none k d h)
+  rows_end h = rw (left-none k d h)
 
-  module _ (n : ℕ) (h : d < k) where
-    pub image-step : (left left' : ℕ) (m m' : Image)
-        → m' ≡ slot_put left m (slot_of n (slot_at r (a + d))) → left' ≡ slot_left left (slot_of n (slot_at r (a + d)))
-        → put_all n left' m' (rows (slot_at r) (a + (d + 1)) (k - (d + 1))) ≡ put_all n left m (rows (slot_at r) (a + d) (k - d))
-    image-step left left' m m' p q =
-        rw (p, q, slots-step h, put-slot n left m (slot_at r (a + d)) (slot-single r (a + d)), left-slot n left (slot_at r (a + d)) (slot-single r (a + d)))
-        (sym (put_all-append n left m (slot_at r (a + d)) (rows (slot_at r) (a + (d + 1)) (k - (d + 1)))))
+  module _ (n : ℕ) (h : d < k) (s : Slot) (is : s ≡ slot_of n (f d)) (few : length (f d) ≤ 1) (left left' : ℕ) (q : left' ≡ slot_left left s) where
+    pub image-step : (m m' : Image) → m' ≡ slot_put left m s → put_all n left' m' (rows f (d + 1) (k - (d + 1))) ≡ put_all n left m (rows f d (k - d))
+    image-step m m' p =
+        let one = at-most (f d) few in
+        rw (p, q, is, rows-step h, put-slot n left m (f d) one, left-slot n left (f d) one)
+        (sym (put_all-append n left m (f d) (rows f (d + 1) (k - (d + 1)))))
 
-    pub left-step-slot : (left left' : ℕ) → left' ≡ slot_left left (slot_of n (slot_at r (a + d)))
-        → left' - length (rows (slot_at r) (a + (d + 1)) (k - (d + 1))) ≡ left - length (rows (slot_at r) (a + d) (k - d))
-    left-step-slot left left' q =
-        rw (
-          q,
-          slots-step h,
-          left-slot n left (slot_at r (a + d)) (slot-single r (a + d)),
-          length-append (slot_at r (a + d)) (rows (slot_at r) (a + (d + 1)) (k - (d + 1))),
-        )
+    pub left-step-slot : left' - length (rows f (d + 1) (k - (d + 1))) ≡ left - length (rows f d (k - d))
+    left-step-slot =
+        rw (q, is, rows-step h, left-slot n left (f d) (at-most (f d) few), length-append (f d) (rows f (d + 1) (k - (d + 1))))
         (omega arith)
+
+-- a store that is made or not is one at most
+pub few_when : (t : Bool) (s : Store) → length (when t s) ≤ 1
+few_when true s = omega arith
+few_when false s = omega arith
 
 -- ---- the slots by their number
 
@@ -103,13 +104,13 @@ module _ (r : Repair) where
   unfolding slot_at
   slot-unlock c h = rw (lt-ltb c 64 h)
 
-  pub slot-intent : (c d : ℕ) → c ≡ 64 + d → d < 8 → slot_at r c ≡ intent_slot r d
+  slot-intent : (c d : ℕ) → c ≡ 64 + d → d < 8 → slot_at r c ≡ intent_slot r d
   unfolding slot_at
   slot-intent c d q h =
       let e : 64 + d - 64 ≡ d = omega arith in
       rw (q, le-ltb (64 + d) 64 (omega arith), lt-ltb (64 + d) 72 (omega arith), e)
 
-  pub slot-withdraw : (c d : ℕ) → c ≡ 72 + d → d < 8 → slot_at r c ≡ withdraw_slot r d
+  slot-withdraw : (c d : ℕ) → c ≡ 72 + d → d < 8 → slot_at r c ≡ withdraw_slot r d
   unfolding slot_at
   slot-withdraw c d q h =
       let e : 72 + d - 72 ≡ d = omega arith in
@@ -126,6 +127,12 @@ module _ (r : Repair) where
 
   unlock-stores : rows (slot_at r) 0 64 ≡ rows (lock_slot r.freed 0) 0 64
   unlock-stores = rows_same (slot_at r) (lock_slot r.freed 0) 64 0 0 (λ i l. slot-unlock (0 + i) (omega arith))
+
+  intent-stores : rows (slot_at r) 64 8 ≡ rows (intent_slot r) 0 8
+  intent-stores = rows_same (slot_at r) (intent_slot r) 8 64 0 (λ i l. slot-intent (64 + i) (0 + i) (omega arith) (omega arith))
+
+  withdraw-stores : rows (slot_at r) 72 8 ≡ rows (withdraw_slot r) 0 8
+  withdraw-stores = rows_same (slot_at r) (withdraw_slot r) 8 72 0 (λ i l. slot-withdraw (72 + i) (0 + i) (omega arith) (omega arith))
 
   relock-stores : (d : ℕ) → d < 8 → rows (slot_at r) (80 + 64 * d) 64 ≡ rows (lock_slot (get_or r.owed d 0) (d + 1)) 0 64
   relock-stores d h =
@@ -155,26 +162,28 @@ module _ (r : Repair) where
     pub left-relock : left' - length (Relocks (d + 1)) ≡ left - length (Relocks d)
     left-relock = rw (q, relocks-step d h, length-append (rows (lock_slot (get_or r.owed d 0) (d + 1)) 0 64) (Relocks (d + 1))) (omega arith)
 
-  stages : rows (slot_at r) 0 592 ≡ rows (lock_slot r.freed 0) 0 64 ++ (rows (slot_at r) 64 8 ++ (rows (slot_at r) 72 8 ++ rows (slot_at r) 80 512))
+  stages : rows (slot_at r) 0 592 ≡ rows (lock_slot r.freed 0) 0 64 ++ (rows (intent_slot r) 0 8 ++ (rows (withdraw_slot r) 0 8 ++ rows (slot_at r) 80 512))
   stages =
       rw (
         rows_at (slot_at r) 0 64 528 64 592 refl refl,
         unlock-stores,
         rows_at (slot_at r) 64 8 520 72 528 refl refl,
+        intent-stores,
         rows_at (slot_at r) 72 8 512 80 520 refl refl,
+        withdraw-stores,
       )
 
   -- what the four stages leave, one after the other
   pub stages-leave : (n left left₁ left₂ left₃ left₄ : ℕ) (m m₁ m₂ m₃ m₄ : Image)
       → m₁ ≡ put_all n left m (rows (lock_slot r.freed 0) 0 64) → left₁ ≡ left - length (rows (lock_slot r.freed 0) 0 64)
-      → m₂ ≡ put_all n left₁ m₁ (rows (slot_at r) 64 8) → left₂ ≡ left₁ - length (rows (slot_at r) 64 8)
-      → m₃ ≡ put_all n left₂ m₂ (rows (slot_at r) 72 8) → left₃ ≡ left₂ - length (rows (slot_at r) 72 8)
+      → m₂ ≡ put_all n left₁ m₁ (rows (intent_slot r) 0 8) → left₂ ≡ left₁ - length (rows (intent_slot r) 0 8)
+      → m₃ ≡ put_all n left₂ m₂ (rows (withdraw_slot r) 0 8) → left₃ ≡ left₂ - length (rows (withdraw_slot r) 0 8)
       → m₄ ≡ put_all n left₃ m₃ (rows (slot_at r) 80 512) → left₄ ≡ left₃ - length (rows (slot_at r) 80 512)
       → (m₄ ≡ put_all n left m (rows (slot_at r) 0 592)) × (left₄ ≡ left - length (rows (slot_at r) 0 592))
   stages-leave n left left₁ left₂ left₃ left₄ m m₁ m₂ m₃ m₄ p₁ q₁ p₂ q₂ p₃ q₃ p₄ q₄ =
       let A = rows (lock_slot r.freed 0) 0 64 in
-      let B = rows (slot_at r) 64 8 in
-      let C = rows (slot_at r) 72 8 in
+      let B = rows (intent_slot r) 0 8 in
+      let C = rows (withdraw_slot r) 0 8 in
       let D = rows (slot_at r) 80 512 in (
         rw (
           stages,

@@ -1,14 +1,13 @@
 -- What an accepted recovery stores, as the code has it: the sets and owed sets that decide it, worked out before the first
 -- store (`repair_of`), and the 592 slots of a repair, each a store or empty, in document 01's order (`slot_at`).
-use Rattle.std.specs.Prelude.{ℕ, suc, zero, ◌+◌, ◌-◌, ◌/◌, ◌%◌, cond, List, [], ◌∷◌, get_or, replicate, ltb}
+use Rattle.std.specs.Prelude.{ℕ, suc, zero, ◌+◌, ◌-◌, ◌/◌, ◌%◌, cond, List, [], ◌∷◌, get_or, replicate, ltb, Option, Some, None, ◌≡◌, ◌<◌, ◌≤◌, length}
 use Rattle.std.specs.Int.Bits.{bit_or}
 use Rattle.mask.specs.Mask.{has, with}
 use Rattle.image.specs.declared.Field.TheVariants.{Count, Intent}
 use Rattle.image.specs.Place.{lock, field, Memory, Store}
 use Rattle.image.specs.Image.{Image, index_of, at, workers, put}
 use Rattle.repair.specs.declared.Repair.{Repair}
-use Rattle.repair.specs.declared.Slot.{Slot}
-use Rattle.repair.specs.declared.Slot.TheVariants.{Empty, Store as Filled}
+use Rattle.image.specs.declared.Word.{Word}
 use Rattle.repair.specs.Plan.{◌≔◌, when, unbegun}
 use Rattle.soundness.specs.Sound.{eight, owed_at}
 
@@ -60,15 +59,22 @@ slot_at r c =
     (cond (ltb c 592) (relock_slot r ((c - 80) / 64) ((c - 80) % 64)) [])))
 
 -- how the code says a slot
+abbrev pub Slot : Type 0
+Slot = Option Word
+
 abbrev pub slot_of : ℕ → List Store → Slot
-slot_of n [] = Empty
-slot_of n (s ∷ ss) = Filled (index_of n s.place) s.value
+slot_of n [] = None
+slot_of n (s ∷ ss) = Some (record { at = index_of n s.place; value = s.value })
 
 -- what making its store leaves
 abbrev pub slot_put : ℕ → Image → Slot → Image
-slot_put left m Empty = m
-slot_put left m (Filled i v) = put left m i v
+slot_put left m None = m
+slot_put left m (Some w) = put left m w.at w.value
 
 abbrev pub slot_left : ℕ → Slot → ℕ
-slot_left left Empty = left
-slot_left left (Filled i v) = left - 1
+slot_left left None = left
+slot_left left (Some w) = left - 1
+
+-- what a call gives for each of the eight workers is its row, of one store at most
+abbrev pub Slots : ℕ → (ℕ → List Store) → (ℕ → Slot → Type 0) → Type 0
+Slots n f gives = (d : ℕ) (s : Slot) → d < 8 → gives d s → (s ≡ slot_of n (f d)) × (length (f d) ≤ 1)

@@ -21,9 +21,3 @@ pub struct Repair {
     // The owed set of each worker.
     pub owed: [u64; 8],
 }
-
-#[derive(Clone, Copy)]
-pub enum Slot {
-    Store { at: usize, value: u64 },
-    Empty,
-}

@@ -1,6 +1,5 @@
 // What decides the stores of a recovery, read off the image before the first of them.
-ghost use Rattle.std.specs.Prelude.{◌≡◌, cond};
-ghost use Rattle.mask.specs.Mask.{with};
+ghost use Rattle.std.specs.Prelude.{◌≡◌};
 ghost use Rattle.image.specs.Image.{at, workers};
 ghost use Rattle.image.specs.Inner.Inside.{Inside};
 ghost use Rattle.soundness.specs.Sound.{eight, owed_at};
@@ -18,10 +17,8 @@ fn freed(image: &[u64], own: usize) -> u64
 {
     let n = image::workers(image) as usize;
     let mut set: u64 = 0;
-    let mut d: usize = 0;
-    while d < n {
-        set = set | image::read_field(image, Field::Intent, d, own);
-        d += 1;
+    for d in 0..n {
+        set |= image::read_field(image, Field::Intent, d, own);
     }
     set
 }
@@ -31,21 +28,8 @@ fn unbegun(image: &[u64], d: usize, own: usize) -> bool
     requires { Inside own image.now d }
     ensures { result ≡ unbegun (at own image.now) d }
 {
-    if image::read_field(image, Field::Pc, d, own) != 0 {
-        return false;
-    }
-    image::read_field(image, Field::Count, d, own) != 0
-}
-
-// A set of workers, with worker d where its section is withdrawn.
-fn with_withdrawn(image: &[u64], set: u64, d: usize, own: usize) -> u64
-    requires { Inside own image.now d }
-    ensures { result ≡ cond (unbegun (at own image.now) d) (with set d) set }
-{
-    if !unbegun(image, d, own) {
-        return set;
-    }
-    mask::with(set, d as u64)
+    image::read_field(image, Field::Pc, d, own) == 0
+        && image::read_field(image, Field::Count, d, own) != 0
 }
 
 // The workers whose sections are withdrawn.
@@ -55,15 +39,16 @@ fn withdrawn(image: &[u64], own: usize) -> u64
 {
     let n = image::workers(image) as usize;
     let mut set: u64 = 0;
-    let mut d: usize = 0;
-    while d < n {
-        set = with_withdrawn(image, set, d, own);
-        d += 1;
+    for d in 0..n {
+        if unbegun(image, d, own) {
+            set = mask::with(set, d as u64);
+        }
     }
     set
 }
 
 // The repair, with the owed sets that the test of the records found.
+#[tactic(auto, unfolding(crate::specs::Repair::repair_of))]
 pub fn repair(image: &[u64], sets: [u64; 8], own: usize) -> Repair
     requires { (Restorable own image.now) × (sets ≡ eight (owed_at own (at own image.now) (workers image.now))) }
     ensures { result ≡ repair_of own image.now }
@@ -77,6 +62,7 @@ pub fn repair(image: &[u64], sets: [u64; 8], own: usize) -> Repair
 }
 
 // The repair that stores nothing.
+#[tactic(auto, unfolding(crate::specs::Repair::no_repair))]
 pub fn no_repair() -> Repair
     ensures { result ≡ no_repair }
 {

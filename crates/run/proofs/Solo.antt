@@ -1,17 +1,16 @@
 -- The rounds of a run in which one worker alone is open: each is a turn of that worker (`round-alone`), so that turns of it one after another are as many
--- rounds (`rounds-alone`). So what a run keeps between rounds it keeps over them (`laps-alone`). The rest is the record, which is written for an idle worker
--- first (`settled_on`, `settled-idle`), and is as it was where no turn is made (`settled_same`).
+-- rounds (`rounds-alone`). So what a run keeps between rounds it keeps over them (`laps-alone`). The record is as it was
+-- where no turn is made (`settled_same`).
 use Prim.Native.Nat.{ℕ, zero, suc, ◌+◌, ◌*◌, ◌-◌, ◌<◌, ◌≤◌}
 use mathlib.Core.Path.{◌≡◌, refl, sym, ap, subst, ◌∙◌}
-use mathlib.Core.Bool.{Bool, true, false, cond, ◌&&◌, true≢false}
+use mathlib.Core.Bool.{Bool, true, false, cond, true≢false}
 use mathlib.Core.Logic.{◌≢◌}
 use native.Mathlib.Omega.{arith}
 use lib.ListN.{get_or, length-set}
 use lib.Seq.{get_or-set_same, set-set, set-get_or}
 use lib.Dec.{eqb, ltb}
-use borrow.Author.Tests.{eqb-true, ltb-true, ltb-false}
+use borrow.Author.Tests.{ltb-true, ltb-false}
 use Rattle.base.proofs.Counting.{left-all}
-use Rattle.base.proofs.Bools.{and_left, and_right}
 use Rattle.image.specs.Image.{Image, index_of, at}
 use Rattle.image.proofs.Header.{Sized}
 use Rattle.tally.specs.declared.Tally.{Tally}
@@ -248,19 +247,7 @@ module _ (own n rounds : ℕ) {s₀ r : Counting} {round to : ℕ} (l : Laps own
         → Laps own n rounds s₀ (counting (world b.image e b.left) b.tally) (i + k) j × (open_to (j - 1) e ≡ 0)
     laps-alone e p = rw p (laps-spread, none_below (j - 1) (omega (arith, most-ends)))
 
--- ---- the record, written for an idle worker and then for where the worker stands
-
-module _ (c e : Cursors) (g h d s t : ℕ) where
-  pub settled_on : e ≡ set_at (set_at c d 0 255) d s t → holding h e ≡ holding h (set_at (holding g c) d s t)
-  unfolding set_at
-  settled_on p = ap (holding h) p ∙ simp set-set
-
-  pub settled-idle : e ≡ set_at c d 0 255 → eqb s 0 && eqb t 255 ≡ true → holding h e ≡ holding h (set_at (holding g c) d s t)
-  unfolding set_at
-  settled-idle p q =
-      let i = eqb-true s 0 (and_left (eqb s 0) (eqb t 255) q) in
-      let j = eqb-true t 255 (and_right (eqb s 0) (eqb t 255) q) in
-      ap (holding h) p ∙ rw (i, j)
+-- ---- the record, where no turn is made
 
 pub settled_same : (c : Cursors) (d : ℕ) {s t : ℕ} → s ≡ get_or c.step d 0 → t ≡ get_or c.turn d 0 → set_at c d s t ≡ c
 unfolding set_at

@@ -1,13 +1,15 @@
 // The turns of a worker that alone is open, in a round of a run: made back to back where they can be, as many as fit in the rounds left.
-ghost use Rattle.std.specs.Prelude.{◌≡◌, ◌&&◌, ◌+◌, ◌≤◌, eqb};
+ghost use Rattle.std.specs.Prelude.{◌≡◌, ◌+◌, ◌<◌, ◌≤◌};
 ghost use Rattle.image.specs.Inner.Inside.{Inside};
 ghost use Rattle.tally.specs.Tally.{RoomFor};
 ghost use Rattle.tally.specs.Inner.Passes.{passed};
+ghost use Rattle.working.specs.Cursor.{set_at};
 ghost use Rattle.run.specs.Inner.Alone.{went_on, WentAlone};
 
 use stretch::whole::instructions;
 use stretch::{Stretch, Walk, plain};
 use tally::Tally;
+use working::Cursors;
 
 // A stretch with whole instructions more.
 fn went(x: Stretch, y: Walk) -> Stretch
@@ -44,39 +46,36 @@ pub fn turns(
         turns: 0,
         step: s,
         turn: t,
-        held: held,
-        tally: tally,
+        held,
+        tally,
     };
     let x = instructions(image, d, s, t, own, rounds, held, left);
     if x.turns != 0 {
         return went(start, x);
     }
-    let y = plain(image, d, s, t, own, rounds, held, tally, left);
-    if !y.made {
+    let Some(y) = plain(image, d, s, t, own, rounds, held, tally, left) else {
         return start;
-    }
-    let z = y.stretch;
-    went(
-        z,
-        instructions(
-            image,
-            d,
-            z.step,
-            z.turn,
-            own,
-            rounds - z.turns,
-            z.held,
-            left,
-        ),
-    )
+    };
+    let z = instructions(
+        image,
+        d,
+        y.step,
+        y.turn,
+        own,
+        rounds - y.turns,
+        y.held,
+        left,
+    );
+    went(y, z)
 }
 
-// Whether these are the numbers of an idle worker, as they are written.
-pub fn rests(s: u8, t: u8) -> bool
-    ensures { result ≡ eqb s 0 && eqb t 255 }
+// Worker d put at step s, turn t, in a record that has it idle: an idle worker's numbers are not stored again.
+pub fn settle(c: &mut Cursors, d: usize, s: u8, t: u8)
+    requires { d < 8 }
+    ensures { (r : Cursors) → c.old ≡ set_at r d 0 255 → c.new ≡ set_at r d s t }
 {
-    if s != 0 {
-        return false;
+    if s != 0 || t != 255 {
+        c.step[d] = s;
+        c.turn[d] = t;
     }
-    t == 255
 }

@@ -1,6 +1,7 @@
 // Runs: rounds of turns over the workers, counted in a tally.
 #![tactic(auto)]
 
+use image::Edition;
 use tally::Tally;
 use working::{Cursors, Refusal};
 
@@ -34,12 +35,10 @@ fn open_to(turn: [u8; 8], n: usize) -> usize
     requires { n ≤ 8 }
     ensures { (c : Cursors) → c.turn ≡ turn → result ≡ open_to n c }
 {
-    let mut k = n;
-    while 0 < k {
-        if turn[k - 1] != 255 {
-            return k;
+    for k in (0..n).rev() {
+        if turn[k] != 255 {
+            return k + 1;
         }
-        k -= 1;
     }
     0
 }
@@ -49,10 +48,7 @@ fn open_below(turn: [u8; 8], to: usize) -> usize
     requires { to ≤ 8 }
     ensures { (c : Cursors) → c.turn ≡ turn → result ≡ open_to (to - 1) c }
 {
-    if to == 0 {
-        return 0;
-    }
-    open_to(turn, to - 1)
+    open_to(turn, to.saturating_sub(1))
 }
 
 // The same for the workers up to d, by the turn at which d is now and the number for those below it.
@@ -60,10 +56,7 @@ fn open_with(t: u8, d: usize, below: usize) -> usize
     requires { d < 8 }
     ensures { result ≡ cond (eqb t 255) below (d + 1) }
 {
-    if t == 255 {
-        return below;
-    }
-    d + 1
+    if t == 255 { below } else { d + 1 }
 }
 
 // Rounds over n workers until all are idle, the rounds are spent, or a turn is refused. Idle workers have no turn, and
@@ -99,45 +92,35 @@ fn rounds_of(
             break End::Spent;
         }
         let mut next: usize = 0;
-        let mut d: usize = 0;
-        while d < to {
+        for d in 0..to {
             let s = c.step[d];
             let t = c.turn[d];
             if t == 255 {
-                d += 1;
                 continue;
             }
             if below == 0 {
                 c.step[d] = 0;
                 c.turn[d] = 255;
                 let w = alone::turns(image, d, s, t, own, rounds - round, held, tally, left);
-                if !alone::rests(w.step, w.turn) {
-                    c.step[d] = w.step;
-                    c.turn[d] = w.turn;
-                }
+                alone::settle(&mut c, d, w.step, w.turn);
                 if w.turns == 0 {
                     break 'rounds End::Halted(Refusal::Cursor(d));
                 }
                 held = w.held;
-                let counted = w.tally;
-                tally = counted;
+                tally = w.tally;
                 to = open_with(w.turn, d, 0);
                 round += w.turns;
                 continue 'rounds;
             }
-            let lap = round::lap_in_place(image, d, s, t, own, round, left);
-            if !lap.made {
+            let Some(acted) = round::lap(image, d, s, t, own, round, left) else {
                 break 'rounds End::Halted(Refusal::Cursor(d));
-            }
-            let acted = lap.acted;
+            };
             c.step[d] = acted.step;
             c.turn[d] = acted.turn;
-            let did = acted.did;
-            held = turn::held_after(did, held);
-            tally = turn::counted(did, tally);
+            held = turn::held_after(acted.did, held);
+            tally = turn::counted(acted.did, tally);
             next = open_with(c.turn[d], d, next);
             ended = ended || acted.turn == 255;
-            d += 1;
         }
         if ended {
             let turn = c.turn;
@@ -149,19 +132,18 @@ fn rounds_of(
     };
     c.held = held;
     Ran {
-        end: end,
+        end,
         cursors: c,
-        tally: tally,
+        tally,
     }
 }
 
 // Rounds of turns until all workers are idle. The header is tested once.
-pub fn run(image: &mut [u64], c: Cursors, rounds: u16, mark: u64, own: usize, left: &mut u64) -> Ran
-    requires { own ≤ 64 }
+pub fn run(image: &mut [u64], c: Cursors, rounds: u16, e: Edition, left: &mut u64) -> Ran
     ensures { ran result.end (counting (world image.new result.cursors left.new) result.tally)
-        ≡ run_of mark own (world image.old c left.old) rounds }
+        ≡ run_of e.mark e.own (world image.old c left.old) rounds }
 {
-    if !image::header_ok(image, mark, own) {
+    if !image::header_ok(image, e) {
         return Ran {
             end: End::Halted(Refusal::Image),
             cursors: c,
@@ -169,5 +151,5 @@ pub fn run(image: &mut [u64], c: Cursors, rounds: u16, mark: u64, own: usize, le
         };
     }
     let n = image::workers(image) as usize;
-    rounds_of(image, c, n, own, rounds, left)
+    rounds_of(image, c, n, e.own, rounds, left)
 }

@@ -1,4 +1,4 @@
-// The turns of a round, one by one: for the loop of a run (`lap_in_place`), and made and printed by themselves (`turn`, `only`, `next`), by one contract.
+// The turns of a round, one by one: for the loop of a run (`lap`), and made and printed by themselves (`only`, `next`), by one function.
 ghost use Rattle.std.specs.Prelude.{◌≡◌, true, false, ◌≢◌, ◌-◌, ◌<◌, ◌≤◌};
 ghost use Rattle.image.specs.Image.{at};
 ghost use Rattle.image.specs.Inner.Inside.{Inside};
@@ -7,17 +7,11 @@ ghost use Rattle.working.specs.World.{world};
 ghost use Rattle.working.specs.Cursor.{is_idle, cursor_at};
 ghost use Rattle.turn.specs.Call.{answer_of, leaves, outcome_at, outcome};
 ghost use Rattle.run.specs.Round.{next_open, next_worker, next_outcome};
-ghost use Rattle.run.specs.Inner.Lap.{no_lap, Lapped};
+ghost use Rattle.run.specs.Inner.Lap.{Lapped};
 
-use turn::{Acted, Answer, Did, Turned};
+use image::Edition;
+use turn::{Acted, Answer, Turned};
 use working::{Cursors, Refusal};
-
-// An open worker's turn in a round: whether it is made, and what it did; where it is refused, nothing, as if it waited.
-#[derive(Clone, Copy)]
-pub struct Lap {
-    pub made: bool,
-    pub acted: Acted,
-}
 
 // The next turn of a round: whose it is, its answer, and the record behind it.
 #[derive(Clone, Copy)]
@@ -32,30 +26,12 @@ fn ready_in(image: &[u64], d: usize, own: usize, s: u8, t: u8, round: u16) -> bo
     requires { (Inside own image.now d) × (t ≢ 0 → round ≢ 0 → ready own (at own image.now) d s t ≡ true) }
     ensures { result ≡ ready own (at own image.now) d s t }
 {
-    if t != 0 {
-        if round != 0 {
-            return true;
-        }
-    }
-    plan::ready(image, d, own, s, t)
+    t != 0 && round != 0 || plan::ready(image, d, own, s, t)
 }
 
-// A turn that is refused, at step s, turn t.
-fn refused(s: u8, t: u8) -> Lap
-    ensures { result ≡ no_lap s t }
-{
-    Lap {
-        made: false,
-        acted: Acted {
-            did: Did::Waiting(0),
-            step: s,
-            turn: t,
-        },
-    }
-}
-
-// One turn of a round: that of worker d, which is open at step s, turn t.
-pub fn turn(
+// One turn of a round: that of worker d, which is open at step s, turn t; none where it is not ready. It is put into its callers, with the turn in it.
+#[inline(always)]
+pub(crate) fn lap(
     image: &mut [u64],
     d: usize,
     s: u8,
@@ -63,39 +39,14 @@ pub fn turn(
     own: usize,
     round: u16,
     left: &mut u64,
-) -> Lap
+) -> Option<Acted>
     requires { (Inside own image.old d) × (t ≢ 0 → round ≢ 0 → ready own (at own image.old) d s t ≡ true) }
     ensures { Lapped own image.old left.old image.new left.new d s t result }
 {
     if !ready_in(image, d, own, s, t, round) {
-        return refused(s, t);
+        return None;
     }
-    Lap {
-        made: true,
-        acted: turn::turn_on(image, d, s, t, own, left),
-    }
-}
-
-// The same turn for the loop of a run, which alone calls it: the compiler puts it there, with the turn in it (`turn::turn_in_place`).
-pub(crate) fn lap_in_place(
-    image: &mut [u64],
-    d: usize,
-    s: u8,
-    t: u8,
-    own: usize,
-    round: u16,
-    left: &mut u64,
-) -> Lap
-    requires { (Inside own image.old d) × (t ≢ 0 → round ≢ 0 → ready own (at own image.old) d s t ≡ true) }
-    ensures { Lapped own image.old left.old image.new left.new d s t result }
-{
-    if ready_in(image, d, own, s, t, round) {
-        return Lap {
-            made: true,
-            acted: turn::turn_in_place(image, d, s, t, own, left),
-        };
-    }
-    refused(s, t)
+    Some(turn::turn_in_place(image, d, s, t, own, left))
 }
 
 // The first open worker from d on, of n; n where there is none, or d where that is past n.
@@ -103,24 +54,19 @@ pub(crate) fn next_open(c: Cursors, d: usize, n: usize) -> usize
     requires { n ≤ 8 }
     ensures { result ≡ next_open (n - d) d c }
 {
-    let mut k = d;
-    while k < n {
-        if c.turn[k] != 255 {
+    for k in d..n {
+        if !c.idle(k) {
             return k;
         }
-        k += 1;
     }
-    k
+    d.max(n)
 }
 
 // A turn that is not made: the record is as it was.
 fn told(answer: Answer, c: Cursors) -> Turned
     ensures { result ≡ record { answer = answer; cursors = c } }
 {
-    Turned {
-        answer: answer,
-        cursors: c,
-    }
+    Turned { answer, cursors: c }
 }
 
 // The turn of worker d, which is open, by itself.
@@ -130,57 +76,40 @@ fn open_turn(image: &mut [u64], c: Cursors, d: usize, own: usize, left: &mut u64
     ensures after { world image.new result.cursors left.new
         ≡ leaves own (world image.old c left.old) d (outcome_at own (world image.old c left.old) d) }
 {
-    let lap = turn(image, d, c.step[d], c.turn[d], own, 0, left);
-    if !lap.made {
+    let Some(acted) = lap(image, d, c.step[d], c.turn[d], own, 0, left) else {
         return told(Answer::Refused(Refusal::Cursor(d)), c);
-    }
-    let acted = lap.acted;
+    };
     turn::told(c, d, acted)
 }
 
 // The turn of worker d by itself, as a line of turns makes it: what a turn call makes (`turn::turn`), by the functions of a round.
-pub fn only(
-    image: &mut [u64],
-    c: Cursors,
-    d: usize,
-    mark: u64,
-    own: usize,
-    left: &mut u64,
-) -> Turned
-    requires { own ≤ 64 }
-    ensures answer { result.answer ≡ answer_of own (outcome mark own (world image.old c left.old) d) }
+// (Two, since a turn call whose function has a second caller takes half as long again: docs/DECISIONS.md.)
+pub fn only(image: &mut [u64], c: Cursors, d: usize, e: Edition, left: &mut u64) -> Turned
+    ensures answer { result.answer ≡ answer_of e.own (outcome e.mark e.own (world image.old c left.old) d) }
     ensures after { world image.new result.cursors left.new
-        ≡ leaves own (world image.old c left.old) d (outcome mark own (world image.old c left.old) d) }
+        ≡ leaves e.own (world image.old c left.old) d (outcome e.mark e.own (world image.old c left.old) d) }
 {
-    if !image::header_ok(image, mark, own) {
+    if !image::header_ok(image, e) {
         return told(Answer::Refused(Refusal::Image), c);
     }
     if image::workers(image) <= d as u64 {
         return told(Answer::Refused(Refusal::Worker), c);
     }
-    if working::idle(c, d) {
+    if c.idle(d) {
         return told(Answer::Idle, c);
     }
-    open_turn(image, c, d, own, left)
+    open_turn(image, c, d, e.own, left)
 }
 
 // The next turn of a round by itself, from worker d on: that of the first open worker; it answers idle where there is none. The header is tested.
-pub fn next(
-    image: &mut [u64],
-    c: Cursors,
-    d: usize,
-    mark: u64,
-    own: usize,
-    left: &mut u64,
-) -> NextTurn
-    requires { own ≤ 64 }
-    ensures worker { result.worker ≡ next_worker mark own (world image.old c left.old) d }
-    ensures answer { result.answer ≡ answer_of own (next_outcome mark own (world image.old c left.old) d) }
+pub fn next(image: &mut [u64], c: Cursors, d: usize, e: Edition, left: &mut u64) -> NextTurn
+    ensures worker { result.worker ≡ next_worker e.mark e.own (world image.old c left.old) d }
+    ensures answer { result.answer ≡ answer_of e.own (next_outcome e.mark e.own (world image.old c left.old) d) }
     ensures after { world image.new result.cursors left.new
-        ≡ leaves own (world image.old c left.old) result.worker
-        (next_outcome mark own (world image.old c left.old) d) }
+        ≡ leaves e.own (world image.old c left.old) result.worker
+        (next_outcome e.mark e.own (world image.old c left.old) d) }
 {
-    if !image::header_ok(image, mark, own) {
+    if !image::header_ok(image, e) {
         return NextTurn {
             worker: d,
             answer: Answer::Refused(Refusal::Image),
@@ -196,12 +125,10 @@ pub fn next(
             cursors: c,
         };
     }
-    let t = open_turn(image, c, k, own, left);
-    let answer = t.answer;
-    let after = t.cursors;
+    let t = open_turn(image, c, k, e.own, left);
     NextTurn {
         worker: k,
-        answer: answer,
-        cursors: after,
+        answer: t.answer,
+        cursors: t.cursors,
     }
 }

@@ -2,6 +2,7 @@
 -- that passes, each part of validity from the tests of the steps, and for a valid section each test of a step, by cases on
 -- its instruction. Further: the check reads only the section's own words, and what a valid section holds.
 use Prim.Native.Nat.{ℕ, zero, suc, ◌+◌, ◌-◌, ◌/◌, ◌^◌, ◌<◌, ◌≤◌}
+use Rattle.std.proofs.Common.{Ok, Err}
 use mathlib.Core.Path.{◌≡◌, refl, sym, ap, subst, ◌∙◌}
 use mathlib.Core.Bool.{Bool, true, false, cond, ◌&&◌, not, false≢true, and-eq-true_iff}
 use native.Mathlib.Omega.{arith}
@@ -12,12 +13,10 @@ use Rattle.mask.proofs.Sets.{above-none}
 use Rattle.code.specs.declared.Expr.{Expr}
 use Rattle.code.specs.declared.Op.{Op}
 use Rattle.code.specs.declared.Op.TheVariants.{Acquire, Release, Assign, Jump, Finish, Unknown}
-use Rattle.section.specs.declared.Verdict.{Verdict}
-use Rattle.section.specs.declared.Verdict.TheVariants.{Pass, Length, Malformed, Unbracketed, Unordered, Unguarded, Unlevel}
+use Rattle.section.specs.declared.Fault.TheVariants.{Length, Malformed}
 use Rattle.code.specs.Op.{op_of, is_finish}
 use Rattle.rules.specs.Rules.{covered, covered_in, begins, goes_on, bracketed, ordered, guarded}
-use Rattle.section.specs.Check.{Code, held_before, level, or_else, first_of, form_of, use_of}
-use Rattle.section.specs.Check.{check}
+use Rattle.section.specs.Check.{Verdict, Code, held_before, level, or_else, first_of, form_of, in_turn, use_of, check, passes}
 use Rattle.code.specs.Form.{in_range, in_place, well_formed}
 use Rattle.section.specs.Valid.{Valid}
 use Rattle.code.proofs.Ranges.{known}
@@ -26,33 +25,29 @@ use Rattle.section.proofs.First.{or-pass, or-cong, first-all, all_first, first_c
 
 -- ---- one step
 
-private-form : (b : Bool) (i : ℕ) → cond b Pass (Malformed i) ≡ Pass → b ≡ true
+private-form : (b : Bool) (i : ℕ) → passes (cond b (Ok tt) (Err (Malformed i))) ≡ true → b ≡ true
 private-form true i e = refl
-private-form false i e = cc
+private-form false i e = e
 
-pub form-pass : (own n : ℕ) (code : Code) (i : ℕ) → form_of own n code i ≡ Pass → well_formed own n i (code i) ≡ true
+pub form-pass : (own n : ℕ) (code : Code) (i : ℕ) → form_of own n code i ≡ Ok tt → well_formed own n i (code i) ≡ true
 unfolding form_of
-form-pass own n code i e = private-form (well_formed own n i (code i)) i e
+form-pass own n code i e = private-form (well_formed own n i (code i)) i (ap passes e)
 
-pub pass-form : (own n : ℕ) (code : Code) (i : ℕ) → well_formed own n i (code i) ≡ true → form_of own n code i ≡ Pass
+pub pass-form : (own n : ℕ) (code : Code) (i : ℕ) → well_formed own n i (code i) ≡ true → form_of own n code i ≡ Ok tt
 unfolding form_of
 pass-form own n code i e = rw e
 
--- four tests in turn
-abbrev in_turn : ℕ → Bool → Bool → Bool → Bool → Verdict
-in_turn i p q r s = cond p (cond q (cond r (cond s Pass (Unlevel i)) (Unguarded i)) (Unordered i)) (Unbracketed i)
-
-private-use : (i : ℕ) (p q r s : Bool) → in_turn i p q r s ≡ Pass → (p ≡ true) × (q ≡ true) × (r ≡ true) × (s ≡ true)
+private-use : (i : ℕ) (p q r s : Bool) → in_turn i p q r s ≡ Ok tt → (p ≡ true) × (q ≡ true) × (r ≡ true) × (s ≡ true)
 private-use i true true true true e = (refl, refl, refl, refl)
 private-use i true true true false e = (refl, refl, refl, (cc))
 private-use i true true false s e = (refl, refl, (cc), (cc))
 private-use i true false r s e = (refl, (cc), (cc), (cc))
 private-use i false q r s e = ((cc), (cc), (cc), (cc))
 
-private-used : (i : ℕ) (p q r s : Bool) → p ≡ true → q ≡ true → r ≡ true → s ≡ true → in_turn i p q r s ≡ Pass
+private-used : (i : ℕ) (p q r s : Bool) → p ≡ true → q ≡ true → r ≡ true → s ≡ true → in_turn i p q r s ≡ Ok tt
 private-used i p q r s a b c d = rw (a, b, c, d)
 
-pub use-pass : (code : Code) (i : ℕ) → use_of code i ≡ Pass
+pub use-pass : (code : Code) (i : ℕ) → use_of code i ≡ Ok tt
     → (bracketed i (held_before code i) (op_of (code i)) ≡ true) × (ordered (held_before code i) (op_of (code i)) ≡ true) ×
     (guarded (held_before code i) (op_of (code i)) ≡ true) × (level code (held_before code i) (op_of (code i)) ≡ true)
 unfolding use_of
@@ -62,7 +57,7 @@ use-pass code i e =
     private-use i (bracketed i h x) (ordered h x) (guarded h x) (level code h x) e
 
 pub pass-use : (code : Code) (i : ℕ) → bracketed i (held_before code i) (op_of (code i)) ≡ true → ordered (held_before code i) (op_of (code i)) ≡ true
-    → guarded (held_before code i) (op_of (code i)) ≡ true → level code (held_before code i) (op_of (code i)) ≡ true → use_of code i ≡ Pass
+    → guarded (held_before code i) (op_of (code i)) ≡ true → level code (held_before code i) (op_of (code i)) ≡ true → use_of code i ≡ Ok tt
 unfolding use_of
 pass-use code i a b c d =
     let h = held_before code i in
@@ -71,12 +66,12 @@ pass-use code i a b c d =
 
 -- ---- all steps
 
-private-length : (b : Bool) (v : Verdict) → cond b v Length ≡ Pass → (b ≡ true) × (v ≡ Pass)
+private-length : (b : Bool) (v : Verdict) → cond b v (Err Length) ≡ Ok tt → (b ≡ true) × (v ≡ Ok tt)
 private-length true v e = (refl, e)
 private-length false v e = ((cc), (cc))
 
-pub check-parts : (own n : ℕ) (code : Code) → check own n code ≡ Pass
-    → (3 ≤ n) × (n ≤ 64) × ((i : ℕ) → i < n → well_formed own n i (code i) ≡ true) × ((i : ℕ) → i < n → use_of code i ≡ Pass)
+pub check-parts : (own n : ℕ) (code : Code) → check own n code ≡ Ok tt
+    → (3 ≤ n) × (n ≤ 64) × ((i : ℕ) → i < n → well_formed own n i (code i) ≡ true) × ((i : ℕ) → i < n → use_of code i ≡ Ok tt)
 unfolding check
 check-parts own n code e =
     let forms = first_of (form_of own n code) 0 n in
@@ -90,17 +85,17 @@ check-parts own n code e =
       λ i h. first-all (use_of code) 0 n u i (omega arith) (omega arith),
     )
 
-pub parts-check : (own n : ℕ) (code : Code) → 3 ≤ n → n ≤ 64 → ((i : ℕ) → i < n → well_formed own n i (code i) ≡ true) → ((i : ℕ) → i < n → use_of code i ≡ Pass)
-    → check own n code ≡ Pass
+pub parts-check : (own n : ℕ) (code : Code) → 3 ≤ n → n ≤ 64 → ((i : ℕ) → i < n → well_formed own n i (code i) ≡ true)
+    → ((i : ℕ) → i < n → use_of code i ≡ Ok tt) → check own n code ≡ Ok tt
 unfolding check
 parts-check own n code l m f u =
-    let forms : first_of (form_of own n code) 0 n ≡ Pass = all_first (form_of own n code) 0 n (λ i a b. pass-form own n code i (f i (omega arith))) in
-    let uses : first_of (use_of code) 0 n ≡ Pass = all_first (use_of code) 0 n (λ i a b. u i (omega arith)) in
+    let forms : first_of (form_of own n code) 0 n ≡ Ok tt = all_first (form_of own n code) 0 n (λ i a b. pass-form own n code i (f i (omega arith))) in
+    let uses : first_of (use_of code) 0 n ≡ Ok tt = all_first (use_of code) 0 n (λ i a b. u i (omega arith)) in
     rw (le-leb 3 n l, le-leb n 64 m, forms, uses)
 
 -- ---- a section that passes is valid
 
-module _ (own n : ℕ) (code : Code) (p : check own n code ≡ Pass) where
+module _ (own n : ℕ) (code : Code) (p : check own n code ≡ Ok tt) where
   step_range : (i : ℕ) → i < n → in_range own (code i) ≡ true
   unfolding well_formed
   step_range i l = ((and-eq-true_iff (in_range own (code i)) (in_place n i (op_of (code i)))).0 ((check-parts own n code p).2 i l)).0
@@ -108,7 +103,8 @@ module _ (own n : ℕ) (code : Code) (p : check own n code ≡ Pass) where
   step-place : (i : ℕ) (x : Op) → i < n → op_of (code i) ≡ x → in_place n i x ≡ true
   unfolding well_formed
   step-place i x l o =
-      subst (λ (y : Op). in_place n i y ≡ true) o ((and-eq-true_iff (in_range own (code i)) (in_place n i (op_of (code i)))).0 ((check-parts own n code p).2 i l)).1
+      subst (λ (y : Op). in_place n i y ≡ true) o
+      ((and-eq-true_iff (in_range own (code i)) (in_place n i (op_of (code i)))).0 ((check-parts own n code p).2 i l)).1
 
   step-uses : (i : ℕ) (x : Op) → i < n → op_of (code i) ≡ x
       → (bracketed i (held_before code i) x ≡ true) × (ordered (held_before code i) x ≡ true) × (guarded (held_before code i) x ≡ true) ×
@@ -145,7 +141,8 @@ module _ (own n : ℕ) (code : Code) (p : check own n code ≡ Pass) where
       let e : i + 1 ≡ n = private-only i (omega arith) o in
       omega arith
 
-  private-target : (i a : ℕ) (e : Expr) → i < n → op_of (code i) ≡ Assign a e → (covered (held_before code i) a ≡ true) × (covered_in (held_before code i) e ≡ true)
+  private-target : (i a : ℕ) (e : Expr) → i < n → op_of (code i) ≡ Assign a e
+      → (covered (held_before code i) a ≡ true) × (covered_in (held_before code i) e ≡ true)
   private-target i a e l o =
       let h = held_before code i in
       (and-eq-true_iff (covered h a) (covered_in h e)).0 (step-uses i (Assign a e) l o).2
@@ -155,7 +152,7 @@ module _ (own n : ℕ) (code : Code) (p : check own n code ≡ Pass) where
       let j = place-jump n i a b (step-place i (Jump a b) l o) in
       (j.0, j.1, eqb-true (held_before code b) (held_before code i) (step-uses i (Jump a b) l o).3)
 
-pub passed-valid : (own n : ℕ) (code : Code) → check own n code ≡ Pass → Valid own n code
+pub passed-valid : (own n : ℕ) (code : Code) → check own n code ≡ Ok tt → Valid own n code
 passed-valid own n code p =
     let l : 3 ≤ n = (check-parts own n code p).0 in
     record {
@@ -248,12 +245,12 @@ module _ (own n : ℕ) (code : Code) (v : Valid own n code) where
       let x = op_of (code i) in
       (and-eq-true_iff (in_range own (code i)) (in_place n i x)).1 (v.ranges i l, valid-place i x l refl)
 
-  valid-use : (i : ℕ) → i < n → use_of code i ≡ Pass
+  valid-use : (i : ℕ) → i < n → use_of code i ≡ Ok tt
   valid-use i l =
       let x = op_of (code i) in
       pass-use code i (valid-bracketed i l) (valid-ordered i x l refl) (valid-guarded i x l refl) (valid-level i x l refl)
 
-pub valid-passed : (own n : ℕ) (code : Code) → Valid own n code → check own n code ≡ Pass
+pub valid-passed : (own n : ℕ) (code : Code) → Valid own n code → check own n code ≡ Ok tt
 valid-passed own n code v = parts-check own n code v.least v.most (valid-form own n code v) (valid-use own n code v)
 
 -- ---- the check reads no word past the section
@@ -263,15 +260,15 @@ unfolding check
 check-cong own n code code' s =
     let forms : first_of (form_of own n code) 0 n ≡ first_of (form_of own n code') 0 n = first_cong (form_of own n code) (form_of own n code') 0 n
     (λ i a b. form-cong own n i code code' (s i (omega arith))) in
-    let step : first_of (form_of own n code) 0 n ≡ Pass → (i : ℕ) → i < n → use_of code i ≡ use_of code' i =
+    let step : first_of (form_of own n code) 0 n ≡ Ok tt → (i : ℕ) → i < n → use_of code i ≡ use_of code' i =
     λ f i l. use-cong own n i code code' s l (form-pass own n code i (first-all (form_of own n code) 0 n f i (omega arith) (omega arith)))
     in
-    let uses : first_of (form_of own n code) 0 n ≡ Pass → first_of (use_of code) 0 n ≡ first_of (use_of code') 0 n =
+    let uses : first_of (form_of own n code) 0 n ≡ Ok tt → first_of (use_of code) 0 n ≡ first_of (use_of code') 0 n =
     λ f. first_cong (use_of code) (use_of code') 0 n (λ i a b. step f i (omega arith))
     in
     let both = or-cong (first_of (form_of own n code) 0 n) (first_of (use_of code) 0 n) (first_of (use_of code') 0 n) uses in
     ap
-    (λ (u : Verdict). cond (leb 3 n && leb n 64) u Length)
+    (λ (u : Verdict). cond (leb 3 n && leb n 64) u (Err Length))
     (both ∙ ap (λ (u : Verdict). or_else u (first_of (use_of code') 0 n)) forms)
 
 -- ---- what a valid section holds

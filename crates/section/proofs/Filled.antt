@@ -1,81 +1,103 @@
 -- What the pass over the steps answers and leaves, by how far it has come; and what the pass by itself leaves, which clears the words from the
 -- count up, or where it is refused all of them.
 use Prim.Native.Nat.{ℕ, ◌+◌, ◌<◌, ◌≤◌}
-use mathlib.Core.Path.{◌≡◌, sym, ap, ◌∙◌}
-use mathlib.Core.Bool.{true, false, cond}
+use Rattle.std.proofs.Common.{Ok, Err}
+use mathlib.Core.Path.{◌≡◌, refl, sym, ap, subst, ◌∙◌}
+use mathlib.Core.Bool.{Bool, true, false, cond}
 use mathlib.Core.List.{List}
 use native.Mathlib.Omega.{arith}
-use native.Mathlib.Decide.{ℕ_discrete, dec_lt}
-use lib.ListN.{length, get_or, set, get_or-eq_default}
-use lib.Seq.{get_or-set_same, get_or-set_other}
+use native.Mathlib.Decide.{dec_lt}
+use lib.ListN.{length, get_or, replicate, get_or-eq_default}
+use borrow.Rule.Slice.PartMut.{put_mid}
+use borrow.Author.Rules.{rules}
+use Rattle.std.proofs.lemmas.Grind.{common_steps}
+use Rattle.std.proofs.lemmas.List.{places}
 use lib.Dec.{ltb}
 use borrow.Author.Tests.{lt-ltb, le-ltb}
-use Rattle.section.specs.declared.Verdict.{Verdict}
-use Rattle.section.specs.declared.Verdict.TheVariants.{Pass, Malformed}
-use Rattle.section.specs.Check.{Code, code_of, held_before, passes}
+use Rattle.section.specs.declared.Fault.{Fault}
+use Rattle.section.specs.Check.{Verdict, Code, code_of, first_of, form_of, use_of, passes}
 use Rattle.section.specs.Sets.{length_ok, sets_answer, held_of, sets_leave}
-use Rattle.section.specs.Inner.Pass.{reached, held_to, below, Past, Checked}
-use Rattle.section.proofs.Left.{held_to_lem}
-use Rattle.section.proofs.Whole.{sets-within}
+use Rattle.section.specs.Inner.Pass.{reached, held_to, Judgeable, answer_by, Checked}
+use Rattle.section.proofs.Left.{held_to_lem, uses-reach}
+use Rattle.section.proofs.Passing.{passed_is}
+use Rattle.section.proofs.Whole.{sets-within, sets-passed, either-refused, either-pass, either-uses, judgeable}
 
--- ---- how far it has come
+-- ---- the check behind it
 
--- where it has come past k of n steps: to the one that fails cause 5, or past all
-pub past-step : (n k : ℕ) → k < n → cond (ltb k n) (Malformed k) Pass ≡ Malformed k
-past-step n k h = rw (lt-ltb k n h)
+module _ (own : ℕ) {ws before : List ℕ} {v : Verdict} {held : List ℕ}
+    (h : length_ok (length ws) ≡ true)
+    (p : Checked (first_of (form_of own (length ws) (code_of ws)) 0 (length ws)) ws before v held) where
+  filled-answer : v ≡ sets_answer own (length ws) (code_of ws)
+  filled-answer = p.first ∙ sets-within own (length ws) (code_of ws) h
 
-pub past_all : (n k : ℕ) → n ≤ k → cond (ltb k n) (Malformed k) Pass ≡ Pass
-past_all n k h = rw (le-ltb k n h)
+  -- what is refused is refused
+  pub filled-refused : (whole : Bool) {x : Fault} → v ≡ Err x → Checked (answer_by whole own (length ws) (code_of ws)) ws before (Err x) held
+  filled-refused whole e =
+      subst (λ (u : Verdict). Checked (answer_by whole own (length ws) (code_of ws)) ws before u held) e
+      (record { first = either-refused own (length ws) (code_of ws) whole filled-answer (ap passes e); sets = p.sets })
 
-module _ {own : ℕ} {ws before : List ℕ} {k : ℕ} {held : List ℕ} (h : length_ok (length ws) ≡ true) (p : Past own ws before k held) where
-  private-answer : cond (ltb k (length ws)) (Malformed k) Pass ≡ sets_answer own (length ws) (code_of ws)
-  private-answer = p.first ∙ sets-within own (length ws) (code_of ws) h
+  -- else each step has its held set
+  filled-to : v ≡ Ok tt → (j : ℕ) → get_or held j 0 ≡ held_to (length ws) (code_of ws) (code_of before) j
+  filled-to e j = p.sets j ∙ ap (λ (u : Verdict). held_to (reached (length ws) u) (code_of ws) (code_of before) j) e
 
-  pub past-stops : k < length ws → Malformed k ≡ sets_answer own (length ws) (code_of ws)
-  past-stops l = sym (past-step (length ws) k l) ∙ private-answer
+  pub filled-judgeable : v ≡ Ok tt → 64 ≤ length held → (i : ℕ) → i < length ws → Judgeable ws held i
+  filled-judgeable e r =
+      judgeable own ws held r (sym e ∙ filled-answer) (λ j l. filled-to e j ∙ held_to_lem (code_of ws) (code_of before) j (length ws) l)
 
-  pub past-ends : length ws ≤ k → Pass ≡ sets_answer own (length ws) (code_of ws)
-  past-ends l = sym (past_all (length ws) k l) ∙ private-answer
+  pub filled-pass : {whole : Bool} → v ≡ Ok tt → whole ≡ false → Checked (answer_by whole own (length ws) (code_of ws)) ws before (Ok tt) held
+  filled-pass e w = record { first = either-pass own (length ws) (code_of ws) w (sym e ∙ filled-answer); sets = filled-to e }
 
--- past all steps, each has its held set
-pub past-sets : (own : ℕ) (ws before : List ℕ) (k : ℕ) (held : List ℕ) → Past own ws before k held → length ws ≤ k → (j : ℕ) → j < length ws
-    → get_or held j 0 ≡ held_before (code_of ws) j
-past-sets own ws before k held p l j h = p.sets j ∙ held_to_lem (code_of ws) (code_of before) j k (omega arith)
+  pub filled-uses :
+      {whole : Bool} {u : Verdict} → v ≡ Ok tt → whole ≡ true → u ≡ first_of (use_of (code_of ws)) 0 (length ws)
+      → Checked (answer_by whole own (length ws) (code_of ws)) ws before u held
+  filled-uses e w q =
+      let came = ap (reached (length ws)) q ∙ uses-reach (length ws) (code_of ws) 0 (length ws) in
+      record {
+        first = q ∙ either-uses own (length ws) (code_of ws) w (sym e ∙ filled-answer);
+        sets = λ j. filled-to e j ∙ ap (λ (k : ℕ). held_to k (code_of ws) (code_of before) j) (sym came);
+      }
 
 -- ---- by itself
 
--- clearing from i up and clearing from i + 1 up with word i cleared is the same
-pub clear_next : (l : List ℕ) (i j : ℕ) → i < length l → below (i + 1) (code_of (set l i 0)) j ≡ below i (code_of l) j
-clear_next l i j h = by (ℕ_discrete j i) (dec_lt j i)
-  where
-    by : Dec (j ≡ i) → Dec (j < i) → below (i + 1) (code_of (set l i 0)) j ≡ below i (code_of l) j
-    by (yes e) _ = rw (e, lt-ltb i (i + 1) (omega arith), le-ltb i i (omega arith)) (get_or-set_same l i 0 0 h)
-    by (no n) (yes q) = rw (lt-ltb j (i + 1) (omega arith), lt-ltb j i q) (get_or-set_other l i j 0 0 n)
-    by (no n) (no q) = rw (le-ltb j (i + 1) (omega arith), le-ltb j i (omega arith))
+-- word j of an array whose words from place k up are cleared
+abbrev pub below : ℕ → Code → ℕ → ℕ
+below k before j = cond (ltb j k) (before j) 0
 
--- and at the end nothing is left to clear
-pub clear-end : (l : List ℕ) (i j : ℕ) → length l ≤ i → get_or l j 0 ≡ below i (code_of l) j
-clear-end l i j h = by (dec_lt j i)
+pub cleared : (l : List ℕ) (k m j : ℕ) → k + m ≡ length l → get_or (put_mid k m l (replicate m 0)) j 0 ≡ below k (code_of l) j
+cleared l k m j h = by (dec_lt j k) (dec_lt j (length l))
   where
-    by : Dec (j < i) → get_or l j 0 ≡ below i (code_of l) j
-    by (yes q) = rw (lt-ltb j i q)
-    by (no q) = rw (le-ltb j i (omega arith)) (get_or-eq_default l 0 (omega arith))
+    by : Dec (j < k) → Dec (j < length l) → get_or (put_mid k m l (replicate m 0)) j 0 ≡ below k (code_of l) j
+    by (yes q) _ = rw (lt-ltb j k q) (search (rules, places))
+    by (no q) (yes r) = rw (le-ltb j k (omega arith)) (search (rules, places))
+    by (no q) (no r) = rw (le-ltb j k (omega arith)) (get_or-eq_default (put_mid k m l (replicate m 0)) 0 {n = j} (omega (arith, whole)))
+      where
+        whole : length (put_mid k m l (replicate m 0)) ≡ length l
+        whole = grind (arith, common_steps)
 
--- refused, all words are cleared
-pub sets-refused :
-    (own n : ℕ) (code before : Code) (j : ℕ) {v : Verdict} → v ≡ sets_answer own n code → passes v ≡ false → below 0 before j ≡ sets_leave own n code j
-unfolding sets_leave
-sets-refused own n code before j e h = rw (← e, h, le-ltb j 0 (omega arith))
+-- the words that are not: as many as there are steps, and where the pass is refused none
+abbrev pub kept_of : ℕ → Verdict → ℕ
+kept_of n v = cond (passes v) n 0
 
--- else those from the count up
-pub sets-given :
-    (own : ℕ) (ws before : List ℕ) (v : Verdict) (held : List ℕ) (j : ℕ) → Checked (sets_answer own (length ws) (code_of ws)) ws before v held → v ≡ Pass
-    → below (length ws) (code_of held) j ≡ sets_leave own (length ws) (code_of ws) j
-unfolding sets_leave
-sets-given own ws before v held j p e = rw (← p.first, e) (by (dec_lt j (length ws)))
-  where
-    by : Dec (j < length ws) → below (length ws) (code_of held) j ≡ held_of (length ws) (code_of ws) j
-    by (yes q) =
-        let came = ap (λ (u : Verdict). held_to (reached (length ws) u) (code_of ws) (code_of before) j) e in
-        rw (lt-ltb j (length ws) q) (p.sets j ∙ (came ∙ held_to_lem (code_of ws) (code_of before) j (length ws) q))
-    by (no q) = rw (le-ltb j (length ws) (omega arith))
+pub kept_by : (n : ℕ) {k : ℕ} (v : Verdict) (b : Bool) → passes v ≡ b → k ≡ cond b n 0 → k ≡ kept_of n v
+kept_by n v b e h = rw e h
+
+module _ (own : ℕ) (ws before : List ℕ) (v : Verdict) (held : List ℕ) (p : Checked (sets_answer own (length ws) (code_of ws)) ws before v held) where
+  pub kept_few : kept_of (length ws) v ≤ 64
+  kept_few = by (passes v) refl
+    where
+      by : (b : Bool) → passes v ≡ b → kept_of (length ws) v ≤ 64
+      by true e = rw e (sets-passed own (length ws) (code_of ws) (sym (passed_is v e) ∙ p.first)).0
+      by false e = rw e (omega arith)
+
+  -- and the others cleared, all are as the pass by itself leaves them
+  pub sets-cleared : (j : ℕ) → below (kept_of (length ws) v) (code_of held) j ≡ sets_leave own (length ws) (code_of ws) j
+  unfolding sets_leave
+  sets-cleared j = rw (← p.first) (by (passes v) refl (dec_lt j (length ws)))
+    where
+      by : (b : Bool) → passes v ≡ b → Dec (j < length ws)
+          → below (kept_of (length ws) v) (code_of held) j ≡ cond (passes v) (held_of (length ws) (code_of ws) j) 0
+      by false e _ = rw (e, le-ltb j 0 (omega arith))
+      by true e (yes q) =
+          let came = ap (λ (u : Verdict). held_to (reached (length ws) u) (code_of ws) (code_of before) j) (passed_is v e) in
+          rw (e, lt-ltb j (length ws) q) (p.sets j ∙ (came ∙ held_to_lem (code_of ws) (code_of before) j (length ws) q))
+      by true e (no q) = rw (e, le-ltb j (length ws) (omega arith))

@@ -3,6 +3,7 @@
 -- own. It holds at step 0; a step that is well formed and `fair` carries it on, since below the furthest target no step changes the held set; and
 -- behind the last step every target lies behind, so that cause 9 is met too.
 use Prim.Native.Nat.{ℕ, ◌+◌, ◌<◌, ◌≤◌}
+use Rattle.std.proofs.Common.{Ok}
 use mathlib.Core.Path.{◌≡◌, refl, sym, ap, subst, ◌∙◌}
 use mathlib.Core.Bool.{Bool, true, cond, ◌&&◌}
 use native.Mathlib.Omega.{arith}
@@ -13,13 +14,12 @@ use borrow.Author.Tests.{leb-true, lt-ltb, le-ltb, eq-eqb}
 use Rattle.base.proofs.Bools.{and_left, and_right}
 use Rattle.code.specs.declared.Op.{Op}
 use Rattle.code.specs.declared.Op.TheVariants.{Acquire, Release, Assign, Jump, Finish, Unknown}
-use Rattle.section.specs.declared.Verdict.TheVariants.{Pass}
 use Rattle.code.specs.Op.{op_of}
 use Rattle.code.specs.Form.{in_range, in_place, well_formed, held_after}
 use Rattle.rules.specs.Rules.{bracketed, ordered, guarded}
 use Rattle.section.specs.Check.{Code, held_before, level, check}
 use Rattle.section.specs.Sets.{length_ok}
-use Rattle.section.specs.Meaning.{bracketed_at, ordered_at, guarded_at, level_at}
+use Rattle.section.specs.Meaning.{bracketed_at, ordered_at, guarded_at}
 use Rattle.section.specs.Inner.Well.{furthest, settled, fair}
 use Rattle.section.proofs.Held.{held-zero}
 use Rattle.section.proofs.Steps.{place-jump}
@@ -175,7 +175,7 @@ module _ (own n : ℕ) (code : Code) where
   ends-level h until p j Finish l o = refl
   ends-level h until p j Unknown l o = refl
 
-  pub fine_end : (h until : ℕ) → length_ok n ≡ true → Fine own n code h until n → check own n code ≡ Pass
+  pub fine_end : (h until : ℕ) → length_ok n ≡ true → Fine own n code h until n → check own n code ≡ Ok tt
   fine_end h until k p =
       parts-check own n code (leb-true 3 n (and_left (leb 3 n) (leb n 64) k)) (length_most n k) p.formed
       (λ j l. let (b, o, g) = p.used j l in pass-use code j b o g (ends-level h until p j (op_of (code j)) l refl))

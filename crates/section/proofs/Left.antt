@@ -1,18 +1,17 @@
 -- What is left in an array of held sets: one step after the other, and by the answer of a check.
 use Prim.Native.Nat.{ℕ, zero, suc, ◌+◌, ◌<◌, ◌≤◌}
+use Rattle.std.proofs.Common.{Ok, Err}
 use mathlib.Core.Path.{◌≡◌, refl, sym, ap, ◌∙◌}
-use mathlib.Core.Bool.{Bool, true, false, cond}
+use mathlib.Core.Bool.{Bool, true, false}
 use mathlib.Core.List.{List}
 use native.Mathlib.Omega.{arith}
 use native.Mathlib.Decide.{ℕ_discrete, dec_lt}
 use lib.ListN.{length, get_or, set}
 use lib.Seq.{get_or-set_same, get_or-set_other}
 use borrow.Author.Tests.{lt-ltb, le-ltb}
-use Rattle.section.specs.declared.Verdict.{Verdict}
-use Rattle.section.specs.declared.Verdict.TheVariants.{Pass, Length, Malformed, Unbracketed, Unordered, Unguarded, Unlevel}
 use Rattle.code.specs.Op.{op_of}
 use Rattle.rules.specs.Rules.{bracketed, ordered, guarded}
-use Rattle.section.specs.Check.{Code, held_before, level, or_else, first_of, use_of, check, passes}
+use Rattle.section.specs.Check.{Verdict, Code, held_before, level, or_else, first_of, in_turn, use_of, check, passes}
 use Rattle.section.specs.Inner.Pass.{reached, held_to, held_left}
 use Rattle.section.proofs.Passing.{passed_is}
 
@@ -41,7 +40,7 @@ set_next code before l i v h e below j = by (ℕ_discrete j i) (dec_lt j i)
 
 -- ---- by the answer
 
-private-judged : (n i : ℕ) (p q r s : Bool) → reached n (cond p (cond q (cond r (cond s Pass (Unlevel i)) (Unguarded i)) (Unordered i)) (Unbracketed i)) ≡ n
+private-judged : (n i : ℕ) (p q r s : Bool) → reached n (in_turn i p q r s) ≡ n
 private-judged n i false q r s = refl
 private-judged n i true false r s = refl
 private-judged n i true true false s = refl
@@ -49,13 +48,8 @@ private-judged n i true true true false = refl
 private-judged n i true true true true = refl
 
 private-or : (n : ℕ) (v u : Verdict) → reached n v ≡ n → reached n u ≡ n → reached n (or_else v u) ≡ n
-private-or n Pass u g h = h
-private-or n Length u g h = g
-private-or n (Malformed i) u g h = g
-private-or n (Unbracketed i) u g h = g
-private-or n (Unordered i) u g h = g
-private-or n (Unguarded i) u g h = g
-private-or n (Unlevel i) u g h = g
+private-or n (Ok t) u g h = h
+private-or n (Err f) u g h = g
 
 private-use : (n : ℕ) (code : Code) (i : ℕ) → reached n (use_of code i) ≡ n
 unfolding use_of

@@ -1,12 +1,12 @@
 -- The check answers what its answer means (`check-means`), and what it means has no other answer (`means-only`). By the step that refuses first, and
 -- the first test that this step fails.
 use Prim.Native.Nat.{ℕ, ◌<◌}
+use Rattle.std.proofs.Common.{Ok, Err}
 use mathlib.Core.Path.{◌≡◌, refl, sym, ap, subst, ◌∙◌}
-use mathlib.Core.Bool.{Bool, true, false, cond}
+use mathlib.Core.Bool.{Bool, true, false}
 use native.Mathlib.Omega.{arith}
-use Rattle.section.specs.declared.Verdict.{Verdict}
-use Rattle.section.specs.declared.Verdict.TheVariants.{Pass, Length, Malformed, Unbracketed, Unordered, Unguarded, Unlevel}
-use Rattle.section.specs.Check.{Code, first_of, form_of, use_of, check, passes}
+use Rattle.section.specs.declared.Fault.TheVariants.{Length, Malformed, Unbracketed, Unordered, Unguarded, Unlevel}
+use Rattle.section.specs.Check.{Verdict, Code, first_of, form_of, in_turn, use_of, check, passes}
 use Rattle.section.specs.Sets.{length_ok}
 use Rattle.section.specs.Meaning.{formed_at, bracketed_at, ordered_at, guarded_at, level_at, FirstMalformed, FirstMisused, Means}
 use Rattle.section.proofs.First.{or_left, or-refused, first-all, all_first}
@@ -34,15 +34,15 @@ module _ (own n : ℕ) (code : Code) where
   -- the first of four tests that fails
   use-fails :
       (i : ℕ) (a b c e : Bool) (v : Verdict) → bracketed_at code i ≡ a → ordered_at code i ≡ b → guarded_at code i ≡ c → level_at code i ≡ e
-      → cond a (cond b (cond c (cond e Pass (Unlevel i)) (Unguarded i)) (Unordered i)) (Unbracketed i) ≡ v → passes v ≡ false → FirstMisused own n code i
+      → in_turn i a b c e ≡ v → passes v ≡ false → FirstMisused own n code i
       → Means own n code v
-  use-fails i true true true true v p q g h e r x = absurd (refused-not Pass (ap passes e ∙ r) refl)
+  use-fails i true true true true v p q g h e r x = absurd (refused-not (Ok tt) (ap passes e ∙ r) refl)
   use-fails i true true true false v p q g h e r x = subst (Means own n code) e (x, p, q, g, h)
   use-fails i true true false d v p q g h e r x = subst (Means own n code) e (x, p, q, g)
   use-fails i true false c d v p q g h e r x = subst (Means own n code) e (x, p, q)
   use-fails i false b c d v p q g h e r x = subst (Means own n code) e (x, p)
 
-  use-means : (v : Verdict) → length_ok n ≡ true → forms ≡ Pass → uses ≡ v → passes v ≡ false → Means own n code v
+  use-means : (v : Verdict) → length_ok n ≡ true → forms ≡ Ok tt → uses ≡ v → passes v ≡ false → Means own n code v
   unfolding use_of
   use-means v l f e r =
       let (j, x) = first_found (use_of code) 0 n v e r in
@@ -65,7 +65,7 @@ module _ (own n : ℕ) (code : Code) where
       let p = passed_is forms f in
       rw (l, or_left forms uses p) (use-means uses l p refl u)
   means-by true true true l f u =
-      let e : check own n code ≡ Pass = rw (l, or_left forms uses (passed_is forms f), passed_is uses u) in
+      let e : check own n code ≡ Ok tt = rw (l, or_left forms uses (passed_is forms f), passed_is uses u) in
       subst (Means own n code) (sym e) (passed-valid own n code e)
 
   pub check-means : Means own n code (check own n code)
@@ -73,13 +73,13 @@ module _ (own n : ℕ) (code : Code) where
 
   -- ---- and back
 
-  forms-pass : ((j : ℕ) → j < n → formed_at own n code j ≡ true) → forms ≡ Pass
+  forms-pass : ((j : ℕ) → j < n → formed_at own n code j ≡ true) → forms ≡ Ok tt
   forms-pass f = all_first (form_of own n code) 0 n (λ j a b. pass-form own n code j (f j (omega arith)))
 
-  form-only : (i : ℕ) → FirstMalformed own n code i → check own n code ≡ Malformed i
+  form-only : (i : ℕ) → FirstMalformed own n code i → check own n code ≡ Err (Malformed i)
   unfolding check
   form-only i x =
-      let e : forms ≡ Malformed i = first-is (form_of own n code) 0 n i (Malformed i) (record {
+      let e : forms ≡ Err (Malformed i) = first-is (form_of own n code) 0 n i (Err (Malformed i)) (record {
         from = omega arith;
         below = omega (arith, x.step);
         refuses = form-fails own n code i x.fails;
@@ -100,10 +100,10 @@ module _ (own n : ℕ) (code : Code) where
 
   pub means-only : (v : Verdict) → Means own n code v → check own n code ≡ v
   unfolding check use_of
-  means-only Pass x = valid-passed own n code x
-  means-only Length x = rw x
-  means-only (Malformed i) x = form-only i x
-  means-only (Unbracketed i) x = use-only i (Unbracketed i) refl x.0 (rw x.1)
-  means-only (Unordered i) x = use-only i (Unordered i) refl x.0 (rw (x.1, x.2))
-  means-only (Unguarded i) x = use-only i (Unguarded i) refl x.0 (rw (x.1, x.2, x.3))
-  means-only (Unlevel i) x = use-only i (Unlevel i) refl x.0 (rw (x.1, x.2, x.3, x.4))
+  means-only (Ok tt) x = valid-passed own n code x
+  means-only (Err Length) x = rw x
+  means-only (Err (Malformed i)) x = form-only i x
+  means-only (Err (Unbracketed i)) x = use-only i (Err (Unbracketed i)) refl x.0 (rw x.1)
+  means-only (Err (Unordered i)) x = use-only i (Err (Unordered i)) refl x.0 (rw (x.1, x.2))
+  means-only (Err (Unguarded i)) x = use-only i (Err (Unguarded i)) refl x.0 (rw (x.1, x.2, x.3))
+  means-only (Err (Unlevel i)) x = use-only i (Err (Unlevel i)) refl x.0 (rw (x.1, x.2, x.3, x.4))

@@ -1,6 +1,7 @@
 -- What the loops of the check stand on: what cause 5 leaves of an instruction, the cause that a step fails by its tests,
 -- and the held set looked up in place of worked out.
 use Prim.Native.Nat.{ℕ, ◌+◌, ◌-◌, ◌<◌, ◌≤◌}
+use Rattle.std.proofs.Common.{Ok, Err}
 use mathlib.Core.Path.{◌≡◌, refl, sym, ap, ◌∙◌}
 use mathlib.Core.Bool.{true, false, false≢true}
 use mathlib.Core.List.{List}
@@ -12,14 +13,14 @@ use native.Mathlib.Numerals.{add-one}
 use Rattle.base.proofs.Bools.{and_left, and_right}
 use Rattle.code.specs.declared.Op.{Op}
 use Rattle.code.specs.declared.Op.TheVariants.{Acquire, Release, Assign, Jump, Finish, Unknown}
-use Rattle.section.specs.declared.Verdict.{Verdict}
-use Rattle.section.specs.declared.Verdict.TheVariants.{Pass, Length, Malformed, Unbracketed, Unordered, Unguarded, Unlevel}
+use Rattle.section.specs.declared.Fault.{Fault}
+use Rattle.section.specs.declared.Fault.TheVariants.{Malformed}
 use Rattle.code.specs.Op.{op_of}
-use Rattle.section.specs.Check.{Code, held_before, level, first_of, form_of, judged, use_of, passes}
+use Rattle.section.specs.Check.{Verdict, Code, held_before, level, first_of, form_of, judged, use_of, passes}
 use Rattle.code.specs.Form.{in_range, in_place, well_formed, lock_ok, held_after}
 use Rattle.rules.specs.Inner.Looked.{lands, level_in}
 use Rattle.code.proofs.Ranges.{lock-ok}
-use Rattle.section.proofs.First.{first_step, or-refused}
+use Rattle.section.proofs.First.{first_step}
 
 -- ---- what cause 5 leaves
 
@@ -68,24 +69,19 @@ held_next code i = rw (add-one i)
 
 -- ---- the first refusal, from the step that a loop has reached
 
-pub passed_is : (v : Verdict) → passes v ≡ true → v ≡ Pass
-passed_is Pass h = refl
-passed_is Length h = absurd (false≢true h)
-passed_is (Malformed i) h = absurd (false≢true h)
-passed_is (Unbracketed i) h = absurd (false≢true h)
-passed_is (Unordered i) h = absurd (false≢true h)
-passed_is (Unguarded i) h = absurd (false≢true h)
-passed_is (Unlevel i) h = absurd (false≢true h)
+pub passed_is : (v : Verdict) → passes v ≡ true → v ≡ Ok tt
+passed_is (Ok u) h = refl
+passed_is (Err f) h = absurd (false≢true h)
 
 -- a refusal is no pass
-pub refused-not : (v : Verdict) → passes v ≡ false → v ≡ Pass → ⊥
+pub refused-not : (v : Verdict) → passes v ≡ false → v ≡ Ok tt → ⊥
 refused-not v h e = false≢true (sym h ∙ ap passes e)
 
-pub first_on : (f : ℕ → Verdict) (n i : ℕ) → i < n → f i ≡ Pass → first_of f i (n - i) ≡ first_of f (i + 1) (n - (i + 1))
+pub first_on : (f : ℕ → Verdict) (n i : ℕ) → i < n → f i ≡ Ok tt → first_of f i (n - i) ≡ first_of f (i + 1) (n - (i + 1))
 first_on f n i h p = rw (first_step f i n h, p)
 
-pub first_stops : (f : ℕ → Verdict) (n i : ℕ) → i < n → passes (f i) ≡ false → first_of f i (n - i) ≡ f i
-first_stops f n i h p = rw (first_step f i n h) (or-refused (f i) _ (refused-not (f i) p))
+pub first_stops : (f : ℕ → Verdict) (n i : ℕ) (x : Fault) → i < n → f i ≡ Err x → first_of f i (n - i) ≡ Err x
+first_stops f n i x h e = rw (first_step f i n h, e)
 
 -- ---- one step
 
@@ -93,6 +89,6 @@ pub use-by : (code : Code) (i h : ℕ) (x : Op) → h ≡ held_before code i →
 unfolding use_of
 use-by code i h x p q = rw (p, q)
 
-pub form-fails : (own n : ℕ) (code : Code) (i : ℕ) → well_formed own n i (code i) ≡ false → form_of own n code i ≡ Malformed i
+pub form-fails : (own n : ℕ) (code : Code) (i : ℕ) → well_formed own n i (code i) ≡ false → form_of own n code i ≡ Err (Malformed i)
 unfolding form_of
 form-fails own n code i h = rw h

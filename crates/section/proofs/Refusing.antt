@@ -1,14 +1,14 @@
 -- The step that refuses first: the first refusal among steps is that of a step before which all pass, and of no other step. By induction on the
 -- number of steps.
 use Prim.Native.Nat.{ℕ, zero, suc, ◌+◌, ◌<◌, ◌≤◌}
+use Rattle.std.proofs.Common.{Ok, Err}
 use mathlib.Core.Path.{◌≡◌, refl, sym, ap, ◌∙◌}
 use mathlib.Core.Bool.{Bool, true, false, cond}
 use native.Mathlib.Omega.{arith}
 use native.Mathlib.Decide.{ℕ_discrete}
-use Rattle.section.specs.declared.Verdict.{Verdict}
-use Rattle.section.specs.declared.Verdict.TheVariants.{Pass, Malformed}
+use Rattle.section.specs.declared.Fault.TheVariants.{Malformed}
 use Rattle.code.specs.Form.{well_formed}
-use Rattle.section.specs.Check.{Code, or_else, first_of, form_of, passes}
+use Rattle.section.specs.Check.{Verdict, Code, or_else, first_of, form_of, passes}
 use Rattle.section.proofs.First.{or_left, or-refused, all_from}
 use Rattle.section.proofs.Passing.{passed_is, refused-not}
 
@@ -17,7 +17,7 @@ pub record FirstAt (f : ℕ → Verdict) (i k j : ℕ) (v : Verdict) : Type 0 wh
   pub from : i ≤ j
   pub below : j < i + k
   pub refuses : f j ≡ v
-  pub earlier : (m : ℕ) → i ≤ m → m < j → f m ≡ Pass
+  pub earlier : (m : ℕ) → i ≤ m → m < j → f m ≡ Ok tt
 
 -- by the first of the steps, and what is known of the later ones
 found-first-or-later :
@@ -42,7 +42,7 @@ found-first-or-later f i k v true q e later =
 
 pub first_found : (f : ℕ → Verdict) (i k : ℕ) (v : Verdict) → first_of f i k ≡ v → passes v ≡ false → (j : ℕ) × FirstAt f i k j v
 unfolding first_of
-first_found f i zero v e r = absurd (refused-not Pass (ap passes e ∙ r) refl)
+first_found f i zero v e r = absurd (refused-not (Ok tt) (ap passes e ∙ r) refl)
 first_found f i (suc k) v e r = found-first-or-later f i k v (passes (f i)) refl e (λ q. first_found f (i + 1) k v q r)
 
 is-first-or-later :
@@ -64,13 +64,13 @@ first-is f i (suc k) j v x r = is-first-or-later f i k j v x r (λ y. first-is f
 
 -- ---- cause 5
 
-private-refuses : (b : Bool) (j : ℕ) (v : Verdict) → cond b Pass (Malformed j) ≡ v → passes v ≡ false → (v ≡ Malformed j) × (b ≡ false)
-private-refuses true j v e r = absurd (refused-not Pass (ap passes e ∙ r) refl)
+private-refuses : (b : Bool) (j : ℕ) (v : Verdict) → cond b (Ok tt) (Err (Malformed j)) ≡ v → passes v ≡ false → (v ≡ Err (Malformed j)) × (b ≡ false)
+private-refuses true j v e r = absurd (refused-not (Ok tt) (ap passes e ∙ r) refl)
 private-refuses false j v e r = (sym e, refl)
 
 -- a step that it refuses fails its test
 pub form-refuses :
     (own n : ℕ) (code : Code) (j : ℕ) (v : Verdict) → form_of own n code j ≡ v → passes v ≡ false
-    → (v ≡ Malformed j) × (well_formed own n j (code j) ≡ false)
+    → (v ≡ Err (Malformed j)) × (well_formed own n j (code j) ≡ false)
 unfolding form_of
 form-refuses own n code j v e r = private-refuses (well_formed own n j (code j)) j v e r

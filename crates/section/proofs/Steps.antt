@@ -2,15 +2,14 @@
 -- section. The test of a jump reads the held set at the jump's target, which is inside where the jump is in place.
 use Prim.Native.Nat.{ℕ, ◌+◌, ◌<◌}
 use mathlib.Core.Path.{◌≡◌, refl, ap, ◌∙◌}
-use mathlib.Core.Bool.{Bool, true, false, cond, not, false≢true, and-eq-true_iff}
+use mathlib.Core.Bool.{Bool, true, false, not, false≢true, and-eq-true_iff}
 use native.Mathlib.Omega.{arith}
 use lib.Dec.{ltb, eqb}
 use borrow.Author.Tests.{ltb-true, eqb-false, not-true, ne_eqb}
 use Rattle.code.specs.declared.Op.{Op}
 use Rattle.code.specs.declared.Op.TheVariants.{Acquire, Release, Assign, Jump, Finish, Unknown}
-use Rattle.section.specs.declared.Verdict.TheVariants.{Pass, Unbracketed, Unordered, Unguarded, Unlevel}
 use Rattle.code.specs.Op.{op_of}
-use Rattle.rules.specs.Rules.{begins, goes_on, bracketed, ordered, guarded}
+use Rattle.rules.specs.Rules.{begins, goes_on, bracketed}
 use Rattle.section.specs.Check.{Code, held_before, level, form_of, judged, use_of}
 use Rattle.code.specs.Form.{in_range, in_place, well_formed}
 use Rattle.section.proofs.Held.{held-cong}
@@ -79,9 +78,5 @@ use-cong own n i code code' s l e =
     let h = held_before code i in
     let x = op_of (code i) in
     let p : in_place n i x ≡ true = ((and-eq-true_iff (in_range own (code i)) (in_place n i x)).0 e).1 in
-    let same : judged i h x (level code h x) ≡ judged i h x (level code' h x) =
-    ap
-    (λ (b : Bool). cond (bracketed i h x) (cond (ordered h x) (cond (guarded h x) (cond b Pass (Unlevel i)) (Unguarded i)) (Unordered i)) (Unbracketed i))
-    (level-cong n i h code code' s x p)
-    in
+    let same : judged i h x (level code h x) ≡ judged i h x (level code' h x) = ap (λ (b : Bool). judged i h x b) (level-cong n i h code code' s x p) in
     same ∙ rw (held-cong code code' i (λ j m. s j (omega arith)), s i l)

@@ -1,16 +1,16 @@
 -- The whole check by its stages: the pass over the steps, which is the number of steps and then the first step that fails cause 5; and the
 -- first that fails causes 6 to 9.
 use Prim.Native.Nat.{ℕ, ◌<◌, ◌≤◌}
+use Rattle.std.proofs.Common.{Ok, Err}
 use mathlib.Core.Path.{◌≡◌, refl, sym, ap, ◌∙◌}
 use mathlib.Core.Bool.{Bool, true, false, cond}
 use mathlib.Core.List.{List}
 use lib.ListN.{length, get_or}
 use lib.Dec.{leb}
-use borrow.Author.Tests.{le-leb, lt-leb, leb-true}
+use borrow.Author.Tests.{leb-true}
 use native.Mathlib.Omega.{arith}
-use Rattle.section.specs.declared.Verdict.{Verdict}
-use Rattle.section.specs.declared.Verdict.TheVariants.{Pass, Length}
-use Rattle.section.specs.Check.{Code, code_of, held_before, or_else, first_of, form_of, use_of, check, passes}
+use Rattle.section.specs.declared.Fault.TheVariants.{Length}
+use Rattle.section.specs.Check.{Verdict, Code, code_of, held_before, or_else, first_of, form_of, use_of, check, passes}
 use Rattle.section.specs.Sets.{length_ok, sets_answer}
 use Rattle.section.specs.Inner.Pass.{answer_by, Judgeable}
 use Rattle.base.proofs.Bools.{and_right}
@@ -20,27 +20,21 @@ use Rattle.section.proofs.Passing.{refused-not, formed-lock, formed-lands}
 
 -- ---- cause 4
 
-pub length-short : (n : ℕ) → n < 3 → false ≡ length_ok n
-length-short n h = rw (lt-leb 3 n h)
-
-pub length-from-3 : (n : ℕ) → 3 ≤ n → leb n 64 ≡ length_ok n
-length-from-3 n h = rw (le-leb 3 n h)
-
 pub length_most : (n : ℕ) → length_ok n ≡ true → n ≤ 64
 length_most n h = leb-true n 64 (and_right (leb 3 n) (leb n 64) h)
 
-private-behind : (b : Bool) (u v : Verdict) → cond b (or_else u v) Length ≡ or_else (cond b u Length) v
+private-behind : (b : Bool) (u v : Verdict) → cond b (or_else u v) (Err Length) ≡ or_else (cond b u (Err Length)) v
 private-behind true u v = refl
 private-behind false u v = refl
 
-private-bounds : (b : Bool) (u : Verdict) → cond b u Length ≡ Pass → (b ≡ true) × (u ≡ Pass)
+private-bounds : (b : Bool) (u : Verdict) → cond b u (Err Length) ≡ Ok tt → (b ≡ true) × (u ≡ Ok tt)
 private-bounds true u e = (refl, e)
 private-bounds false u e = ((cc), (cc))
 
 -- ---- the pass
 
 module _ (own n : ℕ) (code : Code) where
-  pub sets-length : length_ok n ≡ false → Length ≡ sets_answer own n code
+  pub sets-length : length_ok n ≡ false → Err Length ≡ sets_answer own n code
   unfolding sets_answer
   sets-length h = rw h
 
@@ -49,7 +43,7 @@ module _ (own n : ℕ) (code : Code) where
   sets-within h = rw h
 
   -- where it is not refused, there are at most 64 steps, and none fails cause 5
-  pub sets-passed : Pass ≡ sets_answer own n code → (n ≤ 64) × (first_of (form_of own n code) 0 n ≡ Pass)
+  pub sets-passed : Ok tt ≡ sets_answer own n code → (n ≤ 64) × (first_of (form_of own n code) 0 n ≡ Ok tt)
   unfolding sets_answer
   sets-passed e =
       let (b, f) = private-bounds (length_ok n) (first_of (form_of own n code) 0 n) (sym e) in
@@ -67,7 +61,7 @@ module _ (own n : ℕ) (code : Code) where
   check-refused {v} e h = sym (check-behind ∙ (ap (λ (u : Verdict). or_else u (first_of (use_of code) 0 n)) (sym e) ∙ or-refused v _ (refused-not v h)))
 
   -- where it is not refused, the others do
-  pub check-uses : Pass ≡ sets_answer own n code → first_of (use_of code) 0 n ≡ check own n code
+  pub check-uses : Ok tt ≡ sets_answer own n code → first_of (use_of code) 0 n ≡ check own n code
   check-uses e = sym (check-behind ∙ or_left (sets_answer own n code) _ (sym e))
 
   -- ---- either of them
@@ -76,15 +70,15 @@ module _ (own n : ℕ) (code : Code) where
   either-refused true e h = check-refused e h
   either-refused false e h = e
 
-  pub either-pass : {whole : Bool} → whole ≡ false → Pass ≡ sets_answer own n code → Pass ≡ answer_by whole own n code
+  pub either-pass : {whole : Bool} → whole ≡ false → Ok tt ≡ sets_answer own n code → Ok tt ≡ answer_by whole own n code
   either-pass w e = rw w e
 
-  pub either-uses : {whole : Bool} → whole ≡ true → Pass ≡ sets_answer own n code → first_of (use_of code) 0 n ≡ answer_by whole own n code
+  pub either-uses : {whole : Bool} → whole ≡ true → Ok tt ≡ sets_answer own n code → first_of (use_of code) 0 n ≡ answer_by whole own n code
   either-uses w e = rw w (check-uses e)
 
 -- where the pass is not refused and its held sets are at hand, every step can be judged
 pub judgeable :
-    (own : ℕ) (ws held : List ℕ) → 64 ≤ length held → Pass ≡ sets_answer own (length ws) (code_of ws)
+    (own : ℕ) (ws held : List ℕ) → 64 ≤ length held → Ok tt ≡ sets_answer own (length ws) (code_of ws)
     → ((j : ℕ) → j < length ws → get_or held j 0 ≡ held_before (code_of ws) j) → (i : ℕ) → i < length ws → Judgeable ws held i
 judgeable own ws held e p s i g =
     let (l, h) = sets-passed own (length ws) (code_of ws) p in

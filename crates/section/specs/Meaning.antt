@@ -1,12 +1,11 @@
 -- What each answer of the check means, said without the order in which it tests. (Document 02, 6/14: the first of causes 4 to 9 that the steps
 -- fail, in document 01's order, or that they pass.)
-use Rattle.std.specs.Prelude.{ℕ, ◌<◌, ◌≡◌, Bool, true, false}
+use Rattle.std.specs.Prelude.{ℕ, ◌<◌, ◌≡◌, Bool, true, false, Ok, Err}
 use Rattle.code.specs.Op.{op_of}
 use Rattle.code.specs.Form.{well_formed}
 use Rattle.rules.specs.Rules.{bracketed, ordered, guarded}
-use Rattle.section.specs.declared.Verdict.{Verdict}
-use Rattle.section.specs.declared.Verdict.TheVariants.{Pass, Length, Malformed, Unbracketed, Unordered, Unguarded, Unlevel}
-use Rattle.section.specs.Check.{Code, held_before, level}
+use Rattle.section.specs.declared.Fault.TheVariants.{Length, Malformed, Unbracketed, Unordered, Unguarded, Unlevel}
+use Rattle.section.specs.Check.{Code, Verdict, held_before, level}
 use Rattle.section.specs.Sets.{length_ok}
 use Rattle.section.specs.Valid.{Valid}
 
@@ -45,10 +44,10 @@ module _ (own n : ℕ) (code : Code) where
         (j : ℕ) → j < i → (bracketed_at code j ≡ true) × (ordered_at code j ≡ true) × (guarded_at code j ≡ true) × (level_at code j ≡ true)
 
   abbrev pub Means : Verdict → Type 0
-  Means Pass = Valid own n code
-  Means Length = length_ok n ≡ false
-  Means (Malformed i) = FirstMalformed i
-  Means (Unbracketed i) = FirstMisused i × (bracketed_at code i ≡ false)
-  Means (Unordered i) = FirstMisused i × (bracketed_at code i ≡ true) × (ordered_at code i ≡ false)
-  Means (Unguarded i) = FirstMisused i × (bracketed_at code i ≡ true) × (ordered_at code i ≡ true) × (guarded_at code i ≡ false)
-  Means (Unlevel i) = FirstMisused i × (bracketed_at code i ≡ true) × (ordered_at code i ≡ true) × (guarded_at code i ≡ true) × (level_at code i ≡ false)
+  Means (Ok u) = Valid own n code
+  Means (Err Length) = length_ok n ≡ false
+  Means (Err (Malformed i)) = FirstMalformed i
+  Means (Err (Unbracketed i)) = FirstMisused i × (bracketed_at code i ≡ false)
+  Means (Err (Unordered i)) = FirstMisused i × (bracketed_at code i ≡ true) × (ordered_at code i ≡ false)
+  Means (Err (Unguarded i)) = FirstMisused i × (bracketed_at code i ≡ true) × (ordered_at code i ≡ true) × (guarded_at code i ≡ false)
+  Means (Err (Unlevel i)) = FirstMisused i × (bracketed_at code i ≡ true) × (ordered_at code i ≡ true) × (guarded_at code i ≡ true) × (level_at code i ≡ false)

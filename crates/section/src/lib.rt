@@ -7,18 +7,17 @@ mod sets;
 mod well;
 
 ghost use Rattle.std.specs.Prelude.{◌≡◌, ℕ, ◌<◌, ◌≤◌, length, get_or};
-ghost use Rattle.section.specs.Check.{code_of, first_of, use_of, check, passes, cause_of, step_of};
+ghost use Rattle.section.specs.Check.{code_of, first_of, use_of, check};
 ghost use Rattle.section.specs.Sets.{sets_answer, sets_leave};
 ghost use Rattle.section.specs.Inner.Pass.{answer_by, Judgeable, held_left, Checked};
 
 use judge::use_at;
-use sets::{clear, fill, length_ok};
+use sets::{fill, length_ok};
 use well::well;
 
-// The answer of the check: the section passes, or the first cause that it fails, with the step.
+// Why a section is refused: the first cause that it fails, with the step.
 #[derive(Clone, Copy)]
-pub enum Verdict {
-    Pass,
+pub enum Fault {
     // The number of steps is not 3 to 64.
     Length,
     // The kind is unknown, or a field outside its range or position.
@@ -33,61 +32,34 @@ pub enum Verdict {
     Unlevel(usize),
 }
 
-// Whether the answer is no refusal.
-pub fn passes(v: Verdict) -> bool
-    ensures { result ≡ passes v }
-{
-    match v {
-        Verdict::Pass => true,
-        Verdict::Length => false,
-        Verdict::Malformed(_) => false,
-        Verdict::Unbracketed(_) => false,
-        Verdict::Unordered(_) => false,
-        Verdict::Unguarded(_) => false,
-        Verdict::Unlevel(_) => false,
-    }
-}
-
 // All steps against causes 6 to 9.
-fn uses(words: &[u64], held: &[u64]) -> Verdict
+fn uses(words: &[u64], held: &[u64]) -> Result<(), Fault>
     requires { (i : ℕ) → i < length words.now → Judgeable words.now held.now i }
     ensures { result ≡ first_of (use_of (code_of words.now)) 0 (length words.now) }
 {
-    let mut i = 0;
-    while i < words.len() {
-        let v = use_at(words, held, i);
-        if !passes(v) {
-            return v;
-        }
-        i += 1;
+    for i in 0..words.len() {
+        use_at(words, held, i)?;
     }
-    Verdict::Pass
+    Ok(())
 }
 
 // The pass, and where the whole check is asked what stands behind it: cause 4, then 5 over all steps, then 6 to 9 step by step. The held set
 // before each step that the pass comes past is left in `held`. (One function, so that the machine code has the pass once and without a call.)
-fn checked(words: &[u64], own: u16, held: &mut [u64], whole: bool) -> Verdict
+fn checked(words: &[u64], own: u16, held: &mut [u64], whole: bool) -> Result<(), Fault>
     requires { 64 ≤ length held.old }
     ensures { Checked (answer_by whole own (length words.now) (code_of words.now)) words.now held.old result
         held.new }
 {
-    let n = words.len();
-    if !length_ok(n) {
-        return Verdict::Length;
+    if !length_ok(words.len()) {
+        return Err(Fault::Length);
     }
-    let k = fill(words, own, held);
-    if k < n {
-        return Verdict::Malformed(k);
-    }
-    if whole {
-        return uses(words, held);
-    }
-    Verdict::Pass
+    fill(words, own, held)?;
+    if whole { uses(words, held) } else { Ok(()) }
 }
 
 // The check of a section: it passes, or the first of causes 4 to 9. The held set before each step is left in `held`: of all
 // steps, or where cause 5 refuses one of those before it, or where cause 4 does of none. The other words stay.
-pub fn check_held(words: &[u64], own: u16, held: &mut [u64]) -> Verdict
+pub fn check_held(words: &[u64], own: u16, held: &mut [u64]) -> Result<(), Fault>
     requires { 64 ≤ length held.old }
     ensures verdict { result ≡ check own (length words.now) (code_of words.now) }
     ensures sets { (j : ℕ) → get_or held.new j 0
@@ -97,11 +69,11 @@ pub fn check_held(words: &[u64], own: u16, held: &mut [u64]) -> Verdict
 }
 
 // The same, for a caller that does not ask for the held sets: only where the quick test finds something are they worked out.
-pub fn check(words: &[u64], own: u16) -> Verdict
+pub fn check(words: &[u64], own: u16) -> Result<(), Fault>
     ensures { result ≡ check own (length words.now) (code_of words.now) }
 {
     if well(words, own) {
-        return Verdict::Pass;
+        return Ok(());
     }
     let mut held = [0u64; 64];
     check_held(words, own, &mut held)
@@ -109,46 +81,13 @@ pub fn check(words: &[u64], own: u16) -> Verdict
 
 // The pass by itself: refused with cause 4, or with 5 at the lowest step; else `held` gets the held set before each step, also where
 // causes 6 to 9 would refuse, and 0 from the count up. Where it is refused, all its words are 0.
-pub fn held_sets(words: &[u64], own: u16, held: &mut [u64; 64]) -> Verdict
+pub fn held_sets(words: &[u64], own: u16, held: &mut [u64; 64]) -> Result<(), Fault>
     ensures verdict { result ≡ sets_answer own (length words.now) (code_of words.now) }
     ensures sets { (j : ℕ) → get_or held.new j 0
         ≡ sets_leave own (length words.now) (code_of words.now) j }
 {
     let v = checked(words, own, held, false);
-    if passes(v) {
-        clear(held, words.len());
-    } else {
-        clear(held, 0);
-    }
+    let kept = if v.is_ok() { words.len() } else { 0 };
+    held[kept..].fill(0);
     v
-}
-
-// Document 01's number of an answer; 0 for a pass.
-pub fn cause(v: Verdict) -> u64
-    ensures { result ≡ cause_of v }
-{
-    match v {
-        Verdict::Pass => 0,
-        Verdict::Length => 4,
-        Verdict::Malformed(_) => 5,
-        Verdict::Unbracketed(_) => 6,
-        Verdict::Unordered(_) => 7,
-        Verdict::Unguarded(_) => 8,
-        Verdict::Unlevel(_) => 9,
-    }
-}
-
-// The step that goes with it; 0 where there is none.
-pub fn step(v: Verdict) -> usize
-    ensures { result ≡ step_of v }
-{
-    match v {
-        Verdict::Pass => 0,
-        Verdict::Length => 0,
-        Verdict::Malformed(i) => i,
-        Verdict::Unbracketed(i) => i,
-        Verdict::Unordered(i) => i,
-        Verdict::Unguarded(i) => i,
-        Verdict::Unlevel(i) => i,
-    }
 }

@@ -6,6 +6,7 @@ use borrow.Author.Tests.{leb-true, ltb-true, le-leb, lt-leb, lt-ltb, ne_eqb}
 use mathlib.Core.Path.{◌≡◌, refl, sym, ap, ◌∙◌}
 use mathlib.Core.Bool.{Bool, true, false, cond, ◌&&◌, ◌||◌}
 use mathlib.Core.List.{List, [], ◌∷◌}
+use Rattle.std.proofs.Common.{Ok, Err}
 use native.Mathlib.Decide.{ℕ_discrete}
 use native.Mathlib.Omega.{arith}
 use lib.Dec.{leb, ltb, eqb}
@@ -17,10 +18,9 @@ use Rattle.image.specs.Place.{field, Memory}
 use Rattle.image.specs.Image.{Image, at, workers, length_of}
 use Rattle.image.specs.Inner.Inside.{Inside}
 use Rattle.code.specs.declared.Op.{Op}
-use Rattle.section.specs.declared.Verdict.{Verdict}
-use Rattle.section.specs.declared.Verdict.TheVariants.{Pass, Length}
+use Rattle.section.specs.declared.Fault.TheVariants.{Length}
 use Rattle.code.specs.Op.{op_of}
-use Rattle.section.specs.Check.{Code, held_before, check, passes}
+use Rattle.section.specs.Check.{Verdict, Code, held_before, check, passes}
 use Rattle.code.specs.Form.{in_range, held_after}
 use Rattle.section.proofs.Facts.{check-parts}
 use Rattle.section.proofs.Held.{held-step}
@@ -40,7 +40,7 @@ module _ (n : ℕ) (rd : Memory) (d : ℕ) where
   -- ---- the section
 
   -- a section that is there passes the check
-  pub section-passes : section_ok n rd d ≡ true → (rd (field Count d) ≡ 0 → ⊥) → check n (rd (field Count d)) (code_in n rd d) ≡ Pass
+  pub section-passes : section_ok n rd d ≡ true → (rd (field Count d) ≡ 0 → ⊥) → check n (rd (field Count d)) (code_in n rd d) ≡ Ok tt
   unfolding section_ok
   section-passes e h =
       let k = rd (field Count d) in
@@ -55,6 +55,13 @@ module _ (n : ℕ) (rd : Memory) (d : ℕ) where
       let k = rd (field Count d) in
       let p = check-parts n k (code_in n rd d) (section-passes e (λ z. omega arith)) in
       (p.1, λ j l. formed-range n k j (code_in n rd d j) (p.2 j l))
+
+  -- so a step below its count, as the code has read it, can be read, and its word is in its ranges
+  pub section-step : section_ok n rd d ≡ true → (s k : ℕ) → k ≡ rd (field Count d) → s < k → (s < 64) × (in_range n (code_in n rd d s) ≡ true)
+  section-step e s k count h =
+      let l : s < rd (field Count d) = omega arith in
+      let r = section-reads e s l in
+      (omega (arith, r.0), r.1 s l)
 
   -- ---- the pc
 
@@ -123,7 +130,7 @@ pub check-long : (n k : ℕ) (code : Code) → 64 < k → passes (check n k code
 unfolding check
 check-long n k code h = rw (lt-leb k 64 h) (by (leb 3 k) _)
   where
-    by : (b : Bool) (v : Verdict) → passes (cond (b && false) v Length) ≡ false
+    by : (b : Bool) (v : Verdict) → passes (cond (b && false) v (Err Length)) ≡ false
     by true v = refl
     by false v = refl
 

@@ -3,3 +3,4 @@ pub mod Sets
 pub mod Owing
 pub mod Single
 pub mod Loaded
+pub mod Given

@@ -7,8 +7,8 @@ use mathlib.Core.Bool.{true, false}
 use mathlib.Core.List.{List, [], ◌∷◌}
 use native.Mathlib.Decide.{dec_lt, ℕ_discrete}
 use native.Mathlib.Omega.{arith}
-use lib.ListN.{length, get_or, set, length-set}
-use lib.Seq.{ext_get_or, get_or-set_same, get_or-set_other}
+use lib.ListN.{length, get_or, set, take, length-set}
+use lib.Seq.{ext_get_or, get_or-set_same, get_or-set_other, get_or-take, length-take-le}
 use Rattle.base.proofs.Counting.{left_step, left-none}
 use Rattle.mask.specs.Mask.{union}
 use Rattle.mask.proofs.Members.{union-same}
@@ -33,6 +33,14 @@ eight-at f z (suc (suc (suc (suc (suc (suc (suc (suc j)))))))) h = absurd (omega
 pub eight_is : (l : List ℕ) (f : ℕ → ℕ) (k : ℕ) → length l ≡ 8 → 8 ≤ k → ((j : ℕ) → j < k → get_or l j 0 ≡ f j) → l ≡ eight f
 eight_is l f k e h g = ext_get_or 0 l (eight f) e (λ j b. g j (omega arith) ∙ sym (eight-at f 0 j (omega arith)))
 
+-- one element written, where the others are the same
+pub eight-next : (f g : ℕ → ℕ) (l : List ℕ) (d v : ℕ) → d < 8 → l ≡ eight f → v ≡ g d → ((j : ℕ) → (j ≡ d → ⊥) → f j ≡ g j) → set l d v ≡ eight g
+eight-next f g l d v h e w same = eight_is (set l d v) g 8 (length-set l d v ∙ ap length e) (omega arith) (λ j b. by j b (ℕ_discrete j d))
+  where
+    by : (j : ℕ) → j < 8 → Dec (j ≡ d) → get_or (set l d v) j 0 ≡ g j
+    by j b (yes p) = let c : d < length l = omega (arith, ap length e) in rw (p, get_or-set_same l d v 0 c) w
+    by j b (no p) = get_or-set_other l d j v 0 p ∙ (ap (λ (s : List ℕ). get_or s j 0) e ∙ (eight-at f 0 j b ∙ same j p))
+
 module _ (n : ℕ) (rd : Memory) (D : ℕ) where
   pub owed-inside : (d : ℕ) → d < D → owed_at n rd D d ≡ owed n rd d
   owed-inside d h = rw (lt-ltb d D h)
@@ -47,34 +55,46 @@ module _ (n : ℕ) (rd : Memory) (D : ℕ) where
       by (yes l) = rw (lt-ltb j d l, lt-ltb j (d + 1) (omega arith))
       by (no g) = rw (le-ltb j d (omega arith), le-ltb j (d + 1) (omega arith))
 
-  pub claimants-are : (b k : ℕ) → k ≤ D → D ≤ 8 → claimants (sets_in (eight (owed_at n rd D))) b k ≡ claimants (owed n rd) b k
-  unfolding claimants
-  claimants-are b zero h g = refl
-  claimants-are b (suc k) h g = rw (eight-at (owed_at n rd D) 0 k (omega arith), owed-inside k (omega arith), claimants-are b k (omega arith) g)
+  -- a list that has the owed sets of the image's workers
+  abbrev pub Owing : List ℕ → Type 0
+  Owing l = (length l ≡ D) × ((d : ℕ) → d < D → sets_in l d ≡ owed n rd d)
 
-  -- what the sets have together
-  pub union-are : D ≤ 8 → union (sets_in (eight (owed_at n rd D))) D ≡ union (owed n rd) D
-  union-are h = union-same _ (owed n rd) D (λ d l. eight-at (owed_at n rd D) 0 d (omega arith) ∙ owed-inside d l)
+  pub owed-first : (sets : List ℕ) (k : ℕ) → sets ≡ eight (owed_at n rd D) → k ≡ D → D ≤ 8 → Owing (take k sets)
+  owed-first sets k e q few =
+      let long : D ≤ length sets = omega (arith, ap length e) in (
+        rw q (length-take-le D sets long),
+        λ d l.
+            rw q
+            (get_or-take D sets d 0 l ∙ (ap (λ (s : List ℕ). get_or s d 0) e ∙ (eight-at (owed_at n rd D) 0 d (omega arith) ∙ owed-inside d l))),
+      )
 
   -- the owed sets of one worker more
   pub owed-next : (sets : List ℕ) (d v : ℕ) → d < 8 → sets ≡ eight (owed_at n rd d) → v ≡ owed n rd d → set sets d v ≡ eight (owed_at n rd (d + 1))
   owed-next sets d v h e f =
-      eight_is (set sets d v) (owed_at n rd (d + 1)) 8 (length-set sets d v ∙ ap length e) (omega arith) (λ j l. by j l (ℕ_discrete j d))
-    where
-      by : (j : ℕ) → j < 8 → Dec (j ≡ d) → get_or (set sets d v) j 0 ≡ owed_at n rd (d + 1) j
-      by j l (yes p) =
-          let b : d < length sets = omega (arith, ap length e) in
-          rw (p, get_or-set_same sets d v 0 b, lt-ltb d (d + 1) (omega arith)) f
-      by j l (no p) = get_or-set_other sets d j v 0 p ∙ (ap (λ (s : List ℕ). get_or s j 0) e ∙ (eight-at (owed_at n rd d) 0 j l ∙ private-wider d j p))
+      let here : v ≡ owed_at n rd (d + 1) d = rw (lt-ltb d (d + 1) (omega arith)) f in
+      eight-next (owed_at n rd d) (owed_at n rd (d + 1)) sets d v h e here (private-wider d)
 
-  -- a lock that one worker at most is owed, and one that two are owed
-  pub lock-single : (b : ℕ) → D ≤ 8 → claimants (sets_in (eight (owed_at n rd D))) b D ≤ 1 → lock_ok n rd D b ≡ owner_ok n rd D b (rd (lock b))
-  unfolding lock_ok
-  lock-single b few h = rw (← claimants-are b D (omega arith) few, le-leb (claimants (sets_in (eight (owed_at n rd D))) b D) 1 h)
+  module _ (l : List ℕ) (owing : Owing l) where
+    private-claimants : (b k : ℕ) → k ≤ D → claimants (sets_in l) b k ≡ claimants (owed n rd) b k
+    unfolding claimants
+    private-claimants b zero h = refl
+    private-claimants b (suc k) h = rw (owing.1 k (omega arith), private-claimants b k (omega arith))
 
-  pub lock-shared : (b : ℕ) → D ≤ 8 → 1 < claimants (sets_in (eight (owed_at n rd D))) b D → lock_ok n rd D b ≡ false
-  unfolding lock_ok
-  lock-shared b few h = rw (← claimants-are b D (omega arith) few, lt-leb (claimants (sets_in (eight (owed_at n rd D))) b D) 1 h)
+    claimants-are : (b : ℕ) → claimants (sets_in l) b (length l) ≡ claimants (owed n rd) b D
+    claimants-are b = rw owing.0 (private-claimants b D (omega arith))
+
+    -- what the sets have together
+    pub union-are : union (sets_in l) (length l) ≡ union (owed n rd) D
+    union-are = rw owing.0 (union-same _ (owed n rd) D owing.1)
+
+    -- a lock that one worker at most is owed, and one that two are owed
+    pub lock-single : (b : ℕ) → claimants (sets_in l) b (length l) ≤ 1 → lock_ok n rd D b ≡ owner_ok n rd D b (rd (lock b))
+    unfolding lock_ok
+    lock-single b h = rw (← claimants-are b, le-leb (claimants (sets_in l) b (length l)) 1 h)
+
+    pub lock-shared : (b : ℕ) → 1 < claimants (sets_in l) b (length l) → lock_ok n rd D b ≡ false
+    unfolding lock_ok
+    lock-shared b h = rw (← claimants-are b, lt-leb (claimants (sets_in l) b (length l)) 1 h)
 
   -- an owner word that is not 0 names the worker below it
   pub bad-on : (b : ℕ) → b < 64 → lock_ok n rd D b ≡ true → bad_lock n rd D b (64 - b) ≡ bad_lock n rd D (b + 1) (64 - (b + 1))

@@ -4,8 +4,9 @@ use Prim.Native.Nat.{ℕ, zero, suc, ◌+◌, ◌-◌}
 use mathlib.Core.Path.{◌≡◌, refl}
 use mathlib.Core.Logic.{◌≢◌}
 use mathlib.Core.Bool.{Bool, true, false, cond, ◌&&◌}
-use mathlib.Core.List.{[], ◌∷◌}
+use mathlib.Core.List.{List, [], ◌∷◌}
 use native.Mathlib.Omega.{arith}
+use Rattle.std.proofs.Common.{Result, Ok, Err, is_ok}
 use lib.Dec.{eqb}
 use borrow.Author.Tests.{ne_eqb}
 use Rattle.mask.proofs.Laws.{has-none}
@@ -13,15 +14,19 @@ use Rattle.image.specs.declared.Field.TheVariants.{Count, Pc, Owned}
 use Rattle.image.specs.Place.{field, Memory}
 use Rattle.owed.specs.Owed.{covers, owed}
 use Rattle.soundness.specs.Sound.{section_ok, pc_ok, sound, unsound}
-use Rattle.soundness.specs.Inner.Tests.{is_done, by_record}
+use Rattle.soundness.specs.declared.Refusal.{Refusal}
+use Rattle.soundness.specs.Inner.Tests.{by_record, told}
 
-pub unsound-one : (n : ℕ) (rd : Memory) (d : ℕ) → is_done (by_record (unsound n rd (d + 1) d (d + 1 - d))) ≡ sound n rd d
+pub unsound-one : (n : ℕ) (rd : Memory) (d : ℕ) (r : Result (List ℕ) Refusal)
+    → told r ≡ by_record (unsound n rd (d + 1) d (d + 1 - d)) → is_ok r ≡ sound n rd d
 unfolding unsound
-unsound-one n rd d = let e : d + 1 - d ≡ 1 = omega arith in rw e (by (sound n rd d))
+unsound-one n rd d r h = let e : d + 1 - d ≡ 1 = omega arith in by (sound n rd d) r (rw e at h)
   where
-    by : (b : Bool) → is_done (by_record (cond b [] (d ∷ []))) ≡ b
-    by true = refl
-    by false = refl
+    by : (b : Bool) (r : Result (List ℕ) Refusal) → told r ≡ by_record (cond b [] (d ∷ [])) → is_ok r ≡ b
+    by true (Ok sets) g = refl
+    by true (Err f) g = cc
+    by false (Ok sets) g = cc
+    by false (Err f) g = refl
 
 -- no lock is in every set
 covers-none : (big k : ℕ) → covers big 0 k ≡ true

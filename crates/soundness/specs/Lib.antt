@@ -1,3 +1,4 @@
 pub mod Sound
+pub mod Answer
 pub mod Codes
 pub mod Inner

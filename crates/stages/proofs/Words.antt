@@ -13,8 +13,8 @@ use Rattle.image.specs.Image.{length_of, record_at}
 use Rattle.working.specs.Refusal.{cause_of}
 use Rattle.working.specs.declared.Refusal.{Refusal}
 use Rattle.working.specs.declared.Refusal.TheVariants.{Image as ImageRefused}
-use Rattle.formatting.specs.declared.Formatted.TheVariants.{Done, Refused}
-use Rattle.formatting.specs.Format.{image_words, formattable, format_answer, format_leaves, formatted}
+use Rattle.std.proofs.Common.{Ok, Err}
+use Rattle.formatting.specs.Format.{Formatted, image_words, formattable, format_answer, format_leaves, formatted}
 use Rattle.formatting.proofs.Formats.{formattable-true, format-enough}
 use Rattle.edition.specs.Edition.{mark, own_words, largest}
 use Rattle.lines.specs.Play.{stage}
@@ -28,17 +28,20 @@ private-most D false e = rw e (omega arith)
 pub words-most : (D : ℕ) → image_words own_words D ≤ largest
 words-most D = private-most D _ refl
 
-private-accepted : (t : Bool) → cond t Done (Refused ImageRefused) ≡ Done → t ≡ true
-private-accepted true e = refl
-private-accepted false e = let z : ◌≡◌ {A = ℕ} 0 1 = cc in absurd (omega arith)
+abbrev private-answer : Bool → Formatted
+private-answer t = cond t (Ok tt) (Err ImageRefused)
 
-private-refused : (t : Bool) (r : Refusal) → cond t Done (Refused ImageRefused) ≡ Refused r → (t ≡ false) × (ImageRefused ≡ r)
-private-refused true r e = let z : ◌≡◌ {A = ℕ} 0 1 = cc in absurd (omega arith)
+private-accepted : (t : Bool) → private-answer t ≡ Ok tt → t ≡ true
+private-accepted true e = refl
+private-accepted false e = cc
+
+private-refused : (t : Bool) (r : Refusal) → private-answer t ≡ Err r → (t ≡ false) × (ImageRefused ≡ r)
+private-refused true r e = absurd (cc)
 private-refused false r e = (refl, cc)
 
 -- m is the part that was formatted
 module _ (m : List ℕ) (D : ℕ) where
-  private-formattable : format_answer own_words m D ≡ Done → formattable own_words m D ≡ true
+  private-formattable : format_answer own_words m D ≡ Ok tt → formattable own_words m D ≡ true
   unfolding format_answer
   private-formattable e = private-accepted (formattable own_words m D) e
 
@@ -50,7 +53,7 @@ module _ (m : List ℕ) (D : ℕ) where
   unfolding length_of record_at
   private-few h = omega arith
 
-  pub format-done : (e : List ℕ) → format_answer own_words m D ≡ Done
+  pub format-done : (e : List ℕ) → format_answer own_words m D ≡ Ok tt
       → e ≡ format_leaves mark own_words 18446744073709551615 m D (format_answer own_words m D) → stage e fresh ≡ format_stage D
   unfolding format_stage
   format-done e d w =
@@ -66,7 +69,7 @@ module _ (m : List ℕ) (D : ℕ) where
       let z : true ≡ false = rw (e, eq-eqb _ _ k) at f in z
   private-outside false e h f = refl
 
-  pub format-refused : (r : Refusal) → length m ≡ image_words own_words D → format_answer own_words m D ≡ Refused r
+  pub format-refused : (r : Refusal) → length m ≡ image_words own_words D → format_answer own_words m D ≡ Err r
       → stage [] (ended (cause_of r)) ≡ format_stage D
   unfolding format_stage format_answer
   format-refused r h e =

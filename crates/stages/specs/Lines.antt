@@ -1,6 +1,6 @@
 -- What the lines of a day do, as documents 01 and 02 say it: each whole, one after the other, the first and then the others; after a malformed line, or a
 -- first line whose D formatting refuses, no more. What is printed and the sums of a day are read off this.
-use Rattle.std.specs.Prelude.{ℕ, suc, List, [], ◌∷◌, ◌++◌, cond, ◌&&◌, length, eqb, leb}
+use Rattle.std.specs.Prelude.{ℕ, suc, List, [], ◌∷◌, ◌++◌, Some, None, cond, ◌&&◌, length, eqb, leb}
 use Rattle.image.specs.Image.{Image}
 use Rattle.working.specs.declared.Cursors.{Cursors}
 use Rattle.working.specs.Cursor.{all_idle}
@@ -10,11 +10,9 @@ use Rattle.formatting.specs.Format.{formatted}
 use Rattle.recovery.specs.Recovery.{Recovered, recovery}
 use Rattle.recovery.specs.Recover.{answer_of as recovery_answer, cursors_of, recovery_leaves, stores_of}
 use Rattle.edition.specs.Edition.{mark, own_words}
-use Rattle.frames.specs.declared.Opening.{Opening}
-use Rattle.frames.specs.declared.Opening.TheVariants.{Workers, Malformed as OpeningMalformed}
 use Rattle.frames.specs.declared.Frame.{Frame}
 use Rattle.frames.specs.declared.Frame.TheVariants.{Submit, Turns, Recover, Rounds, Malformed}
-use Rattle.frames.specs.Line.{first_of, frame_of}
+use Rattle.frames.specs.Line.{Opening, first_of, frame_of}
 use Rattle.frames.specs.Print.{malformed, refusal}
 use Rattle.lines.specs.Play.{Stage, submit_stage}
 use Rattle.lines.specs.Answers.{recover_prints}
@@ -51,8 +49,8 @@ line_whole m c l Malformed = ends_at m c malformed
 -- ---- the first
 
 abbrev pub first_whole : Opening → Line
-first_whole OpeningMalformed = ends_at [] all_idle malformed
-first_whole (Workers D) = cond (leb 1 D && leb D 8) (goes_on (output [] [] (formatted mark own_words D) all_idle)) (ends_at [] all_idle (cause_of ImageRefused))
+first_whole None = ends_at [] all_idle malformed
+first_whole (Some D) = cond (leb 1 D && leb D 8) (goes_on (output [] [] (formatted mark own_words D) all_idle)) (ends_at [] all_idle (cause_of ImageRefused))
 
 -- a line is the first where there is no image yet
 unfoldable pub whole_line : Image → Cursors → List ℕ → Line

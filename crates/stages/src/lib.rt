@@ -9,9 +9,8 @@ ghost use Rattle.lines.specs.Play.{stage, go_on};
 ghost use Rattle.stages.specs.Begun.{fresh, ended, format_stage, opened, line_on};
 ghost use Rattle.stages.specs.Buffer.{Holds, Buffered};
 
-use formatting::Formatted;
-use frames::{Opening, Printed};
 use lines::{Job, Played};
+use working::{Cause, Cursors};
 
 // Where a day stands.
 #[derive(Clone, Copy)]
@@ -22,29 +21,25 @@ pub struct Day {
     pub played: Played,
 }
 
-// With nothing printed, the next line follows.
-fn fresh() -> Played
-    ensures { result ≡ fresh }
+// An image of so many words on which no worker has a section: the next line follows.
+#[tactic(auto, unfolding(crate::specs::Begun::fresh))]
+fn begun(words: usize) -> Day
+    ensures { result ≡ record { words = words; played = fresh } }
 {
-    Played {
-        cursors: working::all_idle(),
-        printed: Printed::Nothing,
-        job: Job::Next,
-        repair: repair::no_repair(),
-        made: lines::no_turn(),
+    Day {
+        words,
+        played: Played::new(Cursors::all_idle(), None, Job::Next),
     }
 }
 
-// A refusal of the first line.
-fn ended(cause: u64) -> Played
-    ensures { result ≡ ended cause }
+// The first line refused: there is no image, and the day is over.
+#[tactic(auto, unfolding(crate::specs::Begun::ended))]
+fn refused(cause: u64) -> Day
+    ensures { result ≡ record { words = 0; played = ended cause } }
 {
-    Played {
-        cursors: working::all_idle(),
-        printed: frames::refusal(cause),
-        job: Job::Stop,
-        repair: repair::no_repair(),
-        made: lines::no_turn(),
+    Day {
+        words: 0,
+        played: Played::new(Cursors::all_idle(), frames::refusal(cause), Job::Stop),
     }
 }
 
@@ -52,10 +47,7 @@ fn ended(cause: u64) -> Played
 pub fn dawn() -> Day
     ensures { result ≡ record { words = 0; played = fresh } }
 {
-    Day {
-        words: 0,
-        played: fresh(),
-    }
+    begun(0)
 }
 
 // The image is formatted for so many workers.
@@ -67,16 +59,9 @@ fn format(image: &mut [u64], workers: u64) -> Day
     let n = edition::image_words(workers);
     let mut left = u64::MAX;
     let c = edition::format(&mut image[..n], workers, &mut left);
-    let answer = c.answer;
-    match answer {
-        Formatted::Done => Day {
-            words: n,
-            played: fresh(),
-        },
-        Formatted::Refused(r) => Day {
-            words: 0,
-            played: ended(working::cause(r)),
-        },
+    match c.answer {
+        Ok(_) => begun(n),
+        Err(r) => refused(r.cause()),
     }
 }
 
@@ -86,13 +71,9 @@ fn first(image: &mut [u64], text: &[u8]) -> Day
     ensures stage { stage (take result.words image.new) result.played ≡ opened (first_of text.now) }
     ensures buffer { Buffered image.old image.new 0 result.words }
 {
-    let o = frames::first(text);
-    match o {
-        Opening::Malformed => Day {
-            words: 0,
-            played: ended(frames::MALFORMED),
-        },
-        Opening::Workers(d) => format(image, d),
+    match frames::first(text) {
+        None => refused(frames::MALFORMED),
+        Some(workers) => format(image, workers),
     }
 }
 
@@ -103,17 +84,11 @@ pub fn line(image: &mut [u64], d: Day, text: &[u8]) -> Day
         ≡ line_on (stage (take d.words image.old) d.played) text.now }
     ensures buffer { Buffered image.old image.new d.words result.words }
 {
-    let n = d.words;
-    if n == 0 {
+    if d.words == 0 {
         return first(image, text);
     }
-    let p = d.played;
-    let c = p.cursors;
-    let q = lines::begin(&mut image[..n], c, text);
-    Day {
-        words: n,
-        played: q,
-    }
+    let played = lines::begin(&mut image[..d.words], d.played.cursors, text);
+    Day { played, ..d }
 }
 
 // The line gone on with.
@@ -123,11 +98,6 @@ pub fn on(image: &mut [u64], d: Day) -> Day
         ≡ go_on (stage (take d.words image.old) d.played) }
     ensures buffer { Buffered image.old image.new d.words result.words }
 {
-    let n = d.words;
-    let p = d.played;
-    let q = lines::go_on(&mut image[..n], p);
-    Day {
-        words: n,
-        played: q,
-    }
+    let played = lines::go_on(&mut image[..d.words], d.played);
+    Day { played, ..d }
 }

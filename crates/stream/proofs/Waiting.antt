@@ -24,25 +24,25 @@ unfolding complete_at
 incomplete l e = by (ltb (length (line_of l)) (length l)) e
   where
     by : (t : Bool) → cond t true (ltb 4096 (length l)) ≡ false → length l ≤ 4096
-    by true e = let z : ◌≡◌ {A = ℕ} 0 1 = cc in absurd (omega arith)
+    by true e = cc
     by false e = ltb-false 4096 (length l) e
 
 -- what is left where no piece is to be made
 short-for : (l : List ℕ) (j : Job) → ready_for true l j ≡ false → input_for j ≡ Input → length l ≤ 4096
-short-for l (Turns w k) e f = let z : ◌≡◌ {A = ℕ} 0 1 = cc in absurd (omega arith)
-short-for l (Rounds d r) e f = let z : ◌≡◌ {A = ℕ} 0 1 = cc in absurd (omega arith)
-short-for l (Stores i) e f = let z : ◌≡◌ {A = ℕ} 0 1 = cc in absurd (omega arith)
+short-for l (Turns w k) e f = cc
+short-for l (Rounds d r) e f = cc
+short-for l (Stores i) e f = cc
 short-for l Next e f = incomplete l e
-short-for l Stop e f = let z : ◌≡◌ {A = ℕ} 0 1 = cc in absurd (omega arith)
+short-for l Stop e f = cc
 
 short : (more : Bool) (room : ℕ) (l : List ℕ) (j : Job) → (leb 22 room && ready_for more l j) ≡ false → want_of more room j ≡ Input → length l ≤ 4096
 unfolding want_of
 short more room l j e w = by (ltb room 22) more refl e w
   where
     by : (t m : Bool) → ltb room 22 ≡ t → (leb 22 room && ready_for m l j) ≡ false → cond t Room (cond m (input_for j) Nothing) ≡ Input → length l ≤ 4096
-    by true m f e w = let z : ◌≡◌ {A = ℕ} 0 1 = cc in absurd (omega arith)
+    by true m f e w = cc
     by false true f e w = short-for l j (rw (le-leb 22 room (ltb-false room 22 f)) at e) w
-    by false false f e w = let z : ◌≡◌ {A = ℕ} 0 1 = cc in absurd (omega arith)
+    by false false f e w = cc
 
 whole-short : (more : Bool) (room : ℕ) (q : Point)
     → want_of more (room - length (whole more room q).out) (whole more room q).point.stage.played.job ≡ Input
@@ -71,10 +71,10 @@ waits-short m k b o u s h q rising held core same want =
 -- ---- nothing
 
 stop-for : (j : Job) → input_for j ≡ Nothing → j ≡ Stop
-stop-for (Turns w k) e = let z : ◌≡◌ {A = ℕ} 0 1 = cc in absurd (omega arith)
-stop-for (Rounds d r) e = let z : ◌≡◌ {A = ℕ} 0 1 = cc in absurd (omega arith)
-stop-for (Stores i) e = let z : ◌≡◌ {A = ℕ} 0 1 = cc in absurd (omega arith)
-stop-for Next e = let z : ◌≡◌ {A = ℕ} 0 1 = cc in absurd (omega arith)
+stop-for (Turns w k) e = cc
+stop-for (Rounds d r) e = cc
+stop-for (Stores i) e = cc
+stop-for Next e = cc
 stop-for Stop e = refl
 
 stop : (room : ℕ) (j : Job) → want_of true room j ≡ Nothing → j ≡ Stop
@@ -82,7 +82,7 @@ unfolding want_of
 stop room j e = by (ltb room 22) e
   where
     by : (t : Bool) → cond t Room (input_for j) ≡ Nothing → j ≡ Stop
-    by true e = let z : ◌≡◌ {A = ℕ} 0 1 = cc in absurd (omega arith)
+    by true e = cc
     by false e = stop-for j e
 
 pub nothing-more : (more : Bool) (room : ℕ) (q : Point) (x : List ℕ)

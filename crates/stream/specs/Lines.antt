@@ -1,10 +1,9 @@
 -- Lines of an input, counted for a message.
-use Rattle.std.specs.Prelude.{ℕ, ◌+◌, ◌-◌, ◌%◌, ◌^◌, cond, List, [], ◌∷◌, take, ◌==◌}
+use Rattle.std.specs.Prelude.{ℕ, ◌+◌, ◌-◌, ◌%◌, ◌^◌, cond, List, take, count_by, ◌==◌}
 
 -- the bytes 10 of a list
-unfoldable pub ends_in : List ℕ → ℕ
-ends_in [] = 0
-ends_in (b ∷ bs) = cond (b == 10) 1 0 + ends_in bs
+abbrev pub ends_in : List ℕ → ℕ
+ends_in l = count_by (λ b. b == 10) l
 
 -- the number of the line that ends with the n-th byte, or has it, where so many lines ended before the first
 abbrev pub line_at : List ℕ → ℕ → ℕ → ℕ

@@ -23,10 +23,10 @@ impl fmt::Display for Reason<'_> {
         let _ = write!(left, "{e}");
         let n = 128usize.saturating_sub(left.len());
         let said = str::from_utf8(&text[..n]).unwrap_or("");
-        f.write_str(match said.split_once(" (os error ") {
-            Some((words, _)) => words,
-            None => said,
-        })
+        f.write_str(
+            said.split_once(" (os error ")
+                .map_or(said, |(words, _)| words),
+        )
     }
 }
 

@@ -8,18 +8,6 @@ use crate::failures::Failures;
 use crate::{Stream, failures, telling};
 use std::io::{Read, Write};
 
-// Moves n bytes to the buffer's start. What is behind them stays.
-fn move_down(buf: &mut [u8], from: usize, n: usize)
-    requires { from + n ≤ length buf.old }
-    ensures { buf.new ≡ take n (drop from buf.old) ++ drop n buf.old }
-{
-    let mut i: usize = 0;
-    while i < n {
-        buf[i] = buf[from + i];
-        i += 1;
-    }
-}
-
 // Reads behind the first n bytes of the buffer, and answers how many came. A failure is told, and is the input's end.
 fn read_on<R: Read, E: Write>(
     input: &mut R,
@@ -57,15 +45,15 @@ pub fn more<R: Read, E: Write>(
         → IsAtEnd (R.remaining input.new) }
     ensures told { failures.old.any ≡ true → failures.new.any ≡ true }
 {
-    let from = s.from;
-    let n = s.to - from;
-    let ended = telling::ends_in(buf, from);
-    move_down(buf, from, n);
+    let n = s.to - s.from;
+    let ended = telling::ends_in(buf, s.from);
+    buf.copy_within(s.from..s.to, 0);
     let got = read_on(input, failures, buf, n);
-    let mut r = s;
-    r.from = 0;
-    r.to = n + got;
-    r.lines = std::num::wrapping_add_u64(s.lines, ended);
-    r.more = got > 0;
-    r
+    Stream {
+        from: 0,
+        to: n + got,
+        lines: s.lines.wrapping_add(ended),
+        more: got > 0,
+        ..s
+    }
 }

@@ -30,7 +30,7 @@ pub use failures::Reason;
 #[derive(Clone, Copy)]
 struct Stream {
     pub day: Day,
-    // The bytes of the input's buffer that are not taken yet.
+    // The bytes of the input's buffer that are not taken yet. The bounds change by value with the rest here; the bytes are lent beside.
     pub from: usize,
     pub to: usize,
     // The lines that ended before the input's buffer, for a message.
@@ -68,25 +68,15 @@ fn step<R: Read, W: Write, M: Write, E: Write>(
         result.day.played.job ≡ Nothing }
     ensures told { failures.old.any ≡ true → failures.new.any ≡ true }
 {
-    let from = s.from;
-    let to = s.to;
-    let more = s.more;
-    let d = s.day;
-    let r = day::advance(image, d, &buf[from..to], more, out);
-    let after = r.day;
-    let used = r.used;
-    let taken = r.taken;
-    let written = output::flush(output, failures, out, used);
-    let want = day::wants(after, more, out.len() - used);
+    let r = day::advance(image, s.day, &buf[s.from..s.to], s.more, out);
+    let written = output::flush(output, failures, out, r.used);
     let next = Stream {
-        day: after,
-        from: from + taken,
-        to: to,
-        lines: s.lines,
-        more: more,
+        day: r.day,
+        from: s.from + r.taken,
         over: !written,
+        ..s
     };
-    match want {
+    match day::wants(r.day, s.more, out.len() - r.used) {
         Want::Room => next,
         Want::Input => input::more(input, failures, buf, next),
         Want::Nothing => ended(messages, buf, next),
@@ -98,19 +88,12 @@ fn ended<M: Write>(messages: &mut M, buf: &[u8], s: Stream) -> Stream
     requires { s.from ≤ length buf.now }
     ensures { result ≡ closed s }
 {
-    let d = s.day;
-    let p = d.played;
-    let job = p.job;
-    let printed = p.printed;
     telling::tell(
         messages,
         telling::line_at(buf, s.from, s.lines),
-        job,
-        printed,
+        s.day.played,
     );
-    let mut r = s;
-    r.over = true;
-    r
+    Stream { over: true, ..s }
 }
 
 // Plays the day that comes from a reader, prints to a writer, and answers whether all was read and written. What stopped the day early is said on
@@ -142,8 +125,10 @@ pub fn play<R: Read, W: Write, M: Write, E: Write>(
         more: true,
         over: false,
     };
-    let mut turns = u64::MAX;
-    while turns > 0 && !s.over {
+    for _ in 0..u64::MAX {
+        if s.over {
+            break;
+        }
         s = step(
             input,
             output,
@@ -154,7 +139,6 @@ pub fn play<R: Read, W: Write, M: Write, E: Write>(
             &mut out,
             s,
         );
-        turns -= 1;
     }
     s.over && !failures.any
 }

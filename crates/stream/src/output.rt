@@ -8,6 +8,7 @@ use crate::failures::Failures;
 use std::io::{Error, ErrorKind, Write};
 
 // Writes bytes until a write fails or takes none, and answers how many are written. A failure is told.
+// By hand: of a failure `write_all` does not say that what is written are the first of the bytes, and after an interrupt it tries again.
 fn write_on<W: Write, E: Write>(output: &mut W, failures: &mut Failures<E>, bytes: &[u8]) -> usize
     ensures bound { result ≤ length bytes.now }
     ensures written { Appends (W.contents output.old) (W.contents output.new) (take result bytes.now) }

@@ -32,7 +32,7 @@ use Rattle.stretch.specs.Inner.Single.{Single, single, Turns, none}
 use Rattle.stretch.specs.Inner.Logged.{with_address, with_target}
 use Rattle.stretch.specs.Inner.Locks.{with_owner, took_image, disowned_image, unwanted_image}
 use Rattle.stretch.specs.Inner.Whole.{closed_image, Fetched}
-use Rattle.stretch.proofs.Running.{with_stores, Running, running, running-store, fetched-fits, fetched-step, makes, inside-store, stores-more, counts}
+use Rattle.stretch.proofs.Running.{with_stores, Running, running, running-store, fetched_fits, fetched_step, makes, inside_store, stores-more, counts}
 use Rattle.stretch.proofs.LogTurns.{other-addr, spares-addr, logged-running, logged-turns}
 
 -- ---- what a store of an address leaves of what is read after it
@@ -94,8 +94,8 @@ module _ (D n d s a : ℕ) (l : d < D) (ok : a < 64) (m : Image) (r : Running D 
 -- the image keeps its size through a release's logged store
 pub disowned-inside : (n d s a : ℕ) (m : Image) (left : ℕ) → Inside n m d → Inside n (disowned_image n d s a m left) d
 disowned-inside n d s a m left w =
-    inside-store n d _ (left - 1 - 1 - 1) (field Owned d) _ (inside-store n d _ (left - 1 - 1) (field Pc d) _
-    (inside-store n d _ (left - 1) _ _ (inside-store n d m left _ _ w)))
+    inside_store n d _ (left - 1 - 1 - 1) (field Owned d) _ (inside_store n d _ (left - 1 - 1) (field Pc d) _
+    (inside_store n d _ (left - 1) _ _ (inside_store n d m left _ _ w)))
 
 -- ---- each kind
 
@@ -114,8 +114,8 @@ module _ (n d s : ℕ) (m : Image) (left h : ℕ) (y : Tally) where
       let kept = eval-same (word_in n (at n m) d) (word_in n (at n (with_address n d s (index_of n p) v m left)) d)
       (λ x. at_other D n left m r.size sa (operand d x) (index_of n p) (spares-addr n (at n m) d D l).there
       (operand-apart d x d (spare_addr n (at n m) d))) e in
-      logged-turns D n d s l (fetched-step n d s m _ f) (Assign a e) m r 0 0 left h y p (λ (rd : Memory). eval (word_in n rd d) e) (on (s + 1) 0)
-      (quiet-operand D n d a l (fetched-fits n d s m _ f).0) (λ w. operand-held d a w h)
+      logged-turns D n d s l (fetched_step n d s m _ f) (Assign a e) m r 0 0 left h y p (λ (rd : Memory). eval (word_in n rd d) e) (on (s + 1) 0)
+      (quiet-operand D n d a l (fetched_fits n d s m _ f).0) (λ w. operand-held d a w h)
       (record { address = λ rd. refl; value = λ rd. refl; pc = λ rd. refl; target = λ rd. refl; has = omega arith }) kept (none _)
 
   -- an acquire whose lock is not free: its first turn
@@ -135,7 +135,7 @@ module _ (n d s : ℕ) (m : Image) (left h : ℕ) (y : Tally) where
       let r = running n d s m x f in
       let r1 : Running D n d s x v = rw first (running-store D n d s x m r left (field Intent d) _ (quiet-field D n Intent d l refl)) in
       let w = with_owner n d s a v (left - 1) in
-      let r2 : Running D n d s x w = running-store D n d s x v r1 (left - 1) (lock a) (d + 1) (quiet-lock D n a (fetched-fits n d s m x f)) in
+      let r2 : Running D n d s x w = running-store D n d s x v r1 (left - 1) (lock a) (d + 1) (quiet-lock D n a (fetched_fits n d s m x f)) in
       let kept = at_other D n (left - 1 - 1) w r2.size (field (spare_addr n (at n w) d) d) (field Owned d) (index_of n (field Owned d))
       (spares-addr n (at n w) d D l).there (other-addr n (at n w) d Owned refl refl) in
       let took : held_by (lock a) (d + 1) h ≡ with h a = rw (ne_eqb (d + 1) 0 (λ e. omega arith)) in
@@ -144,7 +144,7 @@ module _ (n d s : ℕ) (m : Image) (left h : ℕ) (y : Tally) where
       (rw (← first)
       (makes D n d s x v r1 4 1 (left - 1) h (with_stores 1 y) (stored (lock a) (d + 1) (on s 2)) (omega arith) (rw free)
       (rw took
-      (logged-turns D n d s l (fetched-step n d s m x f) x w r2 0 2 (left - 1 - 1) (with h a) (with_stores 1 (with_stores 1 y)) (field Owned d)
+      (logged-turns D n d s l (fetched_step n d s m x f) x w r2 0 2 (left - 1 - 1) (with h a) (with_stores 1 (with_stores 1 y)) (field Owned d)
       (λ (rd : Memory). with (rd (field Owned d)) a) (on (s + 1) 0) (quiet-field D n Owned d l refl) (λ w. refl)
       (record { address = λ rd. refl; value = λ rd. refl; pc = λ rd. refl; target = λ rd. refl; has = omega arith }) (rw kept)
       (counts n d _ _ (s + 1) 0 (with h a) count)))))
@@ -165,28 +165,28 @@ module _ (n d s : ℕ) (m : Image) (left h : ℕ) (y : Tally) where
         let sa = field (spare_addr n (at n m) d) d in
         let kept = at_other D n left m r.size sa (field Owned d) (index_of n (field Owned d)) (spares-addr n (at n m) d D l).there
         (other-addr n (at n m) d Owned refl refl) in
-        logged-turns D n d s l (fetched-step n d s m x f) x m r 2 0 left h y (field Owned d)
+        logged-turns D n d s l (fetched_step n d s m x f) x m r 2 0 left h y (field Owned d)
         (λ (rd : Memory). without (rd (field Owned d)) a) (on s 4) (quiet-field D n Owned d l refl) (λ w. refl)
         (record { address = λ rd. refl; value = λ rd. refl; pc = λ rd. refl; target = λ rd. refl; has = omega arith }) (rw kept) (rw (← first) more)
 
     pub release-frees : report_of d (at n v (lock a)) ≡ Freed
         → Turns n d 6 (single m left s 0 h y)
-        (single (unwanted_image n d a (put (left - 1 - 1 - 1 - 1) v (index_of n (lock a)) 0) (left - 1 - 1 - 1 - 1 - 1)) (left - 1 - 1 - 1 - 1 - 1 - 1) (s + 1) 0
-        (without h a) (with_stores 6 y))
+        (single (unwanted_image n d a (put (left - 1 - 1 - 1 - 1) v (index_of n (lock a)) 0) (left - 1 - 1 - 1 - 1 - 1))
+        (left - 1 - 1 - 1 - 1 - 1 - 1) (s + 1) 0 (without h a) (with_stores 6 y))
     release-frees e =
-        release-turns (unlock-frees (workers m) n d s a f.inside.below (fetched-fits n d s m _ f) v released-running (left - 1 - 1 - 1 - 1) h y e)
+        release-turns (unlock-frees (workers m) n d s a f.inside.below (fetched_fits n d s m _ f) v released-running (left - 1 - 1 - 1 - 1) h y e)
 
     pub release-free : report_of d (at n v (lock a)) ≡ AlreadyFree
         → Turns n d 6 (single m left s 0 h y)
         (single (unwanted_image n d a v (left - 1 - 1 - 1 - 1)) (left - 1 - 1 - 1 - 1 - 1) (s + 1) 0 h (with_already_free (with_stores 5 y)))
     release-free e =
-        release-turns (unlock-free (workers m) n d s a f.inside.below (fetched-fits n d s m _ f) v released-running (left - 1 - 1 - 1 - 1) h y e)
+        release-turns (unlock-free (workers m) n d s a f.inside.below (fetched_fits n d s m _ f) v released-running (left - 1 - 1 - 1 - 1) h y e)
 
     pub release-others : report_of d (at n v (lock a)) ≡ Others
         → Turns n d 6 (single m left s 0 h y)
         (single (unwanted_image n d a v (left - 1 - 1 - 1 - 1)) (left - 1 - 1 - 1 - 1 - 1) (s + 1) 0 h (with_others (with_stores 5 y)))
     release-others e =
-        release-turns (unlock-others (workers m) n d s a f.inside.below (fetched-fits n d s m _ f) v released-running (left - 1 - 1 - 1 - 1) h y e)
+        release-turns (unlock-others (workers m) n d s a f.inside.below (fetched_fits n d s m _ f) v released-running (left - 1 - 1 - 1 - 1) h y e)
 
   -- a jump
   pub jump-turns : (a b : ℕ) → Fetched n d s m (Jump a b) → (t : ℕ) → cond (eqb (word_in n (at n m) d a) 0) b (s + 1) ≡ t
@@ -195,7 +195,8 @@ module _ (n d s : ℕ) (m : Image) (left h : ℕ) (y : Tally) where
       makes (workers m) n d s (Jump a b) m (running n d s m _ f) 0 0 left h y _ (omega arith) refl (by (eqb (word_in n (at n m) d a) 0) e)
     where
       by : (z : Bool) → cond z b (s + 1) ≡ t → Turns n d 0
-          (single m left (step_no (cond z (on b 0) (on (s + 1) 0))) (turn_no (cond z (on b 0) (on (s + 1) 0))) h (with_jump y)) (single m left t 0 h (with_jump y))
+          (single m left (step_no (cond z (on b 0) (on (s + 1) 0))) (turn_no (cond z (on b 0) (on (s + 1) 0))) h (with_jump y))
+          (single m left t 0 h (with_jump y))
       by true q = rw q (none _)
       by false q = rw q (none _)
 

@@ -1,14 +1,14 @@
--- Several turns counted at once: what stores, a jump and a release that passes add to the tally of turns so far (`with_turns`); and no turns, made.
+-- Several turns counted at once: what stores, a jump and a release that passes add to the tally of turns so far (`with_turns`).
 use Prim.Native.Nat.{ℕ, ◌+◌, ◌-◌, ◌≤◌}
-use mathlib.Core.Path.{◌≡◌, refl, sym, ap, subst, ◌∙◌}
+use mathlib.Core.Path.{◌≡◌, subst}
 use native.Mathlib.Omega.{arith}
 use Rattle.image.specs.Image.{Image}
 use Rattle.tally.specs.declared.Tally.{Tally}
 use Rattle.tally.specs.declared.Passes.{Passes}
 use Rattle.tally.specs.Tally.{with_jump, with_already_free, with_others}
 use Rattle.tally.specs.Inner.Passes.{no_passes, passed, with_passed_jump, with_passed_free, with_passed_others, with_turns}
-use Rattle.stretch.specs.Inner.Single.{Single, single, Turns, none}
-use Rattle.stretch.specs.Inner.Whole.{no_turns, Made}
+use Rattle.stretch.specs.Inner.Single.{Single, single, Turns}
+use Rattle.stretch.specs.Inner.Whole.{Made}
 use Rattle.stretch.proofs.Running.{with_stores}
 
 -- turns whose tally is said otherwise
@@ -52,28 +52,39 @@ no-turns y =
     let others : y.others + 0 ≡ y.others = omega arith in
     rw (turns, stores, free, others)
 
-pub made_none : (n d s h : ℕ) (p : Passes) (m : Image) (left : ℕ) → Made n d s h p m left m left (no_turns s 0 h p)
-made_none n d s h p m left =
-    record {
-      turns = λ j y l. let e : j + 0 ≡ j = omega arith in turns-counted (ap (λ (i : ℕ). with_turns i p y) (sym e)) (none _);
-      most = omega arith;
-      few = omega arith;
-    }
-
 -- turns made, by what they add to the tally
 module _ {n d s h : ℕ} {p : Passes} {m : Image} {left : ℕ} {v : Image} {rest i t g : ℕ} where
-  pub made-stores : (k : ℕ) → ((y : Tally) → Turns n d k (single m left s 0 h y) (single v rest i t g (with_stores k y))) → k ≤ 6
+  pub made-stores : (k : ℕ) → ((y : Tally) → Turns n d k (single m left s 0 h y) (single v rest i t g (with_stores k y))) → 1 ≤ k → k ≤ 6
       → Made n d s h p m left v rest (record { turns = k; step = i; turn = t; passes = p; held = g })
-  made-stores k u l = record { turns = λ j y q. turns-counted (add-stores j p y q k) (u (with_turns j p y)); most = l; few = omega arith }
+  made-stores k u a b =
+      record { turns = λ j y q. turns-counted (add-stores j p y q k) (u (with_turns j p y)); some = a; most = b; few = omega arith }
 
   pub made-jump : ((y : Tally) → Turns n d 1 (single m left s 0 h y) (single v rest i t g (with_jump y)))
       → Made n d s h p m left v rest (record { turns = 1; step = i; turn = t; passes = with_passed_jump p; held = g })
-  made-jump u = record { turns = λ j y q. turns-counted (add-jump j p y q) (u (with_turns j p y)); most = omega arith; few = omega arith }
+  made-jump u =
+      record {
+        turns = λ j y q. turns-counted (add-jump j p y q) (u (with_turns j p y));
+        some = omega arith;
+        most = omega arith;
+        few = omega arith;
+      }
 
   pub made-free : ((y : Tally) → Turns n d 6 (single m left s 0 h y) (single v rest i t g (with_already_free (with_stores 5 y))))
       → Made n d s h p m left v rest (record { turns = 6; step = i; turn = t; passes = with_passed_free p; held = g })
-  made-free u = record { turns = λ j y q. turns-counted (add_free j p y q 5) (u (with_turns j p y)); most = omega arith; few = omega arith }
+  made-free u =
+      record {
+        turns = λ j y q. turns-counted (add_free j p y q 5) (u (with_turns j p y));
+        some = omega arith;
+        most = omega arith;
+        few = omega arith;
+      }
 
   pub made-others : ((y : Tally) → Turns n d 6 (single m left s 0 h y) (single v rest i t g (with_others (with_stores 5 y))))
       → Made n d s h p m left v rest (record { turns = 6; step = i; turn = t; passes = with_passed_others p; held = g })
-  made-others u = record { turns = λ j y q. turns-counted (add-others j p y q 5) (u (with_turns j p y)); most = omega arith; few = omega arith }
+  made-others u =
+      record {
+        turns = λ j y q. turns-counted (add-others j p y q 5) (u (with_turns j p y));
+        some = omega arith;
+        most = omega arith;
+        few = omega arith;
+      }

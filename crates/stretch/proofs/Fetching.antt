@@ -1,5 +1,4 @@
--- An instruction is fetched where its own tests pass: its count is a section's, its word is in its ranges and stands where it may (`here-fetched`). And
--- an attempt of one turn, refused or made.
+-- An instruction is fetched where its own tests pass: its count is a section's, its word is in its ranges and stands where it may (`here-fetched`).
 use Prim.Native.Nat.{ℕ, ◌+◌, ◌<◌, ◌≤◌}
 use mathlib.Core.Path.{◌≡◌, refl, sym, ap, ◌∙◌}
 use mathlib.Core.Bool.{true, false, ◌&&◌, true≢false}
@@ -17,11 +16,7 @@ use Rattle.code.specs.Inner.Fits.{ranged, fits}
 use Rattle.code.specs.Inner.Rows.{in_row, expr_row, op_row}
 use Rattle.code.proofs.Ranges.{formed-range, in-range, op-range, op_turns, turns-op}
 use Rattle.code.proofs.Decoding.{row-formed}
-use Rattle.tally.specs.declared.Tally.{Tally}
 use Rattle.plan.specs.Turn.{ready}
-use Rattle.stretch.specs.declared.Stretch.{Stretch}
-use Rattle.stretch.specs.declared.Attempt.{Attempt}
-use Rattle.stretch.specs.Inner.Stretch.{Stretched, Attempted}
 use Rattle.stretch.specs.Inner.Whole.{Fetched, Here}
 
 has-turn : (n : ℕ) (x : Op) → fits n x → 0 < op_turns x
@@ -58,13 +53,3 @@ jump-place k s a b l m = rw (lt-ltb s b l, lt-ltb b k m)
 -- the operands of an expression whose word is in its ranges
 pub row-ranged : (n w a : ℕ) (e : Expr) → op_of w ≡ Assign a e → in_row n w (expr_row e) ≡ true → ranged n e
 row-ranged n w a e o r = (op-range n w (Assign a e) (formed-range n 2 0 w (formed n 2 0 w (Assign a e) o r refl)) o).1
-
--- ---- an attempt of one turn, refused or made
-
-module _ {n d s t h : ℕ} {y : Tally} {m : Image} {left : ℕ} where
-  pub attempt-refused : {r : Attempt} → r.made ≡ false → ready n (at n m) d s t ≡ false → Attempted n d s t h y m left m left r
-  attempt-refused {r} e f = record { made = e ∙ sym f; stays = λ q. (refl, refl); stretch = λ q. absurd (true≢false (sym q ∙ e)) }
-
-  pub attempt-made : {v : Image} {rest : ℕ} {x : Stretch} → ready n (at n m) d s t ≡ true → Stretched n d s t h y m left v rest x
-      → Attempted n d s t h y m left v rest (record { made = true; stretch = x })
-  attempt-made f g = record { made = sym f; stays = λ q. absurd (true≢false q); stretch = λ q. g }

@@ -13,6 +13,7 @@ use Rattle.image.specs.Inner.Inside.{Inside}
 use Rattle.image.proofs.Header.{Sized, sized_inside}
 use Rattle.image.proofs.Stores.{sized-store, inside-lt}
 use Rattle.code.specs.declared.Op.{Op}
+use Rattle.code.specs.declared.Op.TheVariants.{Acquire, Release}
 use Rattle.code.specs.Op.{op_of}
 use Rattle.code.specs.Inner.Fits.{fits}
 use Rattle.code.proofs.Ranges.{op_turns, turns-op}
@@ -44,11 +45,17 @@ running n d s m x f =
     }
 
 -- what its instruction and its step are
-pub fetched-fits : (n d s : ℕ) (m : Image) (x : Op) → Fetched n d s m x → fits n x
-fetched-fits n d s m x f = rw f.op at (ready-says n (at n m) d s 0 f.ready).form
+pub fetched_fits : (n d s : ℕ) (m : Image) (x : Op) → Fetched n d s m x → fits n x
+fetched_fits n d s m x f = rw f.op at (ready-says n (at n m) d s 0 f.ready).form
 
-pub fetched-step : (n d s : ℕ) (m : Image) (x : Op) → Fetched n d s m x → s < 64
-fetched-step n d s m x f = (ready-says n (at n m) d s 0 f.ready).step
+pub fetched_acquire : (n d s a : ℕ) (m : Image) → Fetched n d s m (Acquire a) → a < 64
+fetched_acquire n d s a m f = fetched_fits n d s m (Acquire a) f
+
+pub fetched_release : (n d s a : ℕ) (m : Image) → Fetched n d s m (Release a) → a < 64
+fetched_release n d s a m f = fetched_fits n d s m (Release a) f
+
+pub fetched_step : (n d s : ℕ) (m : Image) (x : Op) → Fetched n d s m x → s < 64
+fetched_step n d s m x f = (ready-says n (at n m) d s 0 f.ready).step
 
 module _ (D n d s : ℕ) (x : Op) (m : Image) (r : Running D n d s x m) where
   pub running-store : (left : ℕ) (p : Place) (v : ℕ) → Spares D n p → Running D n d s x (put left m (index_of n p) v)
@@ -69,8 +76,8 @@ module _ (D n d s : ℕ) (x : Op) (m : Image) (r : Running D n d s x m) where
 
 -- ---- the image keeps its size
 
-pub inside-store : (n d : ℕ) (m : Image) (left : ℕ) (p : Place) (v : ℕ) → Inside n m d → Inside n (put left m (index_of n p) v) d
-inside-store n d m left p v w =
+pub inside_store : (n d : ℕ) (m : Image) (left : ℕ) (p : Place) (v : ℕ) → Inside n m d → Inside n (put left m (index_of n p) v) d
+inside_store n d m left p v w =
     let z = sized-store n (workers m) left m p v (record { size = w.whole; has = refl }) in
     sized_inside n (workers m) (put left m (index_of n p) v) d w.few z w.most w.below
 

@@ -13,7 +13,7 @@ use Rattle.tally.specs.Inner.Passes.{no_passes, passed, with_turns}
 use Rattle.stretch.specs.declared.Walk.{Walk}
 use Rattle.stretch.specs.Inner.Single.{single, Turns, none}
 use Rattle.stretch.specs.Inner.Whole.{Counted, Made}
-use Rattle.stretch.proofs.Sequence.{turns-append, turns-still, turns-sized, turns-count}
+use Rattle.stretch.proofs.Sequence.{turns-append, turns-sized, turns-count}
 use Rattle.stretch.proofs.Counting.{turns-counted, no-turns}
 
 -- of a section of k steps, from step s and image m₀ on, with so many rounds: where the worker stands, the turns that passed, and the rounds left
@@ -23,11 +23,6 @@ pub record Walking (n d s k rounds h : ℕ) (m₀ : Image) (left₀ : ℕ) (m : 
   pub few : passed p ≤ rounds - rest
   pub next : turn ≡ 0 → step < k
   pub made : (y : Tally) → Turns n d (rounds - rest) (single m₀ left₀ s 0 h y) (single m left step turn g (with_turns (rounds - rest) p y))
-
--- turns that are none leave all as it was
-pub made-still : {n d s h : ℕ} {p : Passes} {m : Image} {left : ℕ} {v : Image} {rest : ℕ} {r : Walk} → Made n d s h p m left v rest r → r.turns ≡ 0
-    → (v ≡ m) × (rest ≡ left)
-made-still {n} {d} {p = p} u e = turns-still n d (u.turns (passed p) nothing (omega arith)) e
 
 module _ (n d s k rounds h : ℕ) (m₀ : Image) (left₀ : ℕ) (c : Counted n d k m₀) where
   pub walk-starts : s < k → Walking n d s k rounds h m₀ left₀ m₀ left₀ s 0 h no_passes rounds

@@ -6,13 +6,12 @@ mod locks;
 mod logged;
 pub mod whole;
 
-ghost use Rattle.std.specs.Prelude.{◌≡◌, true, false, ◌≤◌};
+ghost use Rattle.std.specs.Prelude.{◌≡◌, true, ◌≤◌, IfSome};
 ghost use Rattle.image.specs.Image.{at};
 ghost use Rattle.image.specs.Inner.Inside.{Inside};
 ghost use Rattle.plan.specs.Turn.{ready};
 ghost use Rattle.tally.specs.Tally.{RoomFor};
-ghost use Rattle.stretch.specs.Inner.Stretch.{refused_at, more_by, Stretched, Attempted};
-ghost use Rattle.stretch.specs.Inner.Whole.{no_turns};
+ghost use Rattle.stretch.specs.Inner.Stretch.{more_by, Stretched, Attempted};
 
 use tally::{Passes, Tally};
 use turn::Did;
@@ -27,13 +26,6 @@ pub struct Stretch {
     pub tally: Tally,
 }
 
-// A stretch that is to be made: whether its first turn is ready, and what it leaves; where it is not, all as it was.
-#[derive(Clone, Copy)]
-pub struct Attempt {
-    pub made: bool,
-    pub stretch: Stretch,
-}
-
 // What whole instructions leave beside the image: so many turns, those of them that passed, the worker's step and turn, and the locks held. Their tally is
 // worked out by the caller: a record of five words that is handed back in memory would be waited for.
 #[derive(Clone, Copy)]
@@ -45,45 +37,13 @@ pub struct Walk {
     pub held: u64,
 }
 
-// No turn, at step s, turn t.
-fn none(s: u8, t: u8, held: u64, passes: Passes) -> Walk
-    ensures { result ≡ no_turns s t held passes }
-{
-    Walk {
-        turns: 0,
-        step: s,
-        turn: t,
-        passes: passes,
-        held: held,
-    }
-}
-
-// It is refused, at step s, turn t.
-fn refused(s: u8, t: u8, held: u64, tally: Tally) -> Attempt
-    ensures { result ≡ refused_at s t held tally }
-{
-    Attempt {
-        made: false,
-        stretch: Stretch {
-            turns: 1,
-            step: s,
-            turn: t,
-            held: held,
-            tally: tally,
-        },
-    }
-}
-
 // How many more of the rounds left a turn alone takes by what it did: none, or all of them where it waits, since no other worker is there to free the lock.
 fn more(x: Did, rest: u16) -> u16
     ensures { result ≡ more_by x rest }
 {
     match x {
-        Did::Stored(_) => 0,
-        Did::Took(_) => 0,
-        Did::Freed(_) => 0,
-        Did::Passed(_) => 0,
         Did::Waiting(_) => rest,
+        _ => 0,
     }
 }
 
@@ -108,7 +68,7 @@ fn one(
     let waits = more(did, rounds - 1);
     let turns = waits + 1;
     Stretch {
-        turns: turns,
+        turns,
         step: acted.step,
         turn: acted.turn,
         held: turn::held_after(did, held),
@@ -127,16 +87,13 @@ pub fn plain(
     held: u64,
     tally: Tally,
     left: &mut u64,
-) -> Attempt
+) -> Option<Stretch>
     requires { (Inside own image.old d) × (1 ≤ rounds) × RoomFor rounds tally }
     ensures attempt { Attempted own d s t held tally image.old left.old image.new left.new result }
-    ensures most { result.stretch.turns ≤ rounds }
+    ensures most { IfSome result (λ x. x.turns ≤ rounds) }
 {
     if !plan::ready(image, d, own, s, t) {
-        return refused(s, t, held, tally);
+        return None;
     }
-    Attempt {
-        made: true,
-        stretch: one(image, d, s, t, own, rounds, held, tally, left),
-    }
+    Some(one(image, d, s, t, own, rounds, held, tally, left))
 }

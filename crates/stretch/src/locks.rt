@@ -30,6 +30,7 @@ fn take(image: &mut [u64], d: usize, s: u8, own: usize, a: u64, left: &mut u64)
 }
 
 // An acquire's six turns; where the lock is not free its first alone, and the worker waits at the second.
+#[tactic(auto, using(crate::proofs::Running::fetched_acquire, crate::proofs::Running::fetched_step, crate::proofs::Running::field_lt))]
 pub fn acquire(
     image: &mut [u64],
     d: usize,
@@ -52,8 +53,8 @@ pub fn acquire(
             turns: 1,
             step: s,
             turn: 1,
-            passes: passes,
-            held: held,
+            passes,
+            held,
         };
     }
     take(image, d, s, own, a, left);
@@ -61,12 +62,13 @@ pub fn acquire(
         turns: code::ACQUIRE_TURNS,
         step: s + 1,
         turn: 0,
-        passes: passes,
+        passes,
         held: mask::with(held, a),
     }
 }
 
 // A release's turns 0 to 3: the owned mask without the lock, in a logged store.
+#[tactic(auto, using(crate::proofs::Running::field_lt))]
 fn disown(image: &mut [u64], d: usize, s: u8, own: usize, a: u64, left: &mut u64)
     requires { (Inside own image.old d) × (a < 64) }
     ensures image { image.new ≡ disowned_image own d s a image.old left.old }
@@ -85,6 +87,7 @@ fn disown(image: &mut [u64], d: usize, s: u8, own: usize, a: u64, left: &mut u64
 }
 
 // A release's last turn: the intent without the lock.
+#[tactic(auto, using(crate::proofs::Running::field_lt))]
 fn unwant(image: &mut [u64], d: usize, own: usize, a: u64, left: &mut u64)
     requires { (Inside own image.old d) × (a < 64) }
     ensures image { image.new ≡ unwanted_image own d a image.old left.old }
@@ -107,6 +110,7 @@ fn found(word: u64, passes: Passes) -> Passes
 }
 
 // A release's six turns. The owner word is first asked whether it is the worker's, which it nearly always is.
+#[tactic(auto, using(crate::proofs::Running::fetched_release, crate::proofs::Running::fetched_step))]
 pub fn release(
     image: &mut [u64],
     d: usize,
@@ -130,7 +134,7 @@ pub fn release(
             turns: code::RELEASE_TURNS,
             step: s + 1,
             turn: 0,
-            passes: passes,
+            passes,
             held: mask::without(held, a),
         };
     }
@@ -140,6 +144,6 @@ pub fn release(
         step: s + 1,
         turn: 0,
         passes: found(word, passes),
-        held: held,
+        held,
     }
 }

@@ -12,7 +12,7 @@ pub fn stores(image: &mut [u64], d: usize, s: u8, own: usize, target: usize, v: 
     ensures image { image.new ≡ with_target own d s target v image.old left.old }
     ensures left { left.new ≡ left.old - 1 - 1 - 1 - 1 }
 {
-    let address = image::field_index(worklog::spare_addr(image, d, own), d, own);
+    let address = image::field_index(worklog::spare(image, d, own).addr, d, own);
     let value = image::value_index(address);
     let pc = worklog::switched(image, d, own, s);
     let mut rest = *left;

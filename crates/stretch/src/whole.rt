@@ -4,65 +4,13 @@ ghost use Rattle.image.specs.Inner.Inside.{Inside};
 ghost use Rattle.tally.specs.declared.Tally.{Tally};
 ghost use Rattle.tally.specs.Inner.Passes.{passed, with_turns};
 ghost use Rattle.stretch.specs.Inner.Single.{single, Turns};
-ghost use Rattle.stretch.specs.Inner.Whole.{closed_image, Counted, Here, Made};
+ghost use Rattle.stretch.specs.Inner.Whole.{closed_image, Counted, Here, Tried};
 
-use crate::{Walk, assigning, locks, none};
-use code::Op;
+use crate::{Walk, assigning, locks};
+use code::{ACQUIRE, FINISH, JUMP, Op, RELEASE};
 use image::Field;
 use tally::Passes;
 use worklog::words;
-
-// An acquire's six turns, where its first is ready; its first alone, where its lock is not free.
-fn acquire(
-    image: &mut [u64],
-    d: usize,
-    s: u8,
-    own: usize,
-    k: u64,
-    w: u64,
-    a: u64,
-    held: u64,
-    passes: Passes,
-    left: &mut u64,
-) -> Walk
-    requires { Here own d s k image.old w (Op.Acquire a) × (passed passes < 65535) }
-    ensures made { Made own d s held passes image.old left.old image.new left.new result }
-    ensures next { result.turn ≡ 0 → result.step < k }
-{
-    if !code::acquire_fits(w, own as u16) {
-        return none(s, 0, held, passes);
-    }
-    if k <= s as u64 + 1 {
-        return none(s, 0, held, passes);
-    }
-    locks::acquire(image, d, s, own, a, held, passes, left)
-}
-
-// A release's six turns, where its first is ready.
-fn release(
-    image: &mut [u64],
-    d: usize,
-    s: u8,
-    own: usize,
-    k: u64,
-    w: u64,
-    a: u64,
-    held: u64,
-    passes: Passes,
-    left: &mut u64,
-) -> Walk
-    requires { Here own d s k image.old w (Op.Release a) × (passed passes < 65535) }
-    ensures made { Made own d s held passes image.old left.old image.new left.new result }
-    ensures next { result.turn ≡ 0 → result.step < k }
-{
-    if !code::release_fits(w, own as u16) {
-        return none(s, 0, held, passes);
-    }
-    if k <= s as u64 + 1 {
-        return none(s, 0, held, passes);
-    }
-    locks::release(image, d, s, own, a, held, passes, left)
-}
 
 // A jump's one turn, where it is ready.
 fn jump(
@@ -76,36 +24,29 @@ fn jump(
     b: u64,
     held: u64,
     passes: Passes,
-) -> Walk
+) -> Option<Walk>
     requires { Here own d s k image.now w (Op.Jump a b) × (passed passes < 65535) }
-    ensures made { (left : ℕ) → Made own d s held passes image.now left image.now left result }
-    ensures next { result.turn ≡ 0 → result.step < k }
+    ensures { (left : ℕ) → Tried own d s k held passes image.now left image.now left result }
 {
-    if !code::jump_fits(w, own as u16) {
-        return none(s, 0, held, passes);
+    if !code::fits::<JUMP>(w, own as u16) || k <= b || b <= s as u64 {
+        return None;
     }
-    if k <= b {
-        return none(s, 0, held, passes);
-    }
-    if b <= s as u64 {
-        return none(s, 0, held, passes);
-    }
-    let counted = tally::passed_jump(passes);
     let step = if words::word(image, d, a, own) == 0 {
         b as u8
     } else {
         s + 1
     };
-    Walk {
+    Some(Walk {
         turns: code::JUMP_TURNS,
-        step: step,
+        step,
         turn: 0,
-        passes: counted,
-        held: held,
-    }
+        passes: tally::passed_jump(passes),
+        held,
+    })
 }
 
 // A finish's stores: the number as finished, then 0 in the pc and in the count.
+#[tactic(auto, using(crate::proofs::Running::field_lt))]
 fn close(image: &mut [u64], d: usize, own: usize, left: &mut u64)
     requires { Inside own image.old d }
     ensures image { image.new ≡ closed_image own d image.old left.old }
@@ -133,25 +74,21 @@ fn finish(
     held: u64,
     passes: Passes,
     left: &mut u64,
-) -> Walk
+) -> Option<Walk>
     requires { Here own d s k image.old w Op.Finish × (passed passes < 65535) }
-    ensures made { Made own d s held passes image.old left.old image.new left.new result }
-    ensures next { result.turn ≡ 0 → result.step < k }
+    ensures { Tried own d s k held passes image.old left.old image.new left.new result }
 {
-    if !code::finish_fits(w, own as u16) {
-        return none(s, 0, held, passes);
-    }
-    if k != s as u64 + 1 {
-        return none(s, 0, held, passes);
+    if !code::fits::<FINISH>(w, own as u16) || k != s as u64 + 1 {
+        return None;
     }
     close(image, d, own, left);
-    Walk {
+    Some(Walk {
         turns: code::FINISH_TURNS,
         step: 0,
         turn: 255,
-        passes: passes,
-        held: held,
-    }
+        passes,
+        held,
+    })
 }
 
 // The turns of the instruction at step s of k, from the first, where that is ready.
@@ -164,24 +101,29 @@ fn instruction(
     held: u64,
     passes: Passes,
     left: &mut u64,
-) -> Walk
+) -> Option<Walk>
     requires { Counted own d k image.old × (s < k) × (passed passes < 65535) }
-    ensures made { Made own d s held passes image.old left.old image.new left.new result }
-    ensures next { result.turn ≡ 0 → result.step < k }
+    ensures { Tried own d s k held passes image.old left.old image.new left.new result }
 {
     let w = image::read_step(image, d, s as usize, own);
+    let inside = s as u64 + 1 < k;
     match code::op_of(w) {
-        Op::Acquire(a) => acquire(image, d, s, own, k, w, a, held, passes, left),
-        Op::Release(a) => release(image, d, s, own, k, w, a, held, passes, left),
+        Op::Acquire(a) if inside && code::fits::<ACQUIRE>(w, own as u16) => Some(locks::acquire(
+            image, d, s, own, a, held, passes, left,
+        )),
+        Op::Release(a) if inside && code::fits::<RELEASE>(w, own as u16) => Some(locks::release(
+            image, d, s, own, a, held, passes, left,
+        )),
         Op::Assign(a, e) => assigning::assign(image, d, s, own, k, w, a, e, held, passes, left),
         Op::Jump(a, b) => jump(image, d, s, own, k, w, a, b, held, passes),
         Op::Finish => finish(image, d, s, own, k, w, held, passes, left),
-        Op::Unknown => none(s, 0, held, passes),
+        _ => None,
     }
 }
 
 // Instructions one after another, from step s of k, each from its first turn to its last, while their first turns are ready and six rounds are left. What falls
 // short is left to the plain way, so that this loop has no call in it. The stores left are kept in a local meanwhile, and the count is read once.
+// (It ends by the turn, by the rounds left or by an instruction that is not ready: no index is counted.)
 fn instructions_of(
     image: &mut [u64],
     d: usize,
@@ -204,17 +146,10 @@ fn instructions_of(
     let mut locks = held;
     let mut passes = tally::no_passes();
     let mut rest = rounds as u64;
-    loop {
-        if turn != 0 {
+    while turn == 0 && code::MOST_TURNS <= rest {
+        let Some(x) = instruction(image, d, step, own, k, locks, passes, &mut stores) else {
             break;
-        }
-        if rest < code::MOST_TURNS {
-            break;
-        }
-        let x = instruction(image, d, step, own, k, locks, passes, &mut stores);
-        if x.turns == 0 {
-            break;
-        }
+        };
         step = x.step;
         turn = x.turn;
         locks = x.held;
@@ -224,9 +159,9 @@ fn instructions_of(
     *left = stores;
     Walk {
         turns: rounds as u64 - rest,
-        step: step,
-        turn: turn,
-        passes: passes,
+        step,
+        turn,
+        passes,
         held: locks,
     }
 }
@@ -249,17 +184,14 @@ pub fn instructions(
     ensures most { result.turns ≤ rounds }
 {
     let k = image::read_field(image, Field::Count, d, own);
-    if t != 0 {
-        return none(s, t, held, tally::no_passes());
-    }
-    if k < 3 {
-        return none(s, t, held, tally::no_passes());
-    }
-    if 64 < k {
-        return none(s, t, held, tally::no_passes());
-    }
-    if k <= s as u64 {
-        return none(s, t, held, tally::no_passes());
+    if t != 0 || k < 3 || 64 < k || k <= s as u64 {
+        return Walk {
+            turns: 0,
+            step: s,
+            turn: t,
+            passes: tally::no_passes(),
+            held,
+        };
     }
     instructions_of(image, d, s, own, k, rounds, held, left)
 }

@@ -9,37 +9,15 @@ use Rattle.working.specs.declared.Cursors.{Cursors}
 use Rattle.image.specs.Image.{Image}
 use Rattle.lines.specs.Whole.{Took}
 use Rattle.buffers.specs.Input.{line_of, rest_of, lines_of}
-use Rattle.buffers.proofs.Lines.{line-bound, rest-next, rest-last, lines-first}
+use Rattle.buffers.proofs.Lines.{lines-first}
 use Rattle.stages.specs.Begun.{fresh}
 use Rattle.stages.specs.Lines.{Line, Reading, whole_line, followed, lines_whole}
 use Rattle.pieces.specs.Pieces.{ends_of}
 use Rattle.sums.specs.declared.playing.Stand.{Stand}
-use Rattle.sums.specs.Sums.{Sums, sums_of}
+use Rattle.sums.specs.declared.Sums.{Sums}
+use Rattle.sums.specs.Sums.{sums_of}
 use Rattle.sums.specs.Day.{day_reading, day_sums}
 use Rattle.sums.specs.Inner.Playing.{LinePlayed, Rest, Stands}
-
--- ---- where the input goes on
-
-module _ (bytes : List ℕ) (from end n : ℕ) (h : from < length bytes) (e : end ≡ length (line_of (drop from bytes))) (m : n ≡ length (drop from bytes)) where
-  abbrev private-behind : Bool → ℕ
-  private-behind t = cond t (from + end + 1) (from + end)
-
-  private-long : (length (drop from bytes) ≡ length bytes - from) × (length (line_of (drop from bytes)) ≤ length (drop from bytes))
-  private-long = (length-drop from bytes, line-bound (drop from bytes))
-
-  pub behind-rest : drop (private-behind (ltb end n)) bytes ≡ rest_of (drop from bytes)
-  behind-rest = by (ltb end n) refl
-    where
-      by : (t : Bool) → ltb end n ≡ t → drop (private-behind t) bytes ≡ rest_of (drop from bytes)
-      by true t = rest-next bytes from end _ e refl
-      by false t = rest-last bytes from end _ e (omega (arith, ltb-false end n t)) refl
-
-  pub behind-further : (from < private-behind (ltb end n)) × (private-behind (ltb end n) ≤ length bytes)
-  behind-further = by (ltb end n) refl
-    where
-      by : (t : Bool) → ltb end n ≡ t → (from < private-behind t) × (private-behind t ≤ length bytes)
-      by true t = (omega arith, omega (arith, ltb-true end n t, private-long))
-      by false t = (omega (arith, ltb-false end n t, private-long), omega (arith, private-long))
 
 -- ---- the lines left
 
@@ -70,7 +48,7 @@ module _ (whole : Reading) (ts : List Took) (lines : ℕ) (x : Line) (more : Ima
 -- ---- the loop
 
 -- m and k are the image's buffers, x and y the sums, before the next line and behind it
-module _ (bytes m k : List ℕ) (s r : Stand) (x y : Sums) (g : Stands bytes m s x) (none : s.ends ≡ 0) (h : s.from < length bytes)
+module _ (bytes m k : List ℕ) (s r : Stand) (x y : Sums) (g : Stands bytes m s x) (none : ends_of s.day.played ≡ 0) (h : s.from < length bytes)
     (p : LinePlayed m k s.day r.day x y (whole_line (take s.day.words m) s.day.played.cursors (line_of (drop s.from bytes)))) where
   abbrev private-line : Line
   private-line = whole_line (take s.day.words m) s.day.played.cursors (line_of (drop s.from bytes))
@@ -83,9 +61,9 @@ module _ (bytes m k : List ℕ) (s r : Stand) (x y : Sums) (g : Stands bytes m s
       rw (← reading-first (drop s.from bytes) (take s.day.words m) s.day.played.cursors (omega (arith, length-drop s.from bytes)))
       (g.going none)
 
-  pub stands-next : r.ends ≡ ends_of r.day.played → r.lines ≡ s.lines + 1 → drop r.from bytes ≡ rest_of (drop s.from bytes)
+  pub stands-next : r.lines ≡ s.lines + 1 → drop r.from bytes ≡ rest_of (drop s.from bytes)
       → s.from < r.from → r.from ≤ length bytes → length k ≡ length m → Stands bytes k r y
-  stands-next ends lines to further in-it long = record {
+  stands-next lines to further in-it long = record {
     turns = g.turns ++ private-line.output.turns;
     counted = p.counts g.turns g.counted;
     inside = in-it;
@@ -93,15 +71,15 @@ module _ (bytes m k : List ℕ) (s r : Stand) (x y : Sums) (g : Stands bytes m s
     holds = record { words = p.keeps.words; largest = omega (arith, g.holds.largest) };
     going =
         λ e. rw (to, lines, p.image, p.cursors) (follows (day_reading bytes) g.turns s.lines private-line private-more private-rest
-        (sym p.ends ∙ sym ends ∙ e));
+        (sym p.ends ∙ e));
     over =
-        λ e. rw (lines, ends, p.ends) (ends_there (day_reading bytes) g.turns s.lines private-line private-more private-rest
-        (λ q. e (ends ∙ p.ends ∙ q)));
+        λ e. rw (lines, p.ends) (ends_there (day_reading bytes) g.turns s.lines private-line private-more private-rest
+        (λ q. e (p.ends ∙ q)));
   }
 
 -- before the first line: all of them are left
 pub stands-start : (bytes m : List ℕ) (x : Sums) → largest ≤ length m → x ≡ sums_of []
-    → Stands bytes m (record { day = record { words = 0; played = fresh }; from = 0; lines = 0; ends = 0 }) x
+    → Stands bytes m (record { day = record { words = 0; played = fresh }; from = 0; lines = 0 }) x
 unfolding fresh
 stands-start bytes m x h e = record {
   turns = [];
@@ -127,14 +105,14 @@ no_line m c l e = rw e (refl, refl, refl)
 
 -- behind the last: none is left
 module _ (bytes m : List ℕ) (s : Stand) (x : Sums) (g : Stands bytes m s x) where
-  private-over : (t u : Bool) → eqb s.ends 0 ≡ t → ltb s.from (length bytes) ≡ u → (t && u) ≡ false
-      → (x ≡ day_sums bytes) × (s.ends ≡ (day_reading bytes).ends) × (s.lines ≡ (day_reading bytes).read)
+  private-over : (t u : Bool) → eqb (ends_of s.day.played) 0 ≡ t → ltb s.from (length bytes) ≡ u → (t && u) ≡ false
+      → (x ≡ day_sums bytes) × (ends_of s.day.played ≡ (day_reading bytes).ends) × (s.lines ≡ (day_reading bytes).read)
   private-over false u e f h =
-      let o = g.over (eqb-false s.ends 0 e) in
+      let o = g.over (eqb-false (ends_of s.day.played) 0 e) in
       (g.counted ∙ ap sums_of (sym o.0), sym o.1, sym o.2)
   private-over true true e f h = absurd (true≢false h)
   private-over true false e f h =
-      let z = eqb-true s.ends 0 e in
+      let z = eqb-true (ends_of s.day.played) 0 e in
       let o = g.going z in
       let all = drop_all bytes s.from (ltb-false s.from (length bytes) f) in
       let n = no_line (take s.day.words m) s.day.played.cursors (drop s.from bytes) all in (
@@ -143,6 +121,6 @@ module _ (bytes m : List ℕ) (s : Stand) (x : Sums) (g : Stands bytes m s x) wh
         sym (o.read ∙ ap (λ (k : ℕ). s.lines + k) n.2 ∙ omega arith),
       )
 
-  pub stands-over : (eqb s.ends 0 && ltb s.from (length bytes)) ≡ false
-      → (x ≡ day_sums bytes) × (s.ends ≡ (day_reading bytes).ends) × (s.lines ≡ (day_reading bytes).read)
-  stands-over h = private-over (eqb s.ends 0) (ltb s.from (length bytes)) refl refl h
+  pub stands-over : (eqb (ends_of s.day.played) 0 && ltb s.from (length bytes)) ≡ false
+      → (x ≡ day_sums bytes) × (ends_of s.day.played ≡ (day_reading bytes).ends) × (s.lines ≡ (day_reading bytes).read)
+  stands-over h = private-over (eqb (ends_of s.day.played) 0) (ltb s.from (length bytes)) refl refl h

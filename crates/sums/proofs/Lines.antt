@@ -1,18 +1,19 @@
 -- A line played to its end, piece by piece (`Goes`): what is left to be gathered of it falls, and the turns that were counted are those gathered. At its end it
 -- is the line whole (`line-played`).
 use Rattle.std.proofs.Common.{◌≡◌, ℕ, ◌<◌, ◌≤◌, true, false, List, [], ◌++◌, length, take, sym, refl, ap, ◌∙◌, append_assoc, append-nil, arith}
-use Rattle.lines.specs.Play.{Stage, stage, go_on}
+use Rattle.lines.specs.Play.{Stage, stage, is_going, go_on}
 use Rattle.lines.specs.Whole.{Took, Output, turns_in}
 use Rattle.stages.specs.declared.Day.{Day}
 use Rattle.stages.specs.Begun.{line_on}
 use Rattle.stages.specs.Buffer.{Buffered}
 use Rattle.stages.specs.Lines.{whole_line}
 use Rattle.stages.proofs.Buffers.{same-buffered, buffered-then}
-use Rattle.pieces.specs.Pieces.{job_pieces, is_going, ends_of}
+use Rattle.pieces.specs.Pieces.{job_pieces, ends_of}
 use Rattle.pieces.proofs.Runs.{on-less}
 use Rattle.pieces.proofs.Stopping.{was-none, on-ends}
 use Rattle.pieces.proofs.Gathers.{gathers, gathers-rests, gathers-on, line-whole}
-use Rattle.sums.specs.Sums.{Sums, sums_of}
+use Rattle.sums.specs.declared.Sums.{Sums}
+use Rattle.sums.specs.Sums.{sums_of}
 use Rattle.sums.specs.Inner.Counting.{counted}
 use Rattle.sums.specs.Inner.Playing.{LinePlayed}
 use Rattle.sums.proofs.Numbers.{counted-sums}

@@ -4,7 +4,8 @@ use Rattle.working.specs.Cursor.{all_idle}
 use Rattle.buffers.specs.Input.{lines_of}
 use Rattle.stages.specs.Lines.{Reading, lines_whole}
 use Rattle.lines.specs.Whole.{Took}
-use Rattle.sums.specs.Sums.{Sums, sums_of}
+use Rattle.sums.specs.declared.Sums.{Sums}
+use Rattle.sums.specs.Sums.{sums_of}
 
 -- what the lines of a day do
 abbrev pub day_reading : List ℕ → Reading

@@ -4,6 +4,7 @@ use Rattle.std.specs.Prelude.{ℕ, zero, suc, ◌+◌, min, Bool, true, false, c
 use Rattle.turn.specs.declared.Answer.{Answer}
 use Rattle.turn.specs.declared.Answer.TheVariants.{Stored, Passed, Waiting, Idle, Refused}
 use Rattle.lines.specs.Whole.{Took}
+use Rattle.sums.specs.declared.Sums.{Sums}
 
 -- ---- which number a turn is in
 
@@ -55,11 +56,6 @@ top = 18446744073709551615
 unfoldable pub numbers : (ℕ → Took → Bool) → List Took → ℕ → ℕ → List ℕ
 numbers P ts i zero = []
 numbers P ts i (suc k) = min (count (P i) ts) top ∷ numbers P ts (i + 1) k
-
-pub record Sums : Type 0 where
-  pub locks : List ℕ
-  pub waited : List ℕ
-  pub moved : List ℕ
 
 abbrev pub sums : List ℕ → List ℕ → List ℕ → Sums
 sums l w m = record { locks = l; waited = w; moved = m }

@@ -9,7 +9,17 @@ ghost use Rattle.std.specs.Prelude.{◌≡◌};
 ghost use Rattle.sums.specs.Sums.{sums};
 ghost use Rattle.sums.specs.Day.{day_reading, day_sums};
 
-// How far a day was read: the cause that ended it early, or 0, and the lines read, the one that ended it included.
+use playing::Stand;
+
+// The sums in memory.
+#[derive(Clone, Copy)]
+pub struct Sums {
+    pub locks: [u64; 64],
+    pub waited: [u64; 8],
+    pub moved: [u64; 8],
+}
+
+// How far a day was read: the cause that ended it early, or 0, as C gets it, and the lines read, the one that ended it included.
 #[derive(Clone, Copy)]
 pub struct Read {
     pub ends: u64,
@@ -27,16 +37,21 @@ pub fn day_sums(
     ensures ends { result.ends ≡ (day_reading bytes.now).ends }
     ensures lines { result.lines ≡ (day_reading bytes.now).read }
 {
-    *locks = [0; 64];
-    *waited = [0; 8];
-    *moved = [0; 8];
+    let mut sums = Sums {
+        locks: [0; 64],
+        waited: [0; 8],
+        moved: [0; 8],
+    };
     let mut image = [0u64; edition::LARGEST];
-    let mut s = playing::start();
-    while playing::more(s, bytes.len()) {
-        s = playing::next(&mut image, s, bytes, locks, waited, moved);
+    let mut s = Stand::start();
+    while s.goes_on(bytes.len()) {
+        s = s.next(&mut image, bytes, &mut sums);
     }
+    *locks = sums.locks;
+    *waited = sums.waited;
+    *moved = sums.moved;
     Read {
-        ends: s.ends,
+        ends: s.ends(),
         lines: s.lines,
     }
 }

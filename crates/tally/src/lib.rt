@@ -1,6 +1,6 @@
 // What a run keeps: its turns, waits and stores, and the releases that found their lock already free or another's, in one
 // tally record. The record is lent by &mut to one thin counting function for each answer of a turn, over a core that counts by
-// value. Several turns of a kind are counted at once by value alone.
+// value: so document 01 names it, and so each answer has a function in each layer. Several turns of a kind are counted at once by value alone.
 #![tactic(auto)]
 
 ghost use Rattle.std.specs.Prelude.{◌≡◌, ◌<◌, ◌≤◌};
@@ -50,10 +50,8 @@ fn counted_stored(t: Tally) -> Tally
 {
     Tally {
         turns: t.turns + 1,
-        waits: t.waits,
         stores: t.stores + 1,
-        free: t.free,
-        others: t.others,
+        ..t
     }
 }
 
@@ -64,10 +62,7 @@ fn counted_jump(t: Tally) -> Tally
 {
     Tally {
         turns: t.turns + 1,
-        waits: t.waits,
-        stores: t.stores,
-        free: t.free,
-        others: t.others,
+        ..t
     }
 }
 
@@ -78,10 +73,8 @@ fn counted_already_free(t: Tally) -> Tally
 {
     Tally {
         turns: t.turns + 1,
-        waits: t.waits,
-        stores: t.stores,
         free: t.free + 1,
-        others: t.others,
+        ..t
     }
 }
 
@@ -92,10 +85,8 @@ fn counted_others(t: Tally) -> Tally
 {
     Tally {
         turns: t.turns + 1,
-        waits: t.waits,
-        stores: t.stores,
-        free: t.free,
         others: t.others + 1,
+        ..t
     }
 }
 
@@ -107,9 +98,7 @@ fn counted_waiting(t: Tally) -> Tally
     Tally {
         turns: t.turns + 1,
         waits: t.waits + 1,
-        stores: t.stores,
-        free: t.free,
-        others: t.others,
+        ..t
     }
 }
 
@@ -211,9 +200,7 @@ pub fn waits(t: Tally, k: u64) -> Tally
     Tally {
         turns: t.turns + k,
         waits: t.waits + k,
-        stores: t.stores,
-        free: t.free,
-        others: t.others,
+        ..t
     }
 }
 
@@ -235,8 +222,7 @@ pub fn passed_jump(p: Passes) -> Passes
 {
     Passes {
         jumps: p.jumps + 1,
-        free: p.free,
-        others: p.others,
+        ..p
     }
 }
 
@@ -246,9 +232,8 @@ pub fn passed_free(p: Passes) -> Passes
     ensures { result ≡ with_passed_free p }
 {
     Passes {
-        jumps: p.jumps,
         free: p.free + 1,
-        others: p.others,
+        ..p
     }
 }
 
@@ -258,9 +243,8 @@ pub fn passed_others(p: Passes) -> Passes
     ensures { result ≡ with_passed_others p }
 {
     Passes {
-        jumps: p.jumps,
-        free: p.free,
         others: p.others + 1,
+        ..p
     }
 }
 
@@ -272,9 +256,9 @@ pub fn turns(t: Tally, k: u64, p: Passes) -> Tally
     let passed = p.jumps as u64 + p.free as u64 + p.others as u64;
     Tally {
         turns: t.turns + k,
-        waits: t.waits,
         stores: t.stores + (k - passed),
         free: t.free + p.free as u64,
         others: t.others + p.others as u64,
+        ..t
     }
 }

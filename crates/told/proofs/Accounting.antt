@@ -11,6 +11,7 @@ use lib.ListN.{length}
 use borrow.Author.Tests.{ne_eqb, eq-eqb}
 use native.Mathlib.Omega.{arith}
 use native.Mathlib.Decide.{ℕ_discrete}
+use Rattle.std.specs.Prelude.{Ok}
 use Rattle.image.specs.declared.Field.{Field}
 use Rattle.image.specs.declared.Field.TheVariants.{Pc, Intent}
 use Rattle.image.specs.Place.{Place, lock, field, step, Memory}
@@ -19,7 +20,6 @@ use Rattle.image.specs.Image.{Image, at}
 use Rattle.code.specs.declared.Op.{Op}
 use Rattle.code.specs.declared.Op.TheVariants.{Acquire, Release, Assign, Jump, Finish, Unknown}
 use Rattle.code.specs.Op.{op_of}
-use Rattle.intake.specs.declared.Submitted.TheVariants.{Taken}
 use Rattle.worklog.specs.Log.{code_in}
 use Rattle.working.specs.Cursor.{Cursor, idle, on, step_no, turn_no, cursor_at}
 use Rattle.plan.specs.Turn.{Outcome, stored, passed, waiting, resting, refused, turn_at}
@@ -309,11 +309,11 @@ module _ (mark n D : ℕ) (cells : List ℕ) where
   module _
       (w : Traced) (d k : ℕ) (args ws : List ℕ) (wide : 8 ≤ n) (eight : length args ≡ 8) (r : Running mark n D cells w)
       (t : TakenAs mark n w.world d k ws) where
-    submitted-accounted : Accounted w → Accounted (submitted mark n w d k args ws Taken)
+    submitted-accounted : Accounted w → Accounted (submitted mark n w d k args ws (Ok tt))
     submitted-accounted x e l = rw (submitted-cursors mark n D cells w d k args ws wide eight r t e l) (by (ℕ_discrete e d))
       where
         behind : Memory
-        behind = at n (submitted mark n w d k args ws Taken).world.image
+        behind = at n (submitted mark n w d k args ws (Ok tt)).world.image
 
         aside : Aside d (at n w.world.image) behind
         aside = submitted-aside mark n D cells w d k args ws wide eight r t

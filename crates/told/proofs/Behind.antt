@@ -8,6 +8,7 @@ use mathlib.Core.List.{List}
 use lib.ListN.{length}
 use lib.Seq.{take_all}
 use native.Mathlib.Omega.{arith}
+use Rattle.std.specs.Prelude.{Ok}
 use Rattle.image.specs.declared.Field.TheVariants.{Number}
 use Rattle.image.specs.Place.{Place, field, Memory}
 use Rattle.image.specs.Inner.Same.{upd}
@@ -15,7 +16,6 @@ use Rattle.image.specs.Image.{at, workers}
 use Rattle.image.proofs.Header.{header-workers}
 use Rattle.section.specs.Check.{code_of}
 use Rattle.section.proofs.Facts.{check-parts}
-use Rattle.intake.specs.declared.Submitted.TheVariants.{Taken}
 use Rattle.working.specs.Cursor.{Cursor, on, cursor_at, placed}
 use Rattle.plan.specs.Turn.{Outcome, stored, passed, waiting, resting, refused}
 use Rattle.intake.specs.Submit.{submission}
@@ -101,7 +101,7 @@ module _
     (mark n D : ℕ) (cells : List ℕ) (w : Traced) (d k : ℕ) (args ws : List ℕ) (wide : 8 ≤ n) (eight : length args ≡ 8) (r : Running mark n D cells w)
     (t : TakenAs mark n w.world d k ws) where
   abbrev behind : Memory
-  behind = at n (submitted mark n w d k args ws Taken).world.image
+  behind = at n (submitted mark n w d k args ws (Ok tt)).world.image
 
   abbrev before : Memory
   before = at n w.world.image
@@ -119,7 +119,7 @@ module _
       (submission-laid n before d k args ws).number
 
   pub submitted-cursors :
-      (e : ℕ) → e < D → cursor_at (submitted mark n w d k args ws Taken).world.cursors e ≡ but (cursor_at w.world.cursors) d (on 0 0) e
+      (e : ℕ) → e < D → cursor_at (submitted mark n w d k args ws (Ok tt)).world.cursors e ≡ but (cursor_at w.world.cursors) d (on 0 0) e
   submitted-cursors e l =
       let below = dl mark n D cells w d k args ws wide eight r t in
       sym (cursors-placed D w.world.cursors d (on 0 0) r.full (few mark n D cells w r.reached) below (λ z. omega arith) e l)

@@ -11,6 +11,7 @@ use native.Mathlib.Nat.{suc-mul}
 use lib.ListN.{length, take}
 use lib.Seq.{take_all}
 use borrow.Author.Tests.{ltb-true, ne_eqb}
+use Rattle.std.specs.Prelude.{Ok, Err}
 use Rattle.image.specs.Place.{Store}
 use Rattle.image.specs.Image.{Image, at, workers, header_ok, put, put_all}
 use Rattle.image.proofs.Header.{header-workers}
@@ -18,14 +19,12 @@ use Rattle.image.proofs.Lists.{put_all-cut}
 use Rattle.section.specs.Check.{code_of}
 use Rattle.section.proofs.Facts.{check-parts}
 use Rattle.working.specs.declared.Cursors.{Cursors}
-use Rattle.intake.specs.declared.Submitted.{Submitted}
-use Rattle.intake.specs.declared.Submitted.TheVariants.{Taken, Refused}
 use Rattle.working.specs.Cursor.{on, placed, all_idle}
 use Rattle.plan.specs.Turn.{Outcome, stored, passed, waiting, resting, refused}
 use Rattle.working.specs.World.{world}
 use Rattle.turn.specs.Call.{outcome_at, outcome}
 use Rattle.run.specs.Run.{any_open}
-use Rattle.intake.specs.Submit.{submission, free, submit_answer, submit_leaves, is_taken}
+use Rattle.intake.specs.Submit.{Submitted, submission, free, submit_answer, submit_leaves, is_taken}
 use Rattle.intake.proofs.Submission.{accepted as met, submission-length}
 use Rattle.recovery.specs.Recovery.{Recovered, accepted, rejected, by_first, recovery}
 use Rattle.soundness.specs.declared.Refusal.TheVariants.{Image as ImageRefused, Record, Lock}
@@ -146,11 +145,11 @@ module _ (mark n : ℕ) where
     where
       by : (a : Submitted) → submit_answer mark n w.world d k ws ≡ a
           → Steady (λ j. traced (submit_leaves n (lent mark n j w).world d k args ws a) (submit_trace mark n w.trace (given d k args ws) a)) 130
-      by Taken e =
+      by (Ok tt) e =
           let few = (check-parts n (length ws) (code_of ws) (met mark n w.world d k ws (ap is_taken e)).checked).1 in
           within 130 (rw (submission-length n d k args ws full wide) (omega arith))
           (list-steady w.world.image (submission n d k args ws) (placed w.world.cursors d (on 0 0)) (taking w.trace (given d k args ws)))
-      by (Refused r) e = still w 130
+      by (Err r) e = still w 130
 
   recover-steady : (w : Traced) → Steady (λ k. call mark n recovers (lent mark n k w)) 592
   unfolding call recovery

@@ -7,8 +7,8 @@ use mathlib.Core.List.{List, [], ◌∷◌, ◌++◌, append-nil, append_assoc, 
 use lib.Dec.{eqb}
 use borrow.Author.Tests.{ne_eqb}
 use native.Mathlib.Decide.{ℕ_discrete}
+use Rattle.std.specs.Prelude.{Ok}
 use Rattle.image.specs.Image.{workers, cells_of}
-use Rattle.intake.specs.declared.Submitted.TheVariants.{Taken}
 use Rattle.working.specs.Cursor.{idle, cursor_at}
 use Rattle.working.proofs.Placed.{idle-is}
 use Rattle.plan.specs.Turn.{Outcome}
@@ -180,7 +180,7 @@ module _ (mark n D : ℕ) (cells : List ℕ) where
 
   submitted-every :
       (w : Traced) (d k : ℕ) (args ws : List ℕ) → d < D → cursor_at w.world.cursors d ≡ idle → Spanning mark n D cells w → AllEvery w
-      → AllEvery (submitted mark n w d k args ws Taken)
+      → AllEvery (submitted mark n w d k args ws (Ok tt))
   submitted-every w d k args ws low i s x e l = by (ℕ_discrete e d)
     where
       new : Given

@@ -13,6 +13,7 @@ use lib.Dec.{eqb}
 use borrow.Author.Tests.{eq-eqb, ne_eqb}
 use native.Mathlib.Omega.{arith}
 use native.Mathlib.Decide.{ℕ_discrete}
+use Rattle.std.specs.Prelude.{Ok}
 use Rattle.mask.specs.Mask.{has, with, without, union}
 use Rattle.mask.proofs.Laws.{has-none, has-with, has-without, has-with-other, has-without-other}
 use Rattle.mask.proofs.Members.{union-has, union-lacks, union-small}
@@ -22,7 +23,6 @@ use Rattle.image.specs.Place.{Place, cell, lock, field, own, step, Memory}
 use Rattle.image.specs.Inner.Same.{upd}
 use Rattle.image.specs.Image.{Image, at, workers, cells_of}
 use Rattle.image.proofs.Header.{header-workers}
-use Rattle.intake.specs.declared.Submitted.TheVariants.{Taken}
 use Rattle.working.specs.Cursor.{cursor_at, set_at, all_idle}
 use Rattle.plan.specs.Turn.{Outcome, stored, passed, waiting, resting, refused}
 use Rattle.turn.specs.Call.{held_by, leaves}
@@ -135,7 +135,7 @@ module _ (mark n D : ℕ) (cells : List ℕ) where
 
   submitted-agrees :
       (w : Traced) (d k : ℕ) (args ws : List ℕ) → 8 ≤ n → length args ≡ 8 → Running mark n D cells w → TakenAs mark n w.world d k ws
-      → Agreeing w → Agreeing (submitted mark n w d k args ws Taken)
+      → Agreeing w → Agreeing (submitted mark n w d k args ws (Ok tt))
   unfolding set_at
   submitted-agrees w d k args ws wide eight r t x =
       let same = submitted-aside mark n D cells w d k args ws wide eight r t in

@@ -10,14 +10,13 @@ use lib.Dec.{ltb}
 use borrow.Author.Tests.{ltb-true}
 use native.Mathlib.Omega.{arith}
 use native.Mathlib.Decide.{dec_lt}
+use Rattle.std.specs.Prelude.{Ok, Err}
 use Rattle.base.proofs.Bools.{and_left, and_right}
 use Rattle.image.specs.Image.{Image, at}
-use Rattle.intake.specs.declared.Submitted.{Submitted}
-use Rattle.intake.specs.declared.Submitted.TheVariants.{Taken, Refused}
 use Rattle.working.specs.Cursor.{cursor_at}
 use Rattle.plan.specs.Turn.{Outcome, stored, passed, waiting, resting, refused, turn_at}
 use Rattle.turn.specs.Call.{outcome_at, outcome}
-use Rattle.intake.specs.Submit.{submit_answer, submit_leaves}
+use Rattle.intake.specs.Submit.{Submitted, submit_answer, submit_leaves}
 use Rattle.recovery.specs.Recovery.{recovery}
 use Rattle.claims.specs.Reference.{given}
 use Rattle.claims.specs.Calls.{Traced, traced, turn_by, turned_at, rounds, ran_by, submit_trace, recovered_by, Call, submits, turns, runs, recovers}
@@ -70,10 +69,10 @@ module _ (mark n D : ℕ) (cells : List ℕ) (R C : Traced → Type 0) (A : Move
     pub lend-cut : (k : ℕ) (w : Traced) → C w → C (lent mark n k w)
     pub submit :
         (w : Traced) (d k : ℕ) (args ws : List ℕ) → Running mark n D cells w → callable (submits d k args ws) ≡ true → TakenAs mark n w.world d k ws
-        → plenty mark n D cells ≤ w.world.left → A (whole (submits d k args ws)) w.world.image → R w → R (submitted mark n w d k args ws Taken)
+        → plenty mark n D cells ≤ w.world.left → A (whole (submits d k args ws)) w.world.image → R w → R (submitted mark n w d k args ws (Ok tt))
     pub submit-cut :
         (w : Traced) (j d k : ℕ) (args ws : List ℕ) → Running mark n D cells w → callable (submits d k args ws) ≡ true → TakenAs mark n w.world d k ws
-        → A (cut j (submits d k args ws)) w.world.image → R w → C (submitted mark n w d k args ws Taken)
+        → A (cut j (submits d k args ws)) w.world.image → R w → C (submitted mark n w d k args ws (Ok tt))
     pub recover :
         (w : Traced) → Worth mark n D cells w → plenty mark n D cells ≤ w.world.left → A (whole recovers) w.world.image → C w → R (recovered mark n w)
     pub recover-cut : (w : Traced) (j : ℕ) → Worth mark n D cells w → A (cut j recovers) w.world.image → C w → C (recovered mark n w)
@@ -152,8 +151,8 @@ module _ (mark n D : ℕ) (cells : List ℕ) (R C : Traced → Type 0) (A : Move
     submit-whole w d k args ws r h l a x = by (submit_answer mark n w.world d k ws) refl
       where
         by : (q : Submitted) → submit_answer mark n w.world d k ws ≡ q → R (submitted mark n w d k args ws q)
-        by Taken e = K.submit w d k args ws r h (taken_as mark n w.world d k ws e) l a x
-        by (Refused q) e = x
+        by (Ok tt) e = K.submit w d k args ws r h (taken_as mark n w.world d k ws e) l a x
+        by (Err q) e = x
 
     submit-cut :
         (w : Traced) (j d k : ℕ) (args ws : List ℕ) → Running mark n D cells w → callable (submits d k args ws) ≡ true
@@ -161,8 +160,8 @@ module _ (mark n D : ℕ) (cells : List ℕ) (R C : Traced → Type 0) (A : Move
     submit-cut w j d k args ws r h a x = by (submit_answer mark n w.world d k ws) refl
       where
         by : (q : Submitted) → submit_answer mark n w.world d k ws ≡ q → C (submitted mark n w d k args ws q)
-        by Taken e = K.submit-cut w j d k args ws r h (taken_as mark n w.world d k ws e) a x
-        by (Refused q) e = K.worth w x
+        by (Ok tt) e = K.submit-cut w j d k args ws r h (taken_as mark n w.world d k ws e) a x
+        by (Err q) e = K.worth w x
 
     call-whole :
         (c : Call) (w : Traced) → Running mark n D cells w → callable c ≡ true → plenty mark n D cells ≤ w.world.left

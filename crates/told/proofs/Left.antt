@@ -20,7 +20,6 @@ use Rattle.section.proofs.Passing.{passed_is}
 use Rattle.worklog.specs.Log.{code_in}
 use Rattle.owed.specs.Owed.{named_op}
 use Rattle.soundness.specs.Sound.{section_ok}
-use Rattle.needs.specs.declared.Left.TheVariants.{Turns}
 use Rattle.needs.specs.From.{lesser, larger}
 use Rattle.needs.specs.Left.{left_by, left_of}
 use Rattle.needs.proofs.Unrolled.{needs-cong}
@@ -31,7 +30,7 @@ use Rattle.claims.proofs.Covers.{crashed-parts}
 use Rattle.claims.proofs.Accepted.{ok-sectioned, ok_named}
 use Rattle.told.specs.Turns.{Start, resumed, Span, Now, nowhere, fresh, going, closing, passage, passage_of}
 use Rattle.told.specs.Paths.{Paths}
-use Rattle.told.specs.Between.{bound_by, left_at, LeftTold}
+use Rattle.told.specs.Between.{bound_by, turns, left_at, LeftTold}
 use Rattle.told.proofs.FromRest.{kept-list}
 use Rattle.told.proofs.Once.{admitted-list}
 use Rattle.told.proofs.Pacing.{Going, Anchored}
@@ -91,7 +90,7 @@ module _ (n : ℕ) (rd : Memory) (d : ℕ) where
     pub left_by_lem :
         (e : ℕ) (x : Now) (xs : List Span) → Anchored (rd (field Pc d)) (rd (field Count d)) (code_in n rd d) P (of_worker d begun) (passage e x xs)
         → ((s : ℕ) → rd (field Pc d) % 2 ^ 63 ≡ suc s → s < rd (field Count d))
-        → Turns (left_by n rd d lesser) (left_by n rd d larger) ≡ left_at x
+        → turns (left_by n rd d lesser) (left_by n rd d larger) ≡ left_at x
     left_by_lem e nowhere xs a f = rw (none_left lesser a.at.none, none_left larger a.at.none)
     left_by_lem e (fresh g t) xs a f = rw (none_left lesser a.at.none, none_left larger a.at.none)
     left_by_lem e (going g b s t) xs a f =

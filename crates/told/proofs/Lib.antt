@@ -1,5 +1,7 @@
 -- An uncut call may be lent any number of stores that suffices.
 pub mod Enough
+-- Cause 4 by itself.
+pub mod Lengths
 -- A run is its turns.
 pub mod RunTurns
 -- Whatever else lists of calls keep, by one induction; what a store writes of a record, and what stands behind a call.

@@ -9,11 +9,11 @@ use lib.Seq.{ext_get_or, get_or-set_same, get_or-set_other}
 use borrow.Author.Tests.{eqb-true, lt-ltb, le-ltb}
 use native.Mathlib.Omega.{arith}
 use native.Mathlib.Decide.{ℕ_discrete, dec_lt}
+use Rattle.std.specs.Prelude.{Ok}
 use Rattle.image.specs.Place.{Memory}
 use Rattle.image.specs.Inner.Same.{upd}
 use Rattle.image.specs.Image.{at, workers}
 use Rattle.image.proofs.Header.{header-workers}
-use Rattle.intake.specs.declared.Submitted.TheVariants.{Taken}
 use Rattle.working.specs.declared.Cursors.{Cursors}
 use Rattle.working.specs.Cursor.{Cursor, idle, on, is_idle, step_no, cursor_at, set_at, holding, placed, all_idle}
 use Rattle.working.proofs.Placed.{Full, sayable, idle-by, placed_same, placed-other, held-cursor}
@@ -89,7 +89,7 @@ module _ (mark n D : ℕ) (cells : List ℕ) where
 
   submitted-neat :
       (w : Traced) (d k : ℕ) (args ws : List ℕ) → 8 ≤ n → length args ≡ 8 → Running mark n D cells w → TakenAs mark n w.world d k ws
-      → NeatIn w → NeatIn (submitted mark n w d k args ws Taken)
+      → NeatIn w → NeatIn (submitted mark n w d k args ws (Ok tt))
   submitted-neat w d k args ws wide eight r t z =
       placed-neat D w.world.cursors d (on 0 0) r.full (few mark n D cells w r.reached) (dl mark n D cells w d k args ws wide eight r t)
       (λ q. omega arith) z

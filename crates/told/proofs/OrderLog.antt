@@ -87,7 +87,8 @@ module _ (n : ℕ) (rd : Memory) (d x v y : ℕ) where
         number = private-noted Number refl refl refl refl;
         finished = private-noted Finished refl refl refl refl;
         fields =
-            λ e h f. field-other valued d e Pc f y h ∙ (field-other addressed d e (spare_val n addressed d) f v h ∙ field-other rd d e (spare_addr n rd d) f x h);
+            λ e h f.
+            field-other valued d e Pc f y h ∙ (field-other addressed d e (spare_val n addressed d) f v h ∙ field-other rd d e (spare_addr n rd d) f x h);
         steps = λ e i. refl;
         owns = λ e i. refl;
         cells = λ c. refl;

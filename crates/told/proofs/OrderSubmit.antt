@@ -9,16 +9,15 @@ use lib.ListN.{length, get_or}
 use lib.Seq.{set-get_or, take_all}
 use borrow.Author.Tests.{lt-ltb, eq-eqb}
 use native.Mathlib.Omega.{arith}
+use Rattle.std.specs.Prelude.{Ok}
 use Rattle.image.specs.declared.Field.TheVariants.{Count, Pc, Intent, Owned, Finished}
 use Rattle.image.specs.Place.{field, Memory}
 use Rattle.image.specs.Inner.Same.{upd_all}
 use Rattle.image.specs.Image.{at, put_all}
 use Rattle.image.proofs.Lists.{header-all, workers-all}
-use Rattle.section.specs.declared.Verdict.TheVariants.{Pass}
 use Rattle.section.specs.Check.{code_of, check}
 use Rattle.section.proofs.Held.{held-zero}
 use Rattle.section.proofs.Facts.{passed-valid, check-cong, check-parts}
-use Rattle.intake.specs.declared.Submitted.TheVariants.{Taken}
 use Rattle.working.specs.Cursor.{Cursor, idle, on, cursor_at}
 use Rattle.worklog.specs.Log.{code_in}
 use Rattle.intake.specs.Submit.{submission, free, submit_answer}
@@ -42,7 +41,7 @@ pub record Fit (n d : ℕ) (g : Given) : Type 0 where
   pub eight : length g.args ≡ 8
   pub arg-words : are_words g.args ≡ true
   pub code-words : are_words g.code ≡ true
-  pub passed : check n (length g.code) (code_of g.code) ≡ Pass
+  pub passed : check n (length g.code) (code_of g.code) ≡ Ok tt
 
 -- all of a list are such
 abbrev pub Able : ℕ → ℕ → List Given → Type 0
@@ -51,12 +50,12 @@ Able n d (g ∷ gs) = Fit n d g × Able n d gs
 
 module _ (mark n D : ℕ) (w : Traced) (rd : Memory) (d : ℕ) (cur : ℕ → Cursor) (taken : List Given) (view : View mark n D w rd d idle cur taken) (dl : d < D)
     (k : ℕ) (args ws : List ℕ) (count : rd (field Count d) ≡ 0) (pc : rd (field Pc d) ≡ 0) (later : rd (field Finished d) < k)
-    (passed : check n (length ws) (code_of ws) ≡ Pass) where
+    (passed : check n (length ws) (code_of ws) ≡ Ok tt) where
   submit-free : free n (lent mark n (2 ^ 64 - 1) w).world d ≡ true
   unfolding free
   submit-free = rw (view.mine, view.memory, eq-eqb (rd (field Count d)) 0 count, eq-eqb (rd (field Pc d)) 0 pc)
 
-  submit-taken : submit_answer mark n (lent mark n (2 ^ 64 - 1) w).world d k ws ≡ Taken
+  submit-taken : submit_answer mark n (lent mark n (2 ^ 64 - 1) w).world d k ws ≡ Ok tt
   unfolding submit_answer
   submit-taken = rw (view.header, view.many, lt-ltb d D dl, submit-free, view.memory, lt-ltb (rd (field Finished d)) k later, passed)
 
@@ -94,7 +93,7 @@ laid-works :
 laid-works n rd rd' d k g gs least fit laid intent owned numbers room =
     let parts = check-parts n (length g.code) (code_of g.code) fit.passed in
     let l = parts.0 in
-    let same : check n (length g.code) (code_in n rd' d) ≡ Pass =
+    let same : check n (length g.code) (code_in n rd' d) ≡ (Ok tt) =
     check-cong n (length g.code) (code_in n rd' d) (code_of g.code) laid.code-words ∙ fit.passed in
     let z = held-zero (code_in n rd' d) in
     let full = own-size n g.args least fit.eight in

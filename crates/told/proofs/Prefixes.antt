@@ -8,18 +8,15 @@ use native.Mathlib.Omega.{arith}
 use native.Mathlib.Nat.{suc-mul}
 use lib.ListN.{length, take, set, length-append, length-replicate}
 use borrow.Author.Tests.{ltb-true, lt-ltb, ne_eqb}
+use Rattle.std.specs.Prelude.{Ok, Err}
 use Rattle.image.specs.Place.{Place, Store}
 use Rattle.image.specs.Image.{Image, index_of, workers, header_ok, length_of, record_at, put, put_all}
 use Rattle.image.proofs.Header.{header-workers}
 use Rattle.image.proofs.Stores.{put-none, put_some, put-lots}
 use Rattle.image.proofs.Lists.{put_all-none, put_all-nil, put_all-some}
 use Rattle.rows.specs.Rows.{put_from}
-use Rattle.formatting.specs.declared.Formatted.{Formatted}
-use Rattle.formatting.specs.declared.Formatted.TheVariants.{Done, Refused as FormatRefused}
-use Rattle.formatting.specs.Format.{form_tail, format_stores, format_answer, format_leaves, format_left}
-use Rattle.intake.specs.declared.Submitted.{Submitted}
-use Rattle.intake.specs.declared.Submitted.TheVariants.{Taken, Refused}
-use Rattle.intake.specs.Submit.{free, submit_answer, submit_leaves}
+use Rattle.formatting.specs.Format.{Formatted, form_tail, format_stores, format_answer, format_leaves, format_left}
+use Rattle.intake.specs.Submit.{Submitted, free, submit_answer, submit_leaves}
 use Rattle.working.specs.Cursor.{Cursor}
 use Rattle.plan.specs.Turn.{Outcome, stored, passed, waiting, resting, refused}
 use Rattle.turn.specs.Call.{outcome_at, outcome}
@@ -219,8 +216,8 @@ module _ (mark n : ℕ) where
       (w : Traced) (d j : ℕ) (args ws : List ℕ) (a : Submitted) (k : ℕ)
       → ((submit_leaves n (lent mark n k w).world d j args ws a).image ≡ put_all n k w.world.image (submit_stores n d j args ws a))
       × ((submit_leaves n (lent mark n k w).world d j args ws a).left ≡ k - length (submit_stores n d j args ws a))
-  submit-cut w d j args ws Taken k = (refl, refl)
-  submit-cut w d j args ws (Refused r) k = (sym (put_all-nil n k w.world.image), omega arith)
+  submit-cut w d j args ws (Ok tt) k = (refl, refl)
+  submit-cut w d j args ws (Err r) k = (sym (put_all-nil n k w.world.image), omega arith)
 
   recover-cut : (w : Traced) (x : Recovered) (k : ℕ) → Cut w.world.image (stores_of x) k (recovered_by mark n (lent mark n k w) x)
   recover-cut w (accepted ss cs) k = record { image = refl; left = refl }
@@ -306,12 +303,12 @@ tail-length : (n D : ℕ) → length (form_tail n D) + 1 ≡ length_of n D
 tail-length n D = let l = long n D in rw (length-replicate {A = ℕ} (length_of n D - 2) 0) (omega arith)
 
 module _ (mark n : ℕ) where
-  format-length : (D : ℕ) → length (format_words mark n D Done) ≡ length_of n D + 1
+  format-length : (D : ℕ) → length (format_words mark n D (Ok tt)) ≡ length_of n D + 1
   format-length D =
       let t = tail-length n D in
       rw (length-append (words_from 1 (form_tail n D)) ((0, mark) ∷ []), words-from-length 1 (form_tail n D)) (omega arith)
 
-  format-made : (k : ℕ) (m : Image) (D : ℕ) → format_stores mark n k m D ≡ made m (take k (format_words mark n D Done))
+  format-made : (k : ℕ) (m : Image) (D : ℕ) → format_stores mark n k m D ≡ made m (take k (format_words mark n D (Ok tt)))
   unfolding format_stores made
   format-made zero m D =
       let e : 0 - length_of n D ≡ 0 = omega arith in
@@ -327,9 +324,9 @@ module _ (mark n : ℕ) where
       (m : Image) (D k : ℕ) (a : Formatted)
       → (format_leaves mark n k m D a ≡ made m (take k (format_words mark n D a))) × (format_left n k D a ≡ k - length (format_words mark n D a))
   unfolding made
-  format-cut m D k Done = (format-made k m D, rw (format-length D) refl)
-  format-cut m D zero (FormatRefused r) = (refl, omega arith)
-  format-cut m D (suc k) (FormatRefused r) = (refl, omega arith)
+  format-cut m D k (Ok tt) = (format-made k m D, rw (format-length D) refl)
+  format-cut m D zero (Err r) = (refl, omega arith)
+  format-cut m D (suc k) (Err r) = (refl, omega arith)
 
 pub format-cuts-are-prefixes : (mark n : ℕ) → FormatCutsArePrefixes mark n
 unfolding FormatCutsArePrefixes

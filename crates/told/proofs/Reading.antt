@@ -10,12 +10,12 @@ use lib.Dec.{eqb}
 use borrow.Author.Tests.{ne_eqb, eq-eqb}
 use native.Mathlib.Omega.{arith}
 use native.Mathlib.Decide.{ℕ_discrete}
+use Rattle.std.specs.Prelude.{Ok}
 use Rattle.image.specs.declared.Field.TheVariants.{Pc}
 use Rattle.image.specs.Place.{Place, field, Memory}
 use Rattle.image.specs.Inner.Same.{upd}
 use Rattle.image.specs.Image.{Image, at}
 use Rattle.section.specs.Check.{passes}
-use Rattle.intake.specs.declared.Submitted.TheVariants.{Taken}
 use Rattle.working.specs.Cursor.{Cursor, on, cursor_at}
 use Rattle.plan.specs.Turn.{Outcome, stored, passed, waiting, resting, refused}
 use Rattle.claims.specs.Reference.{Given, given}
@@ -271,7 +271,7 @@ module _ (mark n D : ℕ) (cells : List ℕ) where
       (w : Traced) (d k : ℕ) (args ws : List ℕ) (wide : 8 ≤ n) (h : callable (submits d k args ws) ≡ true) (r : Running mark n D cells w)
       (t : TakenAs mark n w.world d k ws) where
     abbrev behind : Traced
-    behind = submitted mark n w d k args ws Taken
+    behind = submitted mark n w d k args ws (Ok tt)
 
     abbrev section : Given
     section = given d k args ws

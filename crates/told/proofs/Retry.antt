@@ -11,15 +11,13 @@ use lib.Dec.{eqb, ltb, leb}
 use borrow.Author.Tests.{eq-eqb, ne_eqb, eqb-true, leb-true, ltb-true, ltb-false}
 use native.Mathlib.Omega.{arith}
 use native.Mathlib.Decide.{ℕ_discrete}
+use Rattle.std.specs.Prelude.{Ok, Err}
 use Rattle.base.proofs.Bools.{and_left, and_right}
 use Rattle.image.specs.declared.Field.TheVariants.{Pc, Number, Finished as FinishedField}
 use Rattle.image.specs.Place.{Place, field, Memory}
 use Rattle.image.specs.Image.{Image, at, workers, cells_of, header_ok}
-use Rattle.section.specs.declared.Verdict.{Verdict}
-use Rattle.section.specs.declared.Verdict.TheVariants.{Pass, Length, Malformed, Unbracketed, Unordered, Unguarded, Unlevel}
-use Rattle.section.specs.Check.{code_of, check}
+use Rattle.section.specs.Check.{Verdict, code_of, check}
 use Rattle.working.specs.declared.Refusal.TheVariants.{Number as NumberRefused}
-use Rattle.intake.specs.declared.Submitted.TheVariants.{Refused}
 use Rattle.asking.specs.declared.Standing.TheVariants.{Finished}
 use Rattle.asking.specs.Asking.{standing_in}
 use Rattle.working.specs.Cursor.{Cursor, cursor_at}
@@ -300,17 +298,12 @@ module _ (mark n D : ℕ) (cells : List ℕ) (d : ℕ) (g : Given) where
       }
 
 -- cause 3 says that the number is not above the finished one
-not-number : (v : Verdict) → verdict_answer v ≡ Refused NumberRefused → ⊥
-not-number Pass e = let z : ◌≡◌ {A = ℕ} 0 1 = cc in omega arith
-not-number Length e = let z : ◌≡◌ {A = ℕ} 0 1 = cc in omega arith
-not-number (Malformed i) e = let z : ◌≡◌ {A = ℕ} 0 1 = cc in omega arith
-not-number (Unbracketed i) e = let z : ◌≡◌ {A = ℕ} 0 1 = cc in omega arith
-not-number (Unordered i) e = let z : ◌≡◌ {A = ℕ} 0 1 = cc in omega arith
-not-number (Unguarded i) e = let z : ◌≡◌ {A = ℕ} 0 1 = cc in omega arith
-not-number (Unlevel i) e = let z : ◌≡◌ {A = ℕ} 0 1 = cc in omega arith
+not-number : (v : Verdict) → verdict_answer v ≡ Err NumberRefused → ⊥
+not-number (Ok tt) e = let z : ◌≡◌ {A = ℕ} 0 1 = cc in omega arith
+not-number (Err f) e = let z : ◌≡◌ {A = ℕ} 0 1 = cc in omega arith
 
 refused-number :
-    (mark n : ℕ) (w : World) (d k : ℕ) (ws : List ℕ) → submit_answer mark n w d k ws ≡ Refused NumberRefused
+    (mark n : ℕ) (w : World) (d k : ℕ) (ws : List ℕ) → submit_answer mark n w d k ws ≡ Err NumberRefused
     → k ≤ at n w.image (field FinishedField d)
 unfolding submit_answer
 refused-number mark n w d k ws h =

@@ -9,8 +9,8 @@ use lib.Dec.{eqb}
 use lib.ListN.{get_or, drop}
 use borrow.Author.Tests.{ne_eqb}
 use native.Mathlib.Decide.{ℕ_discrete}
+use Rattle.std.specs.Prelude.{Ok}
 use Rattle.image.specs.Image.{workers, cells_of}
-use Rattle.intake.specs.declared.Submitted.TheVariants.{Taken}
 use Rattle.working.specs.Cursor.{idle, cursor_at}
 use Rattle.working.proofs.Placed.{idle-is}
 use Rattle.plan.specs.Turn.{Outcome}
@@ -98,7 +98,7 @@ module _ (mark n D : ℕ) (cells : List ℕ) where
 
   submitted-since :
       (g : Trace) (w : Traced) (d k : ℕ) (args ws : List ℕ) → d < D → cursor_at w.world.cursors d ≡ idle → Owes g w
-      → Since g (submitted mark n w d k args ws Taken)
+      → Since g (submitted mark n w d k args ws (Ok tt))
   submitted-since g w d k args ws low i y =
       record {
         during = x.during ++ (new ∷ []);

@@ -9,6 +9,7 @@ use lib.ListN.{length}
 use borrow.Author.Tests.{eq-eqb, ne_eqb}
 use native.Mathlib.Omega.{arith}
 use native.Mathlib.Decide.{ℕ_discrete}
+use Rattle.std.specs.Prelude.{Ok}
 use Rattle.image.specs.declared.Field.TheVariants.{Count, Pc}
 use Rattle.image.specs.Place.{Place, field, step, Memory}
 use Rattle.image.specs.Image.{at, workers}
@@ -17,7 +18,6 @@ use Rattle.code.specs.declared.Op.TheVariants.{Acquire, Release, Assign, Jump, F
 use Rattle.code.specs.Table.{turns_of}
 use Rattle.code.specs.Op.{op_of}
 use Rattle.code.proofs.Ranges.{turns-op}
-use Rattle.intake.specs.declared.Submitted.TheVariants.{Taken}
 use Rattle.working.specs.Cursor.{Cursor, idle, on, cursor_at}
 use Rattle.worklog.specs.Log.{code_in}
 use Rattle.plan.specs.Turn.{Outcome, stored, passed, waiting, resting, refused}
@@ -146,7 +146,7 @@ module _ (mark n D : ℕ) (cells : List ℕ) where
       (w : Traced) (d k : ℕ) (args ws : List ℕ) (wide : 8 ≤ n) (eight : length args ≡ 8) (r : Running mark n D cells w)
       (t : TakenAs mark n w.world d k ws) where
     abbrev behind : Traced
-    behind = submitted mark n w d k args ws Taken
+    behind = submitted mark n w d k args ws (Ok tt)
 
     abbrev section : Given
     section = given d k args ws

@@ -10,13 +10,13 @@ use lib.Dec.{eqb}
 use borrow.Author.Tests.{ne_eqb, eq-eqb, eqb-true}
 use native.Mathlib.Omega.{arith}
 use native.Mathlib.Decide.{ℕ_discrete}
+use Rattle.std.specs.Prelude.{Ok}
 use Rattle.image.specs.declared.Field.{Field}
 use Rattle.image.specs.declared.Field.TheVariants.{Count, Pc, Addr0, Val0, Addr1, Val1, Intent, Owned, Number, Finished}
 use Rattle.image.specs.Place.{Place, cell, lock, field, own, step, Memory}
 use Rattle.image.specs.Inner.Same.{upd}
 use Rattle.image.specs.Image.{Image, at}
 use Rattle.image.proofs.Places.{upd_same}
-use Rattle.intake.specs.declared.Submitted.TheVariants.{Taken}
 use Rattle.working.specs.Cursor.{Cursor, on, cursor_at}
 use Rattle.plan.specs.Turn.{Outcome, stored, passed, waiting, resting, refused}
 use Rattle.resuming.specs.Resumed.{resumed}
@@ -259,12 +259,12 @@ module _ (mark n D : ℕ) (cells : List ℕ) (start : ℕ → ℕ) (Q : ℕ → 
       (w : Traced) (d k : ℕ) (args ws : List ℕ) (wide : 8 ≤ n) (eight : length args ≡ 8) (r : Running mark n D cells w)
       (t : TakenAs mark n w.world d k ws) (x : Telling w) where
     abbrev behind : Memory
-    behind = at n (submitted mark n w d k args ws Taken).world.image
+    behind = at n (submitted mark n w d k args ws (Ok tt)).world.image
 
     kept : (q : Place) → aside d q ≡ true → behind q ≡ at n w.world.image q
     kept = submitted-aside mark n D cells w d k args ws wide eight r t
 
-    submitted-tells : Tells (submitted mark n w d k args ws Taken)
+    submitted-tells : Tells (submitted mark n w d k args ws (Ok tt))
     submitted-tells e l = by (ℕ_discrete e d)
       where
         by : Dec (e ≡ d) → TellsAt n (start e) (numbers_of e w.trace.begun) behind e
@@ -282,7 +282,7 @@ module _ (mark n D : ℕ) (cells : List ℕ) (start : ℕ → ℕ) (Q : ℕ → 
 
     submitted-newer :
         n ≤ 64 → plenty mark n D cells ≤ w.world.left → Q d (at n w.world.image (field Finished d)) k → (e : ℕ) → e < D
-        → pending mark n D cells (submitted mark n w d k args ws Taken) e ≡ true → Q e (behind (field Finished e)) (behind (field Number e))
+        → pending mark n D cells (submitted mark n w d k args ws (Ok tt)) e ≡ true → Q e (behind (field Finished e)) (behind (field Number e))
     submitted-newer narrow left new e l h = by (ℕ_discrete e d)
       where
         by : Dec (e ≡ d) → Q e (behind (field Finished e)) (behind (field Number e))

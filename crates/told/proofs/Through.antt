@@ -9,11 +9,11 @@ use lib.ListN.{length}
 use lib.Dec.{eqb}
 use borrow.Author.Tests.{eq-eqb, le-leb}
 use native.Mathlib.Decide.{ℕ_discrete}
+use Rattle.std.specs.Prelude.{Ok}
 use Rattle.base.proofs.Bools.{and_left, and_right}
 use Rattle.image.specs.declared.Field.TheVariants.{Pc}
 use Rattle.image.specs.Place.{field, Memory}
 use Rattle.image.specs.Image.{Image, at, workers, cells_of}
-use Rattle.intake.specs.declared.Submitted.TheVariants.{Taken}
 use Rattle.working.specs.Cursor.{Cursor, on, cursor_at}
 use Rattle.plan.specs.Turn.{Outcome, stored, passed, waiting, resting, refused}
 use Rattle.intake.specs.Submit.{submit_answer, free}
@@ -128,11 +128,11 @@ module _ (mark n D : ℕ) (cells : List ℕ) (d : ℕ) (dl : d < D) (g : Given) 
   -- a submission of another worker; the worker's own is refused while one is pending
   submit-follows :
       8 ≤ n → (w : Traced) (e k : ℕ) (args ws : List ℕ) → length args ≡ 8 → Running mark n D cells w → TakenAs mark n w.world e k ws
-      → Follows w → Follows (submitted mark n w e k args ws Taken)
+      → Follows w → Follows (submitted mark n w e k args ws (Ok tt))
   submit-follows wide w e k args ws eight r t (inl h) = inl h
   submit-follows wide w e k args ws eight r t (inr (h, last)) = by (ℕ_discrete d e)
     where
-      by : Dec (d ≡ e) → Follows (submitted mark n w e k args ws Taken)
+      by : Dec (d ≡ e) → Follows (submitted mark n w e k args ws (Ok tt))
       by (yes i) =
           let q : pend (at n w.world.image (field Pc e)) (cursor_at w.world.cursors e) ≡ true = rw i at h in
           absurd (false≢true (sym (pend-idle (at n w.world.image (field Pc e))) ∙ (rw (idle-is (cursor_at w.world.cursors e) t.idles) at q)))
@@ -175,7 +175,7 @@ module _ (mark n : ℕ) (wide : 8 ≤ n) (narrow : n ≤ 64) (m : Image) (rest :
 
   module _
       (h : machine handed ≡ true) (l : legal false handed ≡ true) (p : plain ys ≡ true)
-      (t : submit_answer mark n (after mark n m xs).world d k ws ≡ Taken) where
+      (t : submit_answer mark n (after mark n m xs).world d k ws ≡ Ok tt) where
     abbrev D : ℕ
     D = workers m
 
@@ -201,7 +201,7 @@ module _ (mark n : ℕ) (wide : 8 ≤ n) (narrow : n ≤ 64) (m : Image) (rest :
     abbrev lends : Traced
     lends = lent mark n (plenty mark n D cells) w
 
-    taken-lent : submit_answer mark n lends.world d k ws ≡ Taken
+    taken-lent : submit_answer mark n lends.world d k ws ≡ Ok tt
     unfolding submit_answer free
     taken-lent = t
 
@@ -224,7 +224,7 @@ module _ (mark n : ℕ) (wide : 8 ≤ n) (narrow : n ≤ 64) (m : Image) (rest :
     abbrev behind : Traced
     behind = move mark n (whole submit) w
 
-    behind-is : behind ≡ submitted mark n lends d k args ws Taken
+    behind-is : behind ≡ submitted mark n lends d k args ws (Ok tt)
     unfolding move call
     behind-is = rw taken-lent
 

@@ -9,11 +9,11 @@ use lib.ListN.{length}
 use borrow.Author.Tests.{eq-eqb, ne_eqb}
 use native.Mathlib.Omega.{arith}
 use native.Mathlib.Decide.{ℕ_discrete}
+use Rattle.std.specs.Prelude.{Ok}
 use Rattle.image.specs.declared.Field.TheVariants.{Count, Pc, Number}
 use Rattle.image.specs.Place.{Place, cell, field, own, step, Memory}
 use Rattle.image.specs.Inner.Same.{same_field}
 use Rattle.image.specs.Image.{at, workers, cells_of}
-use Rattle.intake.specs.declared.Submitted.TheVariants.{Taken}
 use Rattle.working.specs.Cursor.{Cursor, on, cursor_at}
 use Rattle.worklog.specs.Log.{code_in}
 use Rattle.plan.specs.Turn.{Outcome, stored, passed, waiting, resting, refused}
@@ -150,7 +150,7 @@ module _ (mark n D : ℕ) (cells : List ℕ) where
       (w : Traced) (d k : ℕ) (args ws : List ℕ) (wide : 8 ≤ n) (eight : length args ≡ 8) (r : Running mark n D cells w)
       (t : TakenAs mark n w.world d k ws) where
     abbrev behind : Traced
-    behind = submitted mark n w d k args ws Taken
+    behind = submitted mark n w d k args ws (Ok tt)
 
     abbrev new : Given
     new = given d k args ws
@@ -243,7 +243,7 @@ module _ (mark n D : ℕ) (cells : List ℕ) where
         submit-cut = λ w j d k args ws r h t a x.
             record {
               moored = K.submit-cut w j d k args ws r h t a x.spanning;
-              cut = run-cut (submitted mark n w d k args ws Taken) (submitted-run w d k args ws wide (args-full d k args ws h) r t x.spanning x.run);
+              cut = run-cut (submitted mark n w d k args ws (Ok tt)) (submitted-run w d k args ws wide (args-full d k args ws h) r t x.spanning x.run);
             };
         recover = λ w k left a x. record { spanning = K.recover w k left a x.moored; run = recovered-run w k x.moored x.cut };
         recover-cut = λ w j k a x. record { moored = K.recover-cut w j k a x.moored; cut = lost-cut w (recovered mark n w) refl refl refl x.cut };

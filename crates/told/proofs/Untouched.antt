@@ -11,6 +11,7 @@ use lib.Dec.{ltb}
 use lib.ListN.{length, replicate}
 use borrow.Author.Tests.{ltb-true}
 use native.Mathlib.Omega.{arith}
+use Rattle.std.specs.Prelude.{Ok, Err}
 use Rattle.base.proofs.Bools.{and_left, and_right}
 use Rattle.mask.specs.Mask.{has}
 use Rattle.image.specs.declared.Field.TheVariants.{Count, Intent, Number}
@@ -19,11 +20,9 @@ use Rattle.image.specs.Image.{Image, index_of, at, workers, cells_of, header_ok,
 use Rattle.image.proofs.Cells.{is_cell, cells-other}
 use Rattle.image.proofs.Lists.{put_all-append}
 use Rattle.working.specs.declared.Cursors.{Cursors}
-use Rattle.intake.specs.declared.Submitted.{Submitted}
-use Rattle.intake.specs.declared.Submitted.TheVariants.{Taken, Refused}
 use Rattle.working.specs.Cursor.{cursor_at}
 use Rattle.plan.specs.Turn.{stored, turn_at}
-use Rattle.intake.specs.Submit.{assigns, submission, submit_answer, submit_leaves}
+use Rattle.intake.specs.Submit.{Submitted, assigns, submission, submit_answer, submit_leaves}
 use Rattle.repair.specs.Plan.{◌≔◌, when, rows, unbegun, intended, intend, withdraw, relock, relocks, unlock, plan}
 use Rattle.owed.specs.Owed.{owed}
 use Rattle.recovery.specs.Recovery.{Recovered, accepted, rejected, by_first, recovery}
@@ -102,8 +101,8 @@ module _ (n : ℕ) where
 module _ (mark n : ℕ) where
   submit-leaves :
       (w : Traced) (d k : ℕ) (args ws : List ℕ) (a : Submitted) → cells_of (submit_leaves n w.world d k args ws a).image ≡ cells_of w.world.image
-  submit-leaves w d k args ws Taken = submission-aside n d k args ws w.world.left w.world.image
-  submit-leaves w d k args ws (Refused r) = refl
+  submit-leaves w d k args ws (Ok tt) = submission-aside n d k args ws w.world.left w.world.image
+  submit-leaves w d k args ws (Err r) = refl
 
   -- a recovery whose stores, if it is accepted, leave the cells
   abbrev AsideOf : Recovered → Type 0

@@ -121,7 +121,9 @@ module _ (n : ℕ) (rd : Memory) (d : ℕ) (val : Valid n (rd (field Count d)) (
     at-step k = get_or-set_same S.queues d (job c k o h ∷ []) [] room
 
     -- one more step, with its instruction
-    pub gone_at : (q : Paths) (k : ℕ) (x : Op) → k < rd (field Count d) → op_at n rd d k ≡ x → gone q (get_or (standing S d c o h k).queues d []) ≡ further q k x
+    pub gone_at :
+        (q : Paths) (k : ℕ) (x : Op) → k < rd (field Count d) → op_at n rd d k ≡ x
+        → gone q (get_or (standing S d c o h k).queues d []) ≡ further q k x
     gone_at q k x l e = rw (at-step k, code k l, e)
 
     jumped : {j k : ℕ} → Jumps n rd d i j k → Jumped j k

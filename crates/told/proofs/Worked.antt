@@ -5,6 +5,7 @@ use mathlib.Core.Path.{◌≡◌, refl, ap, ap₂, ◌∙◌}
 use mathlib.Core.Bool.{true}
 use mathlib.Core.List.{List, map, [], ◌∷◌, ◌++◌}
 use lib.ListN.{length, get_or, replicate}
+use Rattle.std.specs.Prelude.{Ok}
 use Rattle.mask.specs.Mask.{has, with, without}
 use Rattle.image.specs.Place.{Memory, Store}
 use Rattle.image.specs.Image.{record_at, length_of, index_of, workers, at, header_ok, put, put_all}
@@ -18,7 +19,7 @@ use Rattle.plan.specs.Turn.{ready, turn_at}
 use Rattle.working.specs.World.{world}
 use Rattle.turn.specs.Call.{outcome_at, outcome}
 use Rattle.formatting.specs.Format.{formatted}
-use Rattle.intake.specs.Submit.{assigns, submission, free, submit_answer}
+use Rattle.intake.specs.Submit.{Submitted, assigns, submission, free, submit_answer}
 use Rattle.owed.specs.Owed.{covers, named_step, named_op, owed, claimants}
 use Rattle.soundness.specs.Sound.{section_ok, pc_ok, sound, unsound, lock_ok, bad_lock}
 use Rattle.resuming.specs.Resumed.{resumed}
@@ -27,8 +28,6 @@ use Rattle.resuming.specs.Resumed.{resumed_all}
 use Rattle.repair.specs.Plan.{rows, intend, withdraw, relocks, unlock, plan}
 use Rattle.recovery.specs.Recovery.{recovery}
 use Rattle.claims.specs.Calls.{Traced, traced, forgetful, submits, turns, recovers, whole, cut, call, move}
-use Rattle.intake.specs.declared.Submitted.{Submitted}
-use Rattle.intake.specs.declared.Submitted.TheVariants.{Taken}
 use Rattle.told.specs.Examples.{rows as table, expected, seen_in, cause_in, watched, listing, board, many, row, seen, after, spans_in, spans, expected_spans}
 use Rattle.told.specs.Turns.{heed_all, passage_of}
 
@@ -88,7 +87,7 @@ after-15 = recovered (cut_at 15) refl refl refl refl
 
 -- ---- row by row
 
-listing-taken : submit_answer 1 8 board.world 0 1 listing ≡ Taken
+listing-taken : submit_answer 1 8 board.world 0 1 listing ≡ Ok tt
 unfolding in_image in_section in_turn in_recovery
 listing-taken = refl
 

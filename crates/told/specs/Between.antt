@@ -1,15 +1,13 @@
 -- What a timetable says before a path is known holds: whatever path the reference machine takes lies between the fewest turns and the most; so do the
 -- turns of every section that is over, and for one that a recovery resumes the two numbers are those that its record tells. (Document 02, 4/14.)
-use Rattle.std.specs.Prelude.{ℕ, ◌<◌, ◌≤◌, ◌≡◌, true, List, [], ◌∷◌, ◌++◌, length, get_or}
+use Rattle.std.specs.Prelude.{ℕ, ◌<◌, ◌≤◌, ◌≡◌, true, List, [], ◌∷◌, ◌++◌, length, get_or, Ok}
 use Rattle.std.proofs.Math.Option.{some}
 use Rattle.image.specs.Image.{workers}
 use Rattle.code.specs.Op.{op_of}
 use Rattle.section.specs.Check.{Code, code_of}
-use Rattle.needs.specs.declared.Left.{Left}
-use Rattle.needs.specs.declared.Left.TheVariants.{Turns}
 use Rattle.needs.specs.Path.{turns_along}
 use Rattle.needs.specs.From.{lesser, larger, needs_by, fewest, most}
-use Rattle.needs.specs.Left.{needs_behind, left_of}
+use Rattle.needs.specs.Left.{Left, needs_behind, left_of}
 use Rattle.needs.specs.Ways.{goes_on}
 use Rattle.claims.specs.Reference.{Given, State, follow, initial}
 use Rattle.claims.specs.Calls.{nothing}
@@ -40,12 +38,16 @@ bound_by pick ws (resumed s) = needs_behind pick (length ws) (code_of ws) s (op_
 abbrev pub InBounds : Span → Type 0
 InBounds x = (bound_by lesser x.section.code x.start ≤ x.turns) × (x.turns ≤ bound_by larger x.section.code x.start)
 
+-- these turns, as the fewest and the most
+abbrev pub turns : ℕ → ℕ → Left
+turns f m = Ok (record { fewest = f; most = m })
+
 -- what the question about a worker's record is answered, by where the worker is
 abbrev pub left_at : Now → Left
-left_at nowhere = Turns 0 0
-left_at (fresh g t) = Turns 0 0
-left_at (going g b s t) = Turns (bound_by lesser g.code (resumed s)) (bound_by larger g.code (resumed s))
-left_at (closing k g b t) = Turns 0 0
+left_at nowhere = turns 0 0
+left_at (fresh g t) = turns 0 0
+left_at (going g b s t) = turns (bound_by lesser g.code (resumed s)) (bound_by larger g.code (resumed s))
+left_at (closing k g b t) = turns 0 0
 
 -- mark: word 0 of an image; n: own words in a record
 module _ (mark n : ℕ) where

@@ -1,17 +1,15 @@
 -- Document 01's worked rows ("Cuts of that ticket, and edges") that are to be proved, as one table: a section submitted on a
 -- formatted image of one worker, cut after some of its turns or not, recovered, and run to its end.
-use Rattle.std.specs.Prelude.{ℕ, suc, zero, ◌+◌, ◌*◌, ◌^◌, List, [], ◌∷◌, ◌++◌, replicate}
+use Rattle.std.specs.Prelude.{ℕ, suc, zero, ◌+◌, ◌*◌, ◌^◌, List, [], ◌∷◌, ◌++◌, replicate, Ok, Err}
 use Rattle.image.specs.declared.Field.TheVariants.{Count}
 use Rattle.image.specs.Place.{cell, field}
 use Rattle.image.specs.Image.{at}
-use Rattle.intake.specs.declared.Submitted.{Submitted}
-use Rattle.intake.specs.declared.Submitted.TheVariants.{Taken, Refused}
 use Rattle.edition.specs.Edition.{mark, own_words}
 use Rattle.working.specs.Refusal.{cause_of}
 use Rattle.plan.specs.Turn.{Outcome, stored, passed, waiting, resting, refused}
 use Rattle.turn.specs.Call.{outcome}
 use Rattle.formatting.specs.Format.{formatted}
-use Rattle.intake.specs.Submit.{submit_answer}
+use Rattle.intake.specs.Submit.{Submitted, submit_answer}
 use Rattle.claims.specs.Reference.{given}
 use Rattle.claims.specs.Calls.{Traced, submits, turns, recovers, whole, cut, move, from}
 use Rattle.told.specs.Turns.{Start, first, resumed, Span, span, passage_of}
@@ -134,8 +132,8 @@ abbrev pub board : Traced
 board = from (formatted mark own_words 1)
 
 abbrev pub cause_in : Submitted → ℕ
-cause_in Taken = 0
-cause_in (Refused x) = cause_of x
+cause_in (Ok u) = 0
+cause_in (Err x) = cause_of x
 
 abbrev pub seen_in : Row → Seen
 seen_in r =

@@ -1,7 +1,8 @@
 -- What a planner may be told: each section taken is begun at most once, a worker's record says which of its sections is begun or
 -- finished, and a client that hands in again what is not begun has it exactly once. All of it is said of the image, and holds
 -- right after a cut as well.
-use Rattle.std.specs.Prelude.{ℕ, zero, suc, ◌+◌, ◌*◌, ◌<◌, ◌≤◌, ◌≡◌, ◌≢◌, ◌⊎◌, List, [], ◌∷◌, map, ◌++◌, Bool, true, false, ◌&&◌, ◌||◌, not, length, get_or, ltb, eqb}
+use Rattle.std.specs.Prelude.{ℕ, zero, suc, ◌+◌, ◌*◌, ◌<◌, ◌≤◌, ◌≡◌, ◌≢◌, ◌⊎◌}
+use Rattle.std.specs.Prelude.{List, [], ◌∷◌, map, ◌++◌, Bool, true, false, ◌&&◌, ◌||◌, not, length, get_or, ltb, eqb, Ok, Err}
 use Rattle.std.proofs.Math.Option.{some}
 use Rattle.image.specs.declared.Field.TheVariants.{Pc, Number, Finished as FinishedField}
 use Rattle.image.specs.Place.{field}
@@ -9,7 +10,6 @@ use Rattle.image.specs.Image.{Image, at, workers, cells_of}
 use Rattle.code.specs.declared.Op.TheVariants.{Finish}
 use Rattle.code.specs.Op.{op_of}
 use Rattle.working.specs.declared.Refusal.TheVariants.{Number as NumberRefused}
-use Rattle.intake.specs.declared.Submitted.TheVariants.{Taken, Refused}
 use Rattle.intake.specs.Submit.{submit_answer}
 use Rattle.asking.specs.declared.Standing.{Standing}
 use Rattle.asking.specs.declared.Standing.TheVariants.{NotBegun, Begun, Finished}
@@ -142,7 +142,7 @@ module _ (mark n : ℕ) where
   ThroughAlways =
       (m : Image) → Rested mark n m → (xs ys : List Move) (d k : ℕ) (args ws : List ℕ)
       → let all = xs ++ (whole (submits d k args ws) ∷ ys) in
-      machine all ≡ true → legal false all ≡ true → plain ys ≡ true → submit_answer mark n (after mark n m xs).world d k ws ≡ Taken
+      machine all ≡ true → legal false all ≡ true → plain ys ≡ true → submit_answer mark n (after mark n m xs).world d k ws ≡ Ok tt
       → (zs : List Move) → working zs ≡ true → 384 * workers m ≤ rounds_in zs
       → Among (given d k args ws) (after mark n m (all ++ zs)).trace.begun × (standing (after mark n m (all ++ zs)) d k ≡ Finished)
 
@@ -175,5 +175,5 @@ module _ (mark n : ℕ) where
   ExactlyOnce =
       Always mark n (λ m xs.
       (d : ℕ) → d < workers m → (g : Given) → started_at m d < g.number → Only d g xs
-      → submit_answer mark n (after mark n m xs).world d g.number g.code ≡ Refused NumberRefused
+      → submit_answer mark n (after mark n m xs).world d g.number g.code ≡ Err NumberRefused
       → of_worker d (after mark n m xs).trace.begun ≡ g ∷ [])

@@ -5,9 +5,9 @@ use mathlib.Core.Path.{◌≡◌, refl}
 use native.Mathlib.Omega.{arith}
 use lib.Dec.{ltb}
 use borrow.Author.Tests.{lt-ltb}
-use Rattle.section.specs.declared.Verdict.{Verdict}
-use Rattle.section.specs.declared.Verdict.TheVariants.{Pass, Length, Malformed, Unbracketed, Unordered, Unguarded, Unlevel}
-use Rattle.section.specs.Check.{cause_of as verdict_cause}
+use Rattle.section.specs.declared.Fault.{Fault}
+use Rattle.section.specs.declared.Fault.TheVariants.{Length, Malformed, Unbracketed, Unordered, Unguarded, Unlevel}
+use Rattle.section.specs.Check.{fault_cause}
 use Rattle.working.specs.declared.Refusal.{Refusal}
 use Rattle.working.specs.declared.Refusal.TheVariants.{Worker, Busy, Number, Section, Image, Cursor}
 use Rattle.working.specs.Refusal.{cause_of}
@@ -16,20 +16,19 @@ use Rattle.turn.specs.declared.Answer.TheVariants.{Stored, Passed, Waiting, Idle
 use Rattle.turn.specs.Call.{is_refused}
 use Rattle.turn.specs.Codes.{turn_code}
 
-pub verdict-below : (v : Verdict) → verdict_cause v < 32
-verdict-below Pass = omega arith
-verdict-below Length = omega arith
-verdict-below (Malformed i) = omega arith
-verdict-below (Unbracketed i) = omega arith
-verdict-below (Unordered i) = omega arith
-verdict-below (Unguarded i) = omega arith
-verdict-below (Unlevel i) = omega arith
+pub fault-below : (f : Fault) → fault_cause f < 32
+fault-below Length = omega arith
+fault-below (Malformed i) = omega arith
+fault-below (Unbracketed i) = omega arith
+fault-below (Unordered i) = omega arith
+fault-below (Unguarded i) = omega arith
+fault-below (Unlevel i) = omega arith
 
 pub cause-below : (r : Refusal) → cause_of r < 32
 cause-below Worker = omega arith
 cause-below Busy = omega arith
 cause-below Number = omega arith
-cause-below (Section v) = verdict-below v
+cause-below (Section f) = fault-below f
 cause-below Image = omega arith
 cause-below (Cursor d) = omega arith
 

@@ -1,4 +1,5 @@
 -- One turn: what the code's plan of it does is what its outcome says. With it the three tests of `turn`, one equation for each.
+use Rattle.std.proofs.Common.{Ok, Err}
 use Prim.Native.Nat.{ℕ, zero, suc, ◌<◌, ◌≤◌}
 use borrow.Author.Tests.{lt-ltb, le-ltb, ltb-true, ltb-false}
 use native.Mathlib.Omega.{arith}
@@ -27,7 +28,7 @@ use Rattle.worklog.specs.declared.Plan.TheVariants.{Take, Free}
 use Rattle.plan.specs.Inner.Plan.{store_plan, plan_of}
 use Rattle.turn.specs.Inner.Acting.{plan_did, did_answer, tested, gate_of}
 use Rattle.turn.specs.declared.Answer.TheVariants.{Stored}
-use Rattle.turn.specs.declared.Gate.TheVariants.{Refused as GateRefused, Idle, Open}
+use Rattle.turn.specs.declared.Gate.TheVariants.{Idle, Open}
 use Rattle.plan.proofs.Planned.{ready-says}
 use Rattle.plan.proofs.Outcomes.{either, unlock-either}
 use Rattle.working.proofs.Placed.{Full, idle-is, on-is, open_turn, idle-turn, held-cursor, placed-other}
@@ -156,28 +157,28 @@ module _ (own : ℕ) (w : World) (d : ℕ) (f : Full w.cursors) (h : d < 8) wher
 -- ---- the tests
 
 module _ (n : ℕ) where
-  gate-made : (o : Outcome) → gate_of o ≡ Open → Made o
+  gate-made : (o : Outcome) → gate_of o ≡ Ok Open → Made o
   gate-made (stored p v c) e = tt
   gate-made (passed why c) e = tt
   gate-made (waiting b) e = tt
   gate-made resting e = let z : ◌≡◌ {A = ℕ} 0 1 = cc in absurd (omega arith)
   gate-made (refused r) e = let z : ◌≡◌ {A = ℕ} 0 1 = cc in absurd (omega arith)
 
-  pub made-gate : (o : Outcome) → Made o → gate_of o ≡ Open
+  pub made-gate : (o : Outcome) → Made o → gate_of o ≡ Ok Open
   made-gate (stored p v c) m = refl
   made-gate (passed why c) m = refl
   made-gate (waiting b) m = refl
   made-gate resting m = absurd m
   made-gate (refused r) m = absurd m
 
-  pub gate-idle : (o : Outcome) → gate_of o ≡ Idle → o ≡ resting
+  pub gate-idle : (o : Outcome) → gate_of o ≡ Ok Idle → o ≡ resting
   gate-idle (stored p v c) e = cc
   gate-idle (passed why c) e = cc
   gate-idle (waiting b) e = cc
   gate-idle resting e = refl
   gate-idle (refused r) e = cc
 
-  pub gate-refused : (o : Outcome) (r : Refusal) → gate_of o ≡ GateRefused r → o ≡ refused r
+  pub gate-refused : (o : Outcome) (r : Refusal) → gate_of o ≡ Err r → o ≡ refused r
   gate-refused (stored p v c) r e = cc
   gate-refused (passed why c) r e = cc
   gate-refused (waiting b) r e = cc
@@ -191,7 +192,7 @@ pub record Opened (mark n : ℕ) (w : World) (d : ℕ) : Type 0 where
   pub same : outcome mark n w d ≡ outcome_at n w d
 
 module _ (mark n : ℕ) (w : World) (d : ℕ) (small : n ≤ 64) (f : Full w.cursors) where
-  pub gate-opens : gate_of (outcome mark n w d) ≡ Open → Opened mark n w d
+  pub gate-opens : gate_of (outcome mark n w d) ≡ Ok Open → Opened mark n w d
   gate-opens e = by (header_ok mark n w.image) refl (ltb d (workers w.image)) refl
     where
       by : (a : Bool) → header_ok mark n w.image ≡ a → (b : Bool) → ltb d (workers w.image) ≡ b → Opened mark n w d

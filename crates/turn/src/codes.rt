@@ -1,8 +1,9 @@
-// The number and the value of each case of the answers here (specs/Codes).
+// The number and the value of each case of the answers here (specs/Codes), as they go to C: an answer has five cases and is no Result.
 ghost use Rattle.std.specs.Prelude.{◌≡◌};
 ghost use Rattle.turn.specs.Codes.{turn_code, passing_of, turn_detail};
 
 use crate::Answer;
+use working::Cause;
 use worklog::Passing;
 
 // Ours, from 32 up: the papers' causes are below.
@@ -22,7 +23,7 @@ pub fn turn_code(a: Answer) -> u64
         Answer::Passed(_) => PASSED,
         Answer::Waiting(_) => WAITING,
         Answer::Idle => IDLE,
-        Answer::Refused(r) => working::cause(r),
+        Answer::Refused(r) => r.cause(),
     }
 }
 
@@ -45,6 +46,6 @@ pub fn turn_detail(a: Answer) -> u64
         Answer::Passed(why) => passing(why),
         Answer::Waiting(b) => b,
         Answer::Idle => 0,
-        Answer::Refused(r) => working::value(r) as u64,
+        Answer::Refused(r) => r.value(),
     }
 }

@@ -1,8 +1,7 @@
 // One turn of a worker: its tests, its plan, at most one store, and the record with the step and turn that the plan names.
 #![tactic(auto)]
 
-use code::Op;
-use plan::steps;
+use image::Edition;
 use tally::Tally;
 use working::{Cursors, Refusal};
 use worklog::{Passing, Plan};
@@ -12,10 +11,9 @@ pub mod codes;
 ghost use Rattle.std.specs.Prelude.{◌≡◌, true, ℕ, ◌≤◌};
 ghost use Rattle.image.specs.Image.{at};
 ghost use Rattle.image.specs.Inner.Inside.{Inside};
-ghost use Rattle.plan.specs.Turn.{ready, turn_at};
-ghost use Rattle.plan.specs.Inner.Plan.{plan_of};
+ghost use Rattle.plan.specs.Turn.{ready};
 ghost use Rattle.working.specs.Inner.At.{At};
-ghost use Rattle.working.specs.Cursor.{on, set_at, holding};
+ghost use Rattle.working.specs.Cursor.{set_at, holding};
 ghost use Rattle.working.specs.World.{world};
 ghost use Rattle.tally.specs.Tally.{Room};
 ghost use Rattle.turn.specs.Inner.Acting.{plan_did, plan_leaves, did_lock, did_held, did_answer, Acts, tested, gate_of};
@@ -35,10 +33,9 @@ pub enum Answer {
     Refused(Refusal),
 }
 
-// Whether a worker gets a turn.
+// Whether a worker that is not refused gets a turn.
 #[derive(Clone, Copy)]
 enum Gate {
-    Refused(Refusal),
     Idle,
     Open,
 }
@@ -67,18 +64,8 @@ pub struct Turned {
     pub cursors: Cursors,
 }
 
-// What it did, with these numbers behind it.
-fn behind(did: Did, step: u8, turn: u8) -> Acted
-    ensures { result ≡ record { did = did; step = step; turn = turn } }
-{
-    Acted {
-        did: did,
-        step: step,
-        turn: turn,
-    }
-}
-
 // A plan done, with the step and turn behind it: the plan's, or where it waits those that the worker has.
+#[inline(always)]
 fn done(image: &mut [u64], p: Plan, s: u8, t: u8, left: &mut u64) -> Acted
     requires { did_lock (plan_did p) }
     ensures did { result.did ≡ plan_did p }
@@ -94,7 +81,11 @@ fn done(image: &mut [u64], p: Plan, s: u8, t: u8, left: &mut u64) -> Acted
             turn,
         } => {
             image::store(image, at, value, left);
-            behind(Did::Stored(at), step, turn)
+            Acted {
+                did: Did::Stored(at),
+                step,
+                turn,
+            }
         }
         Plan::Take {
             lock,
@@ -103,19 +94,36 @@ fn done(image: &mut [u64], p: Plan, s: u8, t: u8, left: &mut u64) -> Acted
             turn,
         } => {
             image::store(image, image::lock_index(lock), value, left);
-            behind(Did::Took(lock), step, turn)
+            Acted {
+                did: Did::Took(lock),
+                step,
+                turn,
+            }
         }
         Plan::Free { lock, step, turn } => {
             image::store(image, image::lock_index(lock), 0, left);
-            behind(Did::Freed(lock), step, turn)
+            Acted {
+                did: Did::Freed(lock),
+                step,
+                turn,
+            }
         }
-        Plan::Pass { why, step, turn } => behind(Did::Passed(why), step, turn),
-        Plan::Wait(b) => behind(Did::Waiting(b), s, t),
+        Plan::Pass { why, step, turn } => Acted {
+            did: Did::Passed(why),
+            step,
+            turn,
+        },
+        Plan::Wait(b) => Acted {
+            did: Did::Waiting(b),
+            step: s,
+            turn: t,
+        },
     }
 }
 
-// The turn of worker d, which is ready at step s, turn t.
-pub fn turn_on(image: &mut [u64], d: usize, s: u8, t: u8, own: usize, left: &mut u64) -> Acted
+// The turn of worker d, which is ready at step s, turn t, put into its caller: for the loop of a run.
+#[inline(always)]
+pub fn turn_in_place(image: &mut [u64], d: usize, s: u8, t: u8, own: usize, left: &mut u64) -> Acted
     requires { (Inside own image.old d) × (ready own (at own image.old) d s t ≡ true) }
     ensures lock { did_lock result.did }
     ensures acts { (c : Cursors) → At c d s t
@@ -126,37 +134,16 @@ pub fn turn_on(image: &mut [u64], d: usize, s: u8, t: u8, own: usize, left: &mut
     done(image, p, s, t, left)
 }
 
-// What worker d's turn is to do at step s, turn t, which is ready: what `plan::next` says, by the same functions.
-fn planned(image: &[u64], d: usize, own: usize, s: u8, t: u8) -> Plan
-    requires { (Inside own image.now d) × (ready own (at own image.now) d s t ≡ true) }
-    ensures { result ≡ plan_of own (turn_at own (at own image.now) d (on s t)) }
-{
-    let w = image::read_step(image, d, s as usize, own);
-    match code::op_of(w) {
-        Op::Acquire(a) => steps::acquire_turn(image, d, own, a, s, t),
-        Op::Release(a) => if t < 4 {
-            steps::disown_turn(image, d, own, a, s, t)
-        } else {
-            steps::give_turn(image, d, own, a, s, t)
-        },
-        Op::Assign(a, e) => steps::assign_turn(image, d, own, a, e, s, t),
-        Op::Jump(a, b) => steps::jump_turn(image, d, own, a, b, s),
-        Op::Finish => steps::finish_turn(image, d, own, s, t),
-        Op::Unknown => Plan::Wait(0),
-    }
-}
-
-// The turn that `turn_on` makes, for the loop of a run, which has this function to itself, so that the compiler puts it there: `turn_on` has several
-// callers, and is called. What a turn is to store is said once, in `plan::steps`.
-pub fn turn_in_place(image: &mut [u64], d: usize, s: u8, t: u8, own: usize, left: &mut u64) -> Acted
+// The same as a call, for who makes turns one by one.
+#[inline(never)]
+pub fn turn_on(image: &mut [u64], d: usize, s: u8, t: u8, own: usize, left: &mut u64) -> Acted
     requires { (Inside own image.old d) × (ready own (at own image.old) d s t ≡ true) }
     ensures lock { did_lock result.did }
     ensures acts { (c : Cursors) → At c d s t
         → Acts own (world image.old c left.old) d result.did
         (world image.new (holding (did_held result.did c.held) (set_at c d result.step result.turn)) left.new) }
 {
-    let p = planned(image, d, own, s, t);
-    done(image, p, s, t, left)
+    turn_in_place(image, d, s, t, own, left)
 }
 
 // The locks held after it.
@@ -165,11 +152,9 @@ pub fn held_after(x: Did, held: u64) -> u64
     ensures { result ≡ did_held x held }
 {
     match x {
-        Did::Stored(_) => held,
         Did::Took(b) => mask::with(held, b),
         Did::Freed(b) => mask::without(held, b),
-        Did::Passed(_) => held,
-        Did::Waiting(_) => held,
+        Did::Stored(_) | Did::Passed(_) | Did::Waiting(_) => held,
     }
 }
 
@@ -186,6 +171,7 @@ pub fn passed(why: Passing, t: Tally) -> Tally
 }
 
 // The tally with a turn counted by what it did.
+// The three stores have an arm each: with one arm for them a run of several workers takes 2 to 5 instructions of 40 to 106 a turn more.
 pub fn counted(x: Did, t: Tally) -> Tally
     requires { Room t }
     ensures { (n : ℕ) → result ≡ counted (did_answer n x) t }
@@ -206,8 +192,7 @@ fn answer_of(x: Did) -> Answer
 {
     match x {
         Did::Stored(at) => Answer::Stored(at),
-        Did::Took(b) => Answer::Stored(image::lock_index(b)),
-        Did::Freed(b) => Answer::Stored(image::lock_index(b)),
+        Did::Took(b) | Did::Freed(b) => Answer::Stored(image::lock_index(b)),
         Did::Passed(why) => Answer::Passed(why),
         Did::Waiting(b) => Answer::Waiting(b),
     }
@@ -219,42 +204,41 @@ pub fn told(c: Cursors, d: usize, acted: Acted) -> Turned
     ensures answer { (n : ℕ) → result.answer ≡ did_answer n acted.did }
     ensures cursors { result.cursors ≡ holding (did_held acted.did c.held) (set_at c d acted.step acted.turn) }
 {
-    let did = acted.did;
-    let held = held_after(did, c.held);
-    let mut next = working::place(c, d, acted.step, acted.turn);
-    next.held = held;
+    let Acted { did, step, turn } = acted;
     Turned {
         answer: answer_of(did),
-        cursors: next,
+        cursors: Cursors {
+            held: held_after(did, c.held),
+            ..c.place(d, step, turn)
+        },
     }
 }
 
 // Whether a worker that the image has gets a turn: an idle one does not, nor one whose cursor is on no turn of its section.
-fn worker_tests(image: &[u64], c: Cursors, d: usize, own: usize) -> Gate
+fn worker_tests(image: &[u64], c: Cursors, d: usize, own: usize) -> Result<Gate, Refusal>
     requires { Inside own image.now d }
     ensures { (k : ℕ) → result ≡ gate_of (outcome_at own (world image.now c k) d) }
 {
-    if working::idle(c, d) {
-        return Gate::Idle;
+    if c.idle(d) {
+        return Ok(Gate::Idle);
     }
     if !plan::ready(image, d, own, c.step[d], c.turn[d]) {
-        return Gate::Refused(Refusal::Cursor(d));
+        return Err(Refusal::Cursor(d));
     }
-    Gate::Open
+    Ok(Gate::Open)
 }
 
 // The tests of a turn: causes 10 and 1, then those of the worker.
-fn tests(image: &[u64], c: Cursors, d: usize, mark: u64, own: usize) -> Gate
-    requires { own ≤ 64 }
-    ensures { (k : ℕ) → result ≡ gate_of (outcome mark own (world image.now c k) d) }
+fn tests(image: &[u64], c: Cursors, d: usize, e: Edition) -> Result<Gate, Refusal>
+    ensures { (k : ℕ) → result ≡ gate_of (outcome e.mark e.own (world image.now c k) d) }
 {
-    if !image::header_ok(image, mark, own) {
-        return Gate::Refused(Refusal::Image);
+    if !image::header_ok(image, e) {
+        return Err(Refusal::Image);
     }
     if image::workers(image) <= d as u64 {
-        return Gate::Refused(Refusal::Worker);
+        return Err(Refusal::Worker);
     }
-    worker_tests(image, c, d, own)
+    worker_tests(image, c, d, e.own)
 }
 
 // The turn of a worker that gets one.
@@ -269,28 +253,20 @@ fn open_turn(image: &mut [u64], c: Cursors, d: usize, own: usize, left: &mut u64
 }
 
 // One turn of worker d.
-pub fn turn(
-    image: &mut [u64],
-    c: Cursors,
-    d: usize,
-    mark: u64,
-    own: usize,
-    left: &mut u64,
-) -> Turned
-    requires { own ≤ 64 }
-    ensures answer { result.answer ≡ answer_of own (outcome mark own (world image.old c left.old) d) }
+pub fn turn(image: &mut [u64], c: Cursors, d: usize, e: Edition, left: &mut u64) -> Turned
+    ensures answer { result.answer ≡ answer_of e.own (outcome e.mark e.own (world image.old c left.old) d) }
     ensures after { world image.new result.cursors left.new
-        ≡ leaves own (world image.old c left.old) d (outcome mark own (world image.old c left.old) d) }
+        ≡ leaves e.own (world image.old c left.old) d (outcome e.mark e.own (world image.old c left.old) d) }
 {
-    match tests(image, c, d, mark, own) {
-        Gate::Refused(r) => Turned {
-            answer: Answer::Refused(r),
-            cursors: c,
-        },
-        Gate::Idle => Turned {
+    match tests(image, c, d, e) {
+        Ok(Gate::Open) => open_turn(image, c, d, e.own, left),
+        Ok(Gate::Idle) => Turned {
             answer: Answer::Idle,
             cursors: c,
         },
-        Gate::Open => open_turn(image, c, d, own, left),
+        Err(r) => Turned {
+            answer: Answer::Refused(r),
+            cursors: c,
+        },
     }
 }

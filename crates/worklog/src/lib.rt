@@ -11,7 +11,7 @@ ghost use Rattle.image.specs.Inner.Inside.{Inside};
 ghost use Rattle.worklog.specs.Log.{second, spare_addr, spare_val, active_addr, active_val, switched};
 ghost use Rattle.worklog.specs.Inner.Logged.{logged_plan};
 
-use image::Field;
+use image::{Field, Word};
 
 // Why a turn passes: it is a jump, or a release that finds its lock's owner word to be 0 or another's.
 #[derive(Clone, Copy)]
@@ -51,6 +51,7 @@ pub enum Plan {
 }
 
 // Whether log entry 1 is active.
+#[tactic(auto, unfolding(crate::specs::Log::second))]
 fn second(image: &[u64], d: usize, own: usize) -> bool
     requires { Inside own image.now d }
     ensures { result ≡ second own (at own image.now) d }
@@ -58,48 +59,49 @@ fn second(image: &[u64], d: usize, own: usize) -> bool
     image::read_field(image, Field::Pc, d, own) >> 63 != 0
 }
 
-// The address word of the entry that is not active.
-pub fn spare_addr(image: &[u64], d: usize, own: usize) -> Field
-    requires { Inside own image.now d }
-    ensures { result ≡ spare_addr own (at own image.now) d }
-{
-    if second(image, d, own) {
-        return Field::Addr0;
-    }
-    Field::Addr1
+// The two words of a log entry.
+#[derive(Clone, Copy)]
+pub struct Entry {
+    pub addr: Field,
+    pub val: Field,
 }
 
-// Its value word.
-fn spare_val(image: &[u64], d: usize, own: usize) -> Field
+const ENTRY_0: Entry = Entry {
+    addr: Field::Addr0,
+    val: Field::Val0,
+};
+
+const ENTRY_1: Entry = Entry {
+    addr: Field::Addr1,
+    val: Field::Val1,
+};
+
+// The entry that is not active.
+#[tactic(auto, unfolding(crate::specs::Log::spare_addr, crate::specs::Log::spare_val))]
+pub fn spare(image: &[u64], d: usize, own: usize) -> Entry
     requires { Inside own image.now d }
-    ensures { result ≡ spare_val own (at own image.now) d }
+    ensures addr { result.addr ≡ spare_addr own (at own image.now) d }
+    ensures val { result.val ≡ spare_val own (at own image.now) d }
 {
     if second(image, d, own) {
-        return Field::Val0;
+        ENTRY_0
+    } else {
+        ENTRY_1
     }
-    Field::Val1
 }
 
-// The address word of the active entry.
-fn active_addr(image: &[u64], d: usize, own: usize) -> Field
+// The active entry.
+#[tactic(auto, unfolding(crate::specs::Log::active_addr, crate::specs::Log::active_val))]
+fn active(image: &[u64], d: usize, own: usize) -> Entry
     requires { Inside own image.now d }
-    ensures { result ≡ active_addr own (at own image.now) d }
+    ensures addr { result.addr ≡ active_addr own (at own image.now) d }
+    ensures val { result.val ≡ active_val own (at own image.now) d }
 {
     if second(image, d, own) {
-        return Field::Addr1;
+        ENTRY_1
+    } else {
+        ENTRY_0
     }
-    Field::Addr0
-}
-
-// Its value word.
-fn active_val(image: &[u64], d: usize, own: usize) -> Field
-    requires { Inside own image.now d }
-    ensures { result ≡ active_val own (at own image.now) d }
-{
-    if second(image, d, own) {
-        return Field::Val1;
-    }
-    Field::Val0
 }
 
 // The address that the active entry logs.
@@ -107,7 +109,7 @@ pub fn logged_addr(image: &[u64], d: usize, own: usize) -> u64
     requires { Inside own image.now d }
     ensures { result ≡ at own image.now (field (active_addr own (at own image.now) d) d) }
 {
-    image::read_field(image, active_addr(image, d, own), d, own)
+    image::read_field(image, active(image, d, own).addr, d, own)
 }
 
 // The value that it logs.
@@ -115,25 +117,21 @@ pub fn logged_value(image: &[u64], d: usize, own: usize) -> u64
     requires { Inside own image.now d }
     ensures { result ≡ at own image.now (field (active_val own (at own image.now) d) d) }
 {
-    image::read_field(image, active_val(image, d, own), d, own)
+    image::read_field(image, active(image, d, own).val, d, own)
 }
 
 // The pc that names step s and the entry that is not active.
+#[tactic(auto, unfolding(crate::specs::Log::switched))]
 pub fn switched(image: &[u64], d: usize, own: usize, s: u8) -> u64
     requires { Inside own image.now d }
     ensures { result ≡ switched own (at own image.now) d s }
 {
+    let next = s as u64 + 1;
     if second(image, d, own) {
-        return s as u64 + 1;
+        next
+    } else {
+        next + (1 << 63)
     }
-    s as u64 + 1 + 9223372036854775808
-}
-
-// A word to store, and its index.
-#[derive(Clone, Copy)]
-struct Word {
-    at: usize,
-    value: u64,
 }
 
 // What turn j of a logged store of v at an index stores in the record, at step s: the address, the value, or the pc.
@@ -144,11 +142,11 @@ fn record_word(image: &[u64], d: usize, own: usize, s: u8, target: usize, v: u64
 {
     match j {
         0 => Word {
-            at: image::field_index(spare_addr(image, d, own), d, own),
+            at: image::field_index(spare(image, d, own).addr, d, own),
             value: target as u64,
         },
         1 => Word {
-            at: image::field_index(spare_val(image, d, own), d, own),
+            at: image::field_index(spare(image, d, own).val, d, own),
             value: v,
         },
         _ => Word {

@@ -29,42 +29,16 @@ pub fn word(image: &[u64], d: usize, x: u64, own: usize) -> u64
     image::load_inside(image, operand_index(d, x, own))
 }
 
-// The sum of two words; it stops at the largest.
-fn sum(x: u64, y: u64) -> u64
-    ensures { result ≡ min (x + y) (2 ^ 64 - 1) }
-{
-    let s = std::num::wrapping_add_u64(x, y);
-    if s < x {
-        return u64::MAX;
-    }
-    s
-}
-
-// Their difference; it stops at 0.
-fn difference(x: u64, y: u64) -> u64
-    ensures { result ≡ x - y }
-{
-    let s = std::num::wrapping_sub_u64(x, y);
-    if x <= y {
-        return 0;
-    }
-    s
-}
-
-// What an expression of two words gives of what they hold.
+// What an expression of two words gives of what they hold: a sum stops at the largest word, a difference at 0.
+#[tactic(auto, unfolding(code::specs::Op::of_two))]
 pub fn combined(e: Expr, x: u64, y: u64) -> u64
     ensures { result ≡ of_two e x y }
 {
     match e {
         Expr::Literal(_, _) => 0,
-        Expr::Sum(_, _) => sum(x, y),
-        Expr::Difference(_, _) => difference(x, y),
-        Expr::Less(_, _) => {
-            if x < y {
-                return 1;
-            }
-            0
-        }
+        Expr::Sum(_, _) => x.saturating_add(y),
+        Expr::Difference(_, _) => x.saturating_sub(y),
+        Expr::Less(_, _) => u64::from(x < y),
     }
 }
 

@@ -1,6 +1,5 @@
 -- Causes and other answers lie apart: whatever the call, a refusal returns a number below 32, and an answer other than 0 and the causes one of 32 or
--- more. Turns have such answers (`turning-apart`) and runs whose rounds are spent (`running-apart`); every other call returns 0 or a cause. (For the check
--- and the pass over the held sets that is `verdict-below` in turn/proofs/Apart.antt.)
+-- more. Turns have such answers (`turning-apart`) and runs whose rounds are spent (`running-apart`); every other call returns 0 or a cause.
 use Prim.Native.Nat.{ℕ, ◌<◌}
 use mathlib.Core.Path.{◌≡◌}
 use mathlib.Core.Bool.{Bool, true, false, cond, not, ◌&&◌}
@@ -8,40 +7,35 @@ use mathlib.Core.List.{List, [], ◌∷◌}
 use native.Mathlib.Omega.{arith}
 use lib.ListN.{length}
 use lib.Dec.{eqb, leb, ltb}
+use Rattle.std.specs.Prelude.{Some, None, Ok, Err}
 use Rattle.image.specs.Image.{Image, workers, header_ok}
+use Rattle.section.specs.Check.{Verdict, cause_of as check_cause}
 use Rattle.working.specs.declared.Cursors.{Cursors}
 use Rattle.working.specs.Cursor.{all_idle}
 use Rattle.working.specs.World.{World}
-use Rattle.formatting.specs.declared.Formatted.{Formatted}
-use Rattle.formatting.specs.declared.Formatted.TheVariants.{Done, Refused as FormatRefused}
+use Rattle.formatting.specs.Format.{Formatted}
 use Rattle.formatting.specs.Codes.{format_code}
-use Rattle.intake.specs.declared.Submitted.{Submitted}
-use Rattle.intake.specs.declared.Submitted.TheVariants.{Taken, Refused as SubmitRefused}
+use Rattle.intake.specs.Submit.{Submitted}
 use Rattle.intake.specs.Codes.{submit_code}
 use Rattle.asking.specs.Asking.{ask_code as asked}
 use Rattle.turn.specs.Call.{is_refused}
 use Rattle.turn.specs.Codes.{turn_code}
-use Rattle.turn.proofs.Apart.{verdict-below, cause-below, turn-apart}
+use Rattle.turn.proofs.Apart.{fault-below, cause-below, turn-apart}
 use Rattle.run.specs.Codes.{end_code}
 use Rattle.run.proofs.Apart.{is_spent, end-apart}
 use Rattle.soundness.specs.declared.Refusal.TheVariants.{Image as NotAnImage, Record, Lock}
-use Rattle.soundness.specs.declared.Answer.{Answer as Recovery}
-use Rattle.soundness.specs.declared.Answer.TheVariants.{Done as RecoveryDone, Refused as RecoveryRefused}
+use Rattle.soundness.specs.Answer.{Answer as Recovery}
 use Rattle.soundness.specs.Codes.{recover_code}
-use Rattle.needs.specs.declared.Along.{Along}
-use Rattle.needs.specs.declared.Along.TheVariants.{Turns as TurnsAlong, Malformed}
-use Rattle.needs.specs.declared.Needed.{Needed}
-use Rattle.needs.specs.declared.Needed.TheVariants.{Turns as TurnsNeeded, Refused}
-use Rattle.needs.specs.declared.Left.{Left}
-use Rattle.needs.specs.declared.Left.TheVariants.{Turns as TurnsLeft, Image as LeftImage, Worker, Record as LeftRecord}
+use Rattle.needs.specs.declared.Refusal.TheVariants.{Image as LeftImage, Worker, Record as LeftRecord}
+use Rattle.needs.specs.Path.{Along}
+use Rattle.needs.specs.From.{Needed}
+use Rattle.needs.specs.Left.{Left}
 use Rattle.needs.specs.Codes.{along_code, needed_code, left_code}
 use Rattle.edition.specs.Edition.{mark, own_words}
 use Rattle.buffers.specs.Input.{lines_of}
-use Rattle.frames.specs.declared.Opening.{Opening}
-use Rattle.frames.specs.declared.Opening.TheVariants.{Workers, Malformed as OpeningMalformed}
 use Rattle.frames.specs.declared.Frame.{Frame}
-use Rattle.frames.specs.declared.Frame.TheVariants.{Submit, Turns, Recover, Rounds, Malformed as FrameMalformed}
-use Rattle.frames.specs.Line.{first_of, frame_of}
+use Rattle.frames.specs.declared.Frame.TheVariants.{Submit, Turns, Recover, Rounds, Malformed}
+use Rattle.frames.specs.Line.{Opening, first_of, frame_of}
 use Rattle.stages.specs.Lines.{Line, line_whole, first_whole, whole_line, Reading, lines_whole}
 use Rattle.sums.specs.Day.{day_reading}
 use Rattle.zilpanud.specs.Lent.{turning, running}
@@ -57,35 +51,40 @@ running-apart w rounds = end-apart (running w rounds).end
 
 -- ---- calls that are done or refused
 
+-- the check, and the pass over the held sets
+pub verdict-below : (v : Verdict) → check_cause v < 32
+verdict-below (Ok u) = omega arith
+verdict-below (Err f) = fault-below f
+
 pub format-below : (a : Formatted) → format_code a < 32
-format-below Done = omega arith
-format-below (FormatRefused r) = cause-below r
+format-below (Ok u) = omega arith
+format-below (Err r) = cause-below r
 
 pub submit-below : (a : Submitted) → submit_code a < 32
-submit-below Taken = omega arith
-submit-below (SubmitRefused r) = cause-below r
+submit-below (Ok u) = omega arith
+submit-below (Err r) = cause-below r
 
 pub recover-below : (a : Recovery) → recover_code a < 32
-recover-below RecoveryDone = omega arith
-recover-below (RecoveryRefused NotAnImage) = omega arith
-recover-below (RecoveryRefused (Record d)) = omega arith
-recover-below (RecoveryRefused (Lock b)) = omega arith
+recover-below (Ok u) = omega arith
+recover-below (Err NotAnImage) = omega arith
+recover-below (Err (Record d)) = omega arith
+recover-below (Err (Lock b)) = omega arith
 
 -- ---- questions
 
 pub path-below : (a : Along) → along_code a < 32
-path-below (TurnsAlong t) = omega arith
-path-below (Malformed i) = omega arith
+path-below (Ok t) = omega arith
+path-below (Err f) = fault-below f
 
 pub needs-below : (a : Needed) → needed_code a < 32
-needs-below (TurnsNeeded f m) = omega arith
-needs-below (Refused v) = verdict-below v
+needs-below (Ok s) = omega arith
+needs-below (Err f) = fault-below f
 
 pub left_below : (a : Left) → left_code a < 32
-left_below (TurnsLeft f m) = omega arith
-left_below LeftImage = omega arith
-left_below Worker = omega arith
-left_below LeftRecord = omega arith
+left_below (Ok s) = omega arith
+left_below (Err LeftImage) = omega arith
+left_below (Err Worker) = omega arith
+left_below (Err LeftRecord) = omega arith
 
 pub ask-below : (m : Image) (d : ℕ) → ask_code m d < 32
 unfolding asked
@@ -107,15 +106,15 @@ private-reading true x y g h = g
 private-reading false x y g h = h
 
 private-first : (o : Opening) → (first_whole o).ends < 32
-private-first OpeningMalformed = omega arith
-private-first (Workers D) = private-line (leb 1 D && leb D 8) _ _ (omega arith) (omega arith)
+private-first None = omega arith
+private-first (Some D) = private-line (leb 1 D && leb D 8) _ _ (omega arith) (omega arith)
 
 private-later : (m : Image) (c : Cursors) (l : List ℕ) (f : Frame) → (line_whole m c l f).ends < 32
 private-later m c l (Submit d k) = omega arith
 private-later m c l (Turns d k) = omega arith
 private-later m c l Recover = omega arith
 private-later m c l (Rounds r) = omega arith
-private-later m c l FrameMalformed = omega arith
+private-later m c l Malformed = omega arith
 
 private-whole : (m : Image) (c : Cursors) (l : List ℕ) → (whole_line m c l).ends < 32
 unfolding whole_line

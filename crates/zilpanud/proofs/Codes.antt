@@ -6,23 +6,21 @@ use mathlib.Core.Bool.{Bool, true, false, cond, true≢false}
 use mathlib.Core.List.{List}
 use lib.ListN.{length}
 use lib.Dec.{eqb, ltb}
+use Rattle.std.specs.Prelude.{Ok, Err}
 use Rattle.image.specs.declared.Field.TheVariants.{Finished}
 use Rattle.image.specs.Place.{Place, lock, field, Memory}
 use Rattle.image.specs.Image.{Image, at, workers, header_ok}
 use Rattle.code.specs.declared.Op.{Op}
 use Rattle.code.specs.declared.Op.TheVariants.{Acquire, Release, Assign, Jump, Finish, Unknown}
-use Rattle.section.specs.declared.Verdict.{Verdict}
-use Rattle.section.specs.declared.Verdict.TheVariants.{Pass, Length, Malformed, Unbracketed, Unordered, Unguarded, Unlevel}
+use Rattle.section.specs.declared.Fault.TheVariants.{Length, Malformed, Unbracketed, Unordered, Unguarded, Unlevel}
 use Rattle.code.specs.Op.{op_of}
-use Rattle.section.specs.Check.{code_of, check, passes, cause_of as check_cause}
+use Rattle.section.specs.Check.{Verdict, code_of, check, passes, cause_of as check_cause}
 use Rattle.tally.specs.Tally.{none}
 use Rattle.working.specs.declared.Refusal.TheVariants.{Image as ImageRefused}
 use Rattle.turn.specs.declared.Answer.{Answer}
 use Rattle.worklog.specs.declared.Passing.{Passing}
 use Rattle.worklog.specs.declared.Passing.TheVariants.{Jump as PassedJump, AlreadyFree, Others}
 use Rattle.turn.specs.declared.Answer.TheVariants.{Stored, Passed, Waiting, Idle, Refused}
-use Rattle.formatting.specs.declared.Formatted.TheVariants.{Done, Refused as FormatRefused}
-use Rattle.intake.specs.declared.Submitted.{Submitted}
 use Rattle.run.specs.declared.End.{End}
 use Rattle.run.specs.declared.End.TheVariants.{AllIdle, Spent, Halted}
 use Rattle.edition.specs.Edition.{mark, own_words}
@@ -35,7 +33,7 @@ use Rattle.plan.proofs.Outcomes.{either, unlock-either}
 use Rattle.working.specs.World.{World}
 use Rattle.turn.specs.Call.{outcome_at}
 use Rattle.formatting.specs.Format.{formattable, format_answer}
-use Rattle.intake.specs.Submit.{verdict_answer, is_taken, free, submit_answer}
+use Rattle.intake.specs.Submit.{Submitted, verdict_answer, is_taken, free, submit_answer}
 use Rattle.run.specs.Run.{Counting, counting, Course, Sweep, through, halted, any_open, turned, swept, sweep, after_sweep, rounds_of, run_of}
 use Rattle.formatting.specs.Codes.{format_code}
 use Rattle.intake.specs.Codes.{submit_code}
@@ -44,8 +42,7 @@ use Rattle.intake.proofs.Split.{verdict-cause}
 use Rattle.turn.specs.Codes.{stored_no, passed_no, waiting_no, turn_code, turn_detail}
 use Rattle.run.specs.Codes.{end_code}
 use Rattle.soundness.specs.declared.Refusal.TheVariants.{Image as NotAnImage, Record, Lock}
-use Rattle.soundness.specs.declared.Answer.{Answer as Recovery}
-use Rattle.soundness.specs.declared.Answer.TheVariants.{Done as RecoveryDone, Refused as RecoveryRefused}
+use Rattle.soundness.specs.Answer.{Answer as Recovery}
 use Rattle.soundness.specs.Inner.Tests.{is_done}
 use Rattle.soundness.specs.Codes.{recover_code}
 use Rattle.zilpanud.specs.Lent.{formatting, submitting, running}
@@ -76,24 +73,24 @@ pub format-zero : (m : Image) (D : ℕ) → formattable own_words m D ≡ eqb (f
 unfolding format_answer
 format-zero m D = by (formattable own_words m D)
   where
-    by : (b : Bool) → b ≡ eqb (format_code (cond b Done (FormatRefused ImageRefused))) 0
+    by : (b : Bool) → b ≡ eqb (format_code (cond b (Ok tt) (Err ImageRefused))) 0
     by true = refl
     by false = refl
 
 pub check-zero : (v : Verdict) → passes v ≡ eqb (check_cause v) 0
-check-zero Pass = refl
-check-zero Length = refl
-check-zero (Malformed i) = refl
-check-zero (Unbracketed i) = refl
-check-zero (Unordered i) = refl
-check-zero (Unguarded i) = refl
-check-zero (Unlevel i) = refl
+check-zero (Ok u) = refl
+check-zero (Err Length) = refl
+check-zero (Err (Malformed i)) = refl
+check-zero (Err (Unbracketed i)) = refl
+check-zero (Err (Unordered i)) = refl
+check-zero (Err (Unguarded i)) = refl
+check-zero (Err (Unlevel i)) = refl
 
 pub recover-zero : (a : Recovery) → is_done a ≡ eqb (recover_code a) 0
-recover-zero RecoveryDone = refl
-recover-zero (RecoveryRefused NotAnImage) = refl
-recover-zero (RecoveryRefused (Record d)) = refl
-recover-zero (RecoveryRefused (Lock b)) = refl
+recover-zero (Ok u) = refl
+recover-zero (Err NotAnImage) = refl
+recover-zero (Err (Record d)) = refl
+recover-zero (Err (Lock b)) = refl
 
 -- ---- submitting
 

@@ -7,12 +7,13 @@ use mathlib.Core.Bool.{Bool, true, false, cond, ◌&&◌}
 use mathlib.Core.List.{List, [], ◌∷◌}
 use lib.ListN.{length}
 use lib.Dec.{ltb, eqb}
+use Rattle.std.specs.Prelude.{Ok, Err}
 use Rattle.image.specs.Image.{Image, at, workers, header_ok}
-use Rattle.section.specs.declared.Verdict.{Verdict}
-use Rattle.section.specs.declared.Verdict.TheVariants.{Pass, Length, Malformed, Unbracketed, Unordered, Unguarded, Unlevel}
-use Rattle.section.specs.Check.{Code, code_of, check, passes}
+use Rattle.section.specs.declared.Fault.TheVariants.{Length, Malformed, Unbracketed, Unordered, Unguarded, Unlevel}
+use Rattle.section.specs.Check.{Verdict, Code, code_of, passes}
 use Rattle.soundness.specs.Sound.{sound}
-use Rattle.needs.specs.declared.Left.TheVariants.{Turns, Image as NotAnImage, Worker, Record}
+use Rattle.needs.specs.declared.Span.{Span}
+use Rattle.needs.specs.declared.Refusal.TheVariants.{Image as NotAnImage, Worker, Record}
 use Rattle.needs.specs.Path.{turns_along, step_ok, bad_step, by_step, along_of}
 use Rattle.needs.specs.From.{needs_for, needs_of}
 use Rattle.needs.specs.Left.{left_of}
@@ -42,33 +43,34 @@ unfolding along_of
 path-zero words path = private-path own_words (length words) (code_of words) (turns_along (code_of words) path) path
 
 private-needs : (n : ℕ) (code : Code) (i : ℕ) (v : Verdict) → (passes v && ltb i n) ≡ eqb (needed_code (needs_for n code i v)) 0
-private-needs n code i Pass = by (ltb i n) refl
+private-needs n code i (Ok u) = by (ltb i n) refl
   where
-    by : (b : Bool) → ltb i n ≡ b → ltb i n ≡ eqb (needed_code (needs_for n code i Pass)) 0
+    by : (b : Bool) → ltb i n ≡ b → ltb i n ≡ eqb (needed_code (needs_for n code i (Ok u))) 0
     by true e = rw e
     by false e = rw e
-private-needs n code i Length = refl
-private-needs n code i (Malformed j) = refl
-private-needs n code i (Unbracketed j) = refl
-private-needs n code i (Unordered j) = refl
-private-needs n code i (Unguarded j) = refl
-private-needs n code i (Unlevel j) = refl
+private-needs n code i (Err Length) = refl
+private-needs n code i (Err (Malformed j)) = refl
+private-needs n code i (Err (Unbracketed j)) = refl
+private-needs n code i (Err (Unordered j)) = refl
+private-needs n code i (Err (Unguarded j)) = refl
+private-needs n code i (Err (Unlevel j)) = refl
 
 pub needs-zero : (words : List ℕ) (step : ℕ) → (passes (checking words) && ltb step (length words)) ≡ eqb (needed_code (needing words step)) 0
 unfolding needs_of
 needs-zero words step = private-needs (length words) (code_of words) step (checking words)
 
-private-left : (a b c : Bool) (f m : ℕ) → (a && b && c) ≡ eqb (left_code (cond a (cond b (cond c (Turns f m) Record) Worker) NotAnImage)) 0
-private-left true true true f m = refl
-private-left true true false f m = refl
-private-left true false true f m = refl
-private-left true false false f m = refl
-private-left false true true f m = refl
-private-left false true false f m = refl
-private-left false false true f m = refl
-private-left false false false f m = refl
+private-left :
+    (a b c : Bool) (s : Span) → (a && b && c) ≡ eqb (left_code (cond a (cond b (cond c (Ok s) (Err Record)) (Err Worker)) (Err NotAnImage))) 0
+private-left true true true s = refl
+private-left true true false s = refl
+private-left true false true s = refl
+private-left true false false s = refl
+private-left false true true s = refl
+private-left false true false s = refl
+private-left false false true s = refl
+private-left false false false s = refl
 
 pub left-zero :
     (m : Image) (d : ℕ) → (header_ok mark own_words m && ltb d (workers m) && sound own_words (at own_words m) d) ≡ eqb (left_code (still_needing m d)) 0
 unfolding left_of
-left-zero m d = private-left (header_ok mark own_words m) (ltb d (workers m)) (sound own_words (at own_words m) d) _ _
+left-zero m d = private-left (header_ok mark own_words m) (ltb d (workers m)) (sound own_words (at own_words m) d) _

@@ -2,3 +2,4 @@ pub mod Apart
 pub mod Asked
 pub mod Codes
 pub mod Counts
+pub mod Crossing

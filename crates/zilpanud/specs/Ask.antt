@@ -1,14 +1,14 @@
 -- The questions about a worker: when they are refused, and what they answer.
-use Rattle.std.specs.Prelude.{ℕ, cond, eqb}
+use Rattle.std.specs.Prelude.{ℕ, cond, eqb, Result, Ok, Err}
 use Rattle.image.specs.Image.{Image}
 use Rattle.working.specs.declared.Cursors.{Cursors}
+use Rattle.working.specs.declared.Refusal.{Refusal}
 use Rattle.asking.specs.declared.Standing.{Standing}
-use Rattle.asking.specs.declared.Standing.TheVariants.{NotBegun, Begun, Finished as StandsFinished, Refused}
-use Rattle.needs.specs.declared.Left.{Left}
+use Rattle.asking.specs.declared.Standing.TheVariants.{NotBegun, Begun, Finished as StandsFinished}
 use Rattle.edition.specs.Edition.{mark, own_words}
 use Rattle.working.specs.Cursor.{is_idle, cursor_at}
 use Rattle.asking.specs.Asking.{standing_of, ask_code as asked, finished_of}
-use Rattle.needs.specs.Left.{left_of}
+use Rattle.needs.specs.Left.{Left, left_of}
 
 -- the number that a question about worker d returns: causes 10 and 1, or 0
 abbrev pub ask_code : Image → ℕ → ℕ
@@ -27,11 +27,11 @@ abbrev pub finished_no : Image → ℕ → ℕ
 finished_no m d = finished_of mark own_words m d
 
 -- the number that a standing crosses as; 0 where it is refused
-abbrev pub standing_no : Standing → ℕ
-standing_no NotBegun = 0
-standing_no Begun = 1
-standing_no StandsFinished = 2
-standing_no (Refused r) = 0
+abbrev pub standing_no : Result Standing Refusal → ℕ
+standing_no (Ok NotBegun) = 0
+standing_no (Ok Begun) = 1
+standing_no (Ok StandsFinished) = 2
+standing_no (Err r) = 0
 
 -- how worker d stands to section k, as a number
 abbrev pub stands : Image → ℕ → ℕ → ℕ

@@ -2,25 +2,20 @@
 -- what each call answers and leaves there, in the edition of images that the library serves.
 use Rattle.std.specs.Prelude.{ℕ, List, [], ◌∷◌, length}
 use Rattle.image.specs.Image.{Image}
-use Rattle.section.specs.declared.Verdict.{Verdict}
-use Rattle.section.specs.Check.{code_of, check}
+use Rattle.section.specs.Check.{Verdict, code_of, check}
 use Rattle.section.specs.Sets.{sets_answer, sets_leave}
 use Rattle.tally.specs.declared.Tally.{Tally}
 use Rattle.turn.specs.declared.Answer.{Answer}
-use Rattle.formatting.specs.declared.Formatted.{Formatted}
-use Rattle.intake.specs.declared.Submitted.{Submitted}
-use Rattle.needs.specs.declared.Along.{Along}
-use Rattle.needs.specs.declared.Needed.{Needed}
 use Rattle.edition.specs.Edition.{mark, own_words}
-use Rattle.needs.specs.Path.{along_of}
-use Rattle.needs.specs.From.{needs_of}
+use Rattle.needs.specs.Path.{Along, along_of}
+use Rattle.needs.specs.From.{Needed, needs_of}
 use Rattle.working.specs.World.{World, world}
 use Rattle.turn.specs.Call.{answer_of, leaves, outcome}
-use Rattle.formatting.specs.Format.{format_answer, format_leaves, format_left}
-use Rattle.intake.specs.Submit.{submit_answer, submit_leaves}
+use Rattle.formatting.specs.Format.{Formatted, format_answer, format_leaves, format_left}
+use Rattle.intake.specs.Submit.{Submitted, submit_answer, submit_leaves}
 use Rattle.working.specs.Cursor.{cursors, all_idle}
 use Rattle.run.specs.Run.{Course, run_of}
-use Rattle.soundness.specs.declared.Answer.{Answer as Recovery}
+use Rattle.soundness.specs.Answer.{Answer as Recovery}
 use Rattle.recovery.specs.Recovery.{recovery}
 use Rattle.recovery.specs.Recover.{answer_of as recovery_answer, cursors_of, recovery_leaves, recovery_left}
 

@@ -1,8 +1,10 @@
 // What C and Rust link: the engine's entry points, four questions about a worker, the turns that a section needs, the count of the locks held and the sums of
-// a day, over slices, arrays and numbers. An answer crosses as a number and a detail (`codes` of the crates that answer, `cause` and `step` of section): 0, a
+// a day, over slices, arrays and numbers. An answer crosses as a number and a detail (`working::code` and `working::detail`, `codes` of turn and run): 0, a
 // cause, which is below 32, or another answer of a turn or a run, which is not (proofs/Apart.antt). The working record crosses
 // as two arrays, a step and a turn for each worker, and the mask of the locks held.
 #![tactic(auto)]
+
+use needs::Span;
 
 mod answers;
 mod cursors;
@@ -16,7 +18,8 @@ ghost use Rattle.intake.specs.Codes.{submit_code, submit_detail};
 ghost use Rattle.turn.specs.Codes.{turn_code, turn_detail};
 ghost use Rattle.run.specs.Codes.{end_code, end_detail};
 ghost use Rattle.soundness.specs.Codes.{recover_code, recover_detail};
-ghost use Rattle.needs.specs.Codes.{along_code, along_step, along_turns, needed_code, needed_step, needed_fewest, needed_most, left_code, left_fewest, left_most};
+ghost use Rattle.needs.specs.Codes.{along_code, along_step, along_turns, needed_code, needed_step, needed_fewest, needed_most};
+ghost use Rattle.needs.specs.Codes.{left_code, left_fewest, left_most};
 ghost use Rattle.zilpanud.specs.Lent.{lent, formatting, formats_to, checking, giving, gives_to, following, needing, submitting, submits_to};
 ghost use Rattle.zilpanud.specs.Lent.{turning, turns_to, running, counts, recovering, recovers_to};
 ghost use Rattle.zilpanud.specs.Ask.{ask_code, told, idle_bit, finished_no, stands, still_needing};
@@ -25,6 +28,7 @@ ghost use Rattle.sums.specs.Day.{day_reading, day_sums};
 ghost use Rattle.zilpanud.specs.Version.{version};
 
 // Formats an image for so many workers: 0, or 10. All workers are idle and no lock is held, also where it is refused.
+#[tactic(auto, using(crate::proofs::Crossing::format_coded))]
 #[unsafe(no_mangle)]
 pub extern "C" fn zilpanud_format(
     image: &mut [u64],
@@ -39,25 +43,25 @@ pub extern "C" fn zilpanud_format(
         ≡ formats_to image.old workers left.old }
 {
     let r = edition::format(image, workers, left);
-    let next = r.cursors;
-    cursors::leave(next, step, turn, held);
-    let a = r.answer;
-    formatting::codes::format_code(a)
+    cursors::leave(r.cursors, step, turn, held);
+    working::code(r.answer)
 }
 
 // The check of a section alone, without an image: 0, or 4 to 9, with the step.
+#[tactic(auto, using(crate::proofs::Crossing::checked))]
 #[unsafe(no_mangle)]
 pub extern "C" fn zilpanud_check(words: &[u64], detail: &mut u64) -> u64
     ensures code { result ≡ cause_of (checking words.now) }
     ensures detail { detail.new ≡ step_of (checking words.now) }
 {
     let v = edition::check(words);
-    *detail = section::step(v) as u64;
-    section::cause(v)
+    *detail = working::detail(v);
+    working::code(v)
 }
 
 // The held set before each step of a section: 0, or 4, or 5 with the lowest step. Causes 6 to 9 are not asked. The words lent are 0 from the
 // count up, and where it is refused all of them.
+#[tactic(auto, using(crate::proofs::Crossing::checked))]
 #[unsafe(no_mangle)]
 pub extern "C" fn zilpanud_held_sets(words: &[u64], sets: &mut [u64; 64], detail: &mut u64) -> u64
     ensures code { result ≡ cause_of (giving words.now) }
@@ -65,12 +69,13 @@ pub extern "C" fn zilpanud_held_sets(words: &[u64], sets: &mut [u64; 64], detail
     ensures sets { (j : ℕ) → get_or sets.new j 0 ≡ gives_to words.now j }
 {
     let v = edition::held_sets(words, sets);
-    *detail = section::step(v) as u64;
-    section::cause(v)
+    *detail = working::detail(v);
+    working::code(v)
 }
 
 // The turns along the steps of a path through a section, which need not be one that it allows: 0, or 5 with the first step that there is not, or
 // that fails it. Where it is refused, the turns are 0.
+#[tactic(auto, using(crate::proofs::Crossing::followed))]
 #[unsafe(no_mangle)]
 pub extern "C" fn zilpanud_turns_of_path(
     words: &[u64],
@@ -83,13 +88,14 @@ pub extern "C" fn zilpanud_turns_of_path(
     ensures detail { detail.new ≡ along_step (following words.now path.now) }
 {
     let a = edition::turns_of_path(words, path);
-    *turns = needs::codes::along_turns(a);
-    *detail = needs::codes::along_step(a);
-    needs::codes::along_code(a)
+    *turns = a.unwrap_or(0);
+    *detail = working::detail(a);
+    working::code(a)
 }
 
 // The fewest turns and the most that a section needs from a step on: 0, or 4 to 9, with the step; 5 where there is no such step. Where it is
 // refused, both are 0.
+#[tactic(auto, using(crate::proofs::Crossing::needed))]
 #[unsafe(no_mangle)]
 pub extern "C" fn zilpanud_turns_from(
     words: &[u64],
@@ -104,13 +110,15 @@ pub extern "C" fn zilpanud_turns_from(
     ensures detail { detail.new ≡ needed_step (needing words.now step) }
 {
     let a = edition::turns_from(words, step as usize);
-    *fewest = needs::codes::needed_fewest(a);
-    *most = needs::codes::needed_most(a);
-    *detail = needs::codes::needed_step(a);
-    needs::codes::needed_code(a)
+    let s = a.unwrap_or(Span::NONE);
+    *fewest = s.fewest;
+    *most = s.most;
+    *detail = working::detail(a);
+    working::code(a)
 }
 
 // Submits a section for a worker: 0, or 10, 1, 2, 3, and then 4 to 9 by that very check, with the step. Where it is refused, nothing is stored.
+#[tactic(auto, using(crate::proofs::Crossing::submitted))]
 #[unsafe(no_mangle)]
 pub extern "C" fn zilpanud_submit(
     image: &mut [u64],
@@ -138,11 +146,9 @@ pub extern "C" fn zilpanud_submit(
 {
     let c = cursors::lent(step, turn, *held);
     let r = edition::submit(image, c, worker, number, args, words, left);
-    let placed = r.cursors;
-    cursors::leave(placed, step, turn, held);
-    let a = r.answer;
-    *detail = intake::codes::submit_detail(a);
-    intake::codes::submit_code(a)
+    cursors::leave(r.cursors, step, turn, held);
+    *detail = working::detail(r.answer);
+    working::code(r.answer)
 }
 
 // One turn of a worker: 32 stored, with the index, 33 passed, with why, 34 waiting, with the lock, 35 idle; or 10, 1, 11 with the worker.
@@ -165,11 +171,9 @@ pub extern "C" fn zilpanud_turn(
 {
     let c = cursors::lent(step, turn, *held);
     let r = edition::turn(image, c, worker, left);
-    let next = r.cursors;
-    cursors::leave(next, step, turn, held);
-    let a = r.answer;
-    *detail = turn::codes::turn_detail(a);
-    turn::codes::turn_code(a)
+    cursors::leave(r.cursors, step, turn, held);
+    *detail = turn::codes::turn_detail(r.answer);
+    turn::codes::turn_code(r.answer)
 }
 
 // Rounds of turns until all workers are idle: 0, 36 spent; or 10, 11 with the worker. The tally: turns, waits, stores, and the
@@ -197,16 +201,15 @@ pub extern "C" fn zilpanud_run(
 {
     let c = cursors::lent(step, turn, *held);
     let r = edition::run(image, c, rounds, left);
-    let next = r.cursors;
-    cursors::leave(next, step, turn, held);
+    cursors::leave(r.cursors, step, turn, held);
     let n = r.tally;
     *tally = [n.turns, n.waits, n.stores, n.free, n.others];
-    let e = r.end;
-    *detail = run::codes::end_detail(e);
-    run::codes::end_code(e)
+    *detail = run::codes::end_detail(r.end);
+    run::codes::end_code(r.end)
 }
 
 // Recovers an image after a cut: 0, or 10, 12 with the worker, 13 with the lock. Arrays and mask are lent for the new record alone.
+#[tactic(auto, using(crate::proofs::Crossing::recovered))]
 #[unsafe(no_mangle)]
 pub extern "C" fn zilpanud_recover(
     image: &mut [u64],
@@ -222,15 +225,14 @@ pub extern "C" fn zilpanud_recover(
         ≡ recovers_to image.old left.old }
 {
     let r = edition::recover(image, left);
-    let next = r.cursors;
-    cursors::leave(next, step, turn, held);
-    let a = r.answer;
-    *detail = soundness::codes::recover_detail(a);
-    soundness::codes::recover_code(a)
+    cursors::leave(r.cursors, step, turn, held);
+    *detail = working::detail(r.answer);
+    working::code(r.answer)
 }
 
 // Whether a worker is idle, 1 or 0, by its cursor, whatever locks are held. It returns 0, or 10, 1, as all questions do, and answers 0 where
 // it is refused.
+#[tactic(auto, using(asking::proofs::Asking::asked_code, crate::proofs::Asked::told_by), unfolding(crate::specs::Ask::idle_bit))]
 #[unsafe(no_mangle)]
 pub extern "C" fn zilpanud_is_idle(
     image: &[u64],
@@ -243,14 +245,10 @@ pub extern "C" fn zilpanud_is_idle(
     ensures answer { answer.new
         ≡ told image.now worker (idle_bit (cursors step.now turn.now 0) worker) }
 {
-    let no = edition::asked(image, worker);
-    if no != 0 {
-        *answer = 0;
-        return no;
-    }
-    let c = cursors::lent(step, turn, 0);
-    *answer = answers::idle(c, worker);
-    0
+    let a = edition::asked(image, worker);
+    let idle = a.is_ok() && cursors::lent(step, turn, 0).idle(worker);
+    *answer = idle as u64;
+    working::code(a)
 }
 
 // How many locks are held, by the mask that a call has left.
@@ -262,16 +260,18 @@ pub extern "C" fn zilpanud_locks_held(held: u64) -> u64
 }
 
 // The number of the last section that a worker finished.
+#[tactic(auto, using(asking::proofs::Asking::asked_code))]
 #[unsafe(no_mangle)]
 pub extern "C" fn zilpanud_finished(image: &[u64], worker: usize, number: &mut u64) -> u64
     ensures code { result ≡ ask_code image.now worker }
     ensures answer { number.new ≡ finished_no image.now worker }
 {
     *number = edition::finished(image, worker);
-    edition::asked(image, worker)
+    working::code(edition::asked(image, worker))
 }
 
 // How a worker stands to the section of a number: 0 not begun, 1 begun, 2 finished.
+#[tactic(auto, using(asking::proofs::Asking::standing_code, crate::proofs::Asked::stands_told))]
 #[unsafe(no_mangle)]
 pub extern "C" fn zilpanud_standing(
     image: &[u64],
@@ -284,11 +284,12 @@ pub extern "C" fn zilpanud_standing(
 {
     let s = edition::standing(image, worker, number);
     *answer = answers::standing_no(s);
-    edition::asked(image, worker)
+    working::code(s)
 }
 
 // The fewest turns and the most that a worker's section still needs after a recovery: 0, or 10, 1, and 12 where its record is not sound. Both are 0
 // where none is begun, and where it is refused.
+#[tactic(auto, using(crate::proofs::Crossing::left))]
 #[unsafe(no_mangle)]
 pub extern "C" fn zilpanud_turns_left(
     image: &[u64],
@@ -301,9 +302,10 @@ pub extern "C" fn zilpanud_turns_left(
     ensures most { most.new ≡ left_most (still_needing image.now worker) }
 {
     let a = edition::turns_left(image, worker);
-    *fewest = needs::codes::left_fewest(a);
-    *most = needs::codes::left_most(a);
-    needs::codes::left_code(a)
+    let s = a.unwrap_or(Span::NONE);
+    *fewest = s.fewest;
+    *most = s.most;
+    working::code(a)
 }
 
 // The sums of a recorded day, a whole one in memory, for any bytes: for each lock the turns that waited on it, for each worker its turns that waited and those

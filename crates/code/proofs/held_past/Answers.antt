@@ -1,5 +1,4 @@
 -- `code::held_past` meets its contract, by whether the kind is above 2.
-use borrow.Author.Rules.{rules}
 use mathlib.Core.Path.{sym}
 use Rattle.code.proofs.Decoding.{held_stays}
 use Rattle.code.proofs.held_past.Goals as goal
@@ -10,5 +9,5 @@ returns-then-kind_of-gt2 c = sym (held_stays c.args.h c.args.w (rw c.kind_of.ens
 pub held_after-requires : goal.held_after-requires
 held_after-requires c = rw c.op_of.ensures c.requires
 
-pub returns : goal.returns
-returns c = rw (← c.op_of.ensures) c.held_after.ensures
+pub returns-else-kind_of-gt2 : goal.returns-else-kind_of-gt2
+returns-else-kind_of-gt2 c = rw (← c.op_of.ensures) c.held_after.ensures

@@ -1,30 +1,22 @@
 -- `code::in_range` meets its contract: the kind, then the row of it, whose entries tell the largest value of each field.
-use borrow.Author.Tests.{le-leb, lt-leb}
-use mathlib.Core.Bool.{and-false}
-use Rattle.code.specs.Form.{in_range}
-use Rattle.code.proofs.Decoding.{highest-entry}
-use borrow.Author.Rules.{rules}
+use mathlib.Core.Path.{◌≡◌, sym, ◌∙◌}
+use mathlib.Core.Bool.{◌&&◌}
+use lib.Dec.{leb}
+use Rattle.base.proofs.Bools.{within}
+use Rattle.code.specs.Table.{kind_of}
+use Rattle.code.proofs.Decoding.{range-outside, range-row}
 use Rattle.code.proofs.in_range.Goals as goal
 
-pub returns-then-k-lt1 : goal.returns-then-k-lt1
-unfolding in_range
-returns-then-k-lt1 c = simp (← c.kind_of-k.ensures, lt-leb _ _ c.if-k-lt1.true)
+pub returns-then-contains : goal.returns-then-contains
+returns-then-contains c =
+    let k = kind_of c.args.w in
+    let t : c.contains.result ≡ (leb 1 k && leb k 8) =
+    (rw (c.new.ensures.start, c.new.ensures.end, c.new.ensures.exhausted, c.kind_of-k.ensures) at c.contains.ensures.value) ∙ within 1 8 k in
+    c.in_row.ensures ∙ range-row c.args.own c.args.w c.row.result (sym t ∙ c.if-contains.true) (rw c.kind_of-k.ensures at c.row.ensures)
 
-pub returns-then-k-gt8 : goal.returns-then-k-gt8
-unfolding in_range
-returns-then-k-gt8 c = simp (← c.kind_of-k.ensures, lt-leb _ _ c.if-k-gt8.true, and-false)
-
-pub returns : goal.returns
-unfolding in_range
-returns c =
-    let c = c in
-    let own = c.args.own in
-    simp (
-      ← c.kind_of-k.ensures,
-      le-leb _ _ c.if-k-lt1.false,
-      le-leb _ _ c.if-k-gt8.false,
-      highest-entry own _ 0 _ (c.row.ensures 0),
-      highest-entry own _ 1 _ (c.row.ensures 1),
-      highest-entry own _ 2 _ (c.row.ensures 2),
-    )
-    c.in_row.ensures
+pub returns-else-contains : goal.returns-else-contains
+returns-else-contains c =
+    let k = kind_of c.args.w in
+    let t : c.contains.result ≡ (leb 1 k && leb k 8) =
+    (rw (c.new.ensures.start, c.new.ensures.end, c.new.ensures.exhausted, c.kind_of-k.ensures) at c.contains.ensures.value) ∙ within 1 8 k in
+    c.if-contains.false ∙ sym (range-outside c.args.own c.args.w (sym t ∙ c.if-contains.false))

@@ -1,7 +1,6 @@
 -- `code::in_row` meets its contract: each test is the definition's, in its order.
 use borrow.Author.Tests.{le-leb, lt-leb}
 use mathlib.Core.Bool.{and-false}
-use borrow.Author.Rules.{rules}
 use Rattle.code.proofs.in_row.Goals as goal
 
 pub returns-then-highest-field_a : goal.returns-then-highest-field_a

@@ -1,6 +1,5 @@
 -- `code::turns` meets its contract: the last entry of the row.
-use borrow.Author.Rules.{rules}
 use Rattle.code.proofs.turns.Goals as goal
 
 pub returns : goal.returns
-returns c = rw (← c.kind_of.ensures) (c.row-r.ensures 3)
+returns c = rw (← c.kind_of.ensures) (c.row.ensures 3)

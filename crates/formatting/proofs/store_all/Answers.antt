@@ -7,22 +7,22 @@ use Rattle.formatting.proofs.store_all.Goals as goal
 pub overflow_sub-n : goal.overflow_sub-n
 overflow_sub-n c =
     let A = c.args in
-    omega (arith, c.words-n.ensures, (formattable-true A.own A.image.now A.workers c.requires.1).2, length-ge A.own A.workers)
+    omega (arith, c.words-n.ensures, (formattable-true A.e.own A.image.now A.workers c.requires).2, length-ge A.e.own A.workers)
 
 pub clear-requires : goal.clear-requires
 clear-requires c =
     let A = c.args in
-    let z = (formattable-true A.own A.image.now A.workers c.requires.1).2 in
-    omega (arith, c.words-n.ensures, z, length-ge A.own A.workers, c.store-2.auto.image, c.store.auto.image)
+    let z = (formattable-true A.e.own A.image.now A.workers c.requires).2 in
+    omega (arith, c.words-n.ensures, z, length-ge A.e.own A.workers, c.store-2.auto.image, c.store.auto.image)
 
 pub returns : goal.returns
 returns c =
     let A = c.args in
-    let z = (formattable-true A.own A.image.now A.workers c.requires.1).2 in
-    let g = length-ge A.own A.workers in
+    let z = (formattable-true A.e.own A.image.now A.workers c.requires).2 in
+    let g = length-ge A.e.own A.workers in
     record {
       image = rw (
-        format-stores A.mark A.own A.left.now A.image.now A.workers,
+        format-stores A.e.mark A.e.own A.left.now A.image.now A.workers,
         ← z,
         ← c.words-n.ensures,
         ← c.store.ensures.left,

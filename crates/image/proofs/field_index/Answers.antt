@@ -1,6 +1,5 @@
 -- `image::field_index` meets its contract: the sum of what its two calls answer, which fits since records are few and
 -- short.
-use borrow.Author.Rules.{rules}
 use mathlib.Core.Path.{ap₂}
 use Prim.Native.Nat.{◌+◌}
 use native.Mathlib.Omega.{arith}

@@ -2,7 +2,6 @@ use Rattle.image.proofs.Stores.{inside-lt, read_at}
 use Rattle.image.specs.Place.{field}
 use borrow.Author.Tests.{lt-ltb}
 -- `image::read_field` meets its contract: the word at the index of a place of the image.
-use borrow.Author.Rules.{rules}
 use Rattle.image.proofs.read_field.Goals as goal
 
 pub load_inside-requires : goal.load_inside-requires

@@ -3,7 +3,6 @@ use Rattle.image.specs.Place.{step}
 use Rattle.base.proofs.Bools.{and_both}
 use borrow.Author.Tests.{lt-ltb}
 -- `image::read_step` meets its contract: the word at the index of a place of the image.
-use borrow.Author.Rules.{rules}
 use Rattle.image.proofs.read_step.Goals as goal
 
 pub load_inside-requires : goal.load_inside-requires

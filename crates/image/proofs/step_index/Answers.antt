@@ -1,5 +1,4 @@
 -- `image::step_index` meets its contract: the definition's own sum, which fits since records are few and short.
-use borrow.Author.Rules.{rules}
 use native.Mathlib.Omega.{arith}
 use Rattle.image.specs.Image.{index_of}
 use Rattle.image.proofs.Apart.{record-small}

@@ -4,4 +4,4 @@ use Rattle.frames.proofs.Frames.{submit-long}
 use Rattle.lines.proofs.begin.Goals as goal
 
 pub submit-requires : goal.submit-requires
-submit-requires c = submit-long _ _ _ (sym c.read-frame.ensures ∙ c.in-Submit.is)
+submit-requires c = submit-long _ _ _ (sym c.read.ensures ∙ c.in-Submit.is)

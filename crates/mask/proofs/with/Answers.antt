@@ -1,5 +1,4 @@
 -- `mask::with` meets its contract, by the law of the machine's `|` with one bit.
-use borrow.Author.Rules.{rules}
 use Rattle.mask.proofs.Laws.{one_shl, or-bit}
 use Rattle.mask.proofs.with.Goals as goal
 

@@ -1,9 +1,10 @@
--- `owed::union` meets its contract. The loop's invariant: `all` is the union of the first d sets.
+-- `owed::union` meets its contract.
 use Prim.Native.Nat.{ℕ, ◌+◌}
 use mathlib.Core.Path.{◌≡◌, refl}
-use native.Mathlib.Omega.{arith}
 use native.Mathlib.Numerals.{add-one}
+use native.Mathlib.Omega.{arith}
 use lib.Bits.{bit_or}
+use lib.ListN.{length}
 use Rattle.mask.specs.Mask.{union}
 use Rattle.owed.specs.Inner.Shared.{sets_in}
 use Rattle.owed.proofs.union.Goals as goal
@@ -12,14 +13,15 @@ union-next : (sets : ℕ → ℕ) (d : ℕ) → union sets (d + 1) ≡ bit_or (u
 unfolding union
 union-next sets d = rw (add-one d)
 
-pub loop-d-init : goal.loop-d-init
+pub loop-set-init : goal.loop-set-init
 unfolding union
-loop-d-init c = (omega arith, refl)
+loop-set-init c = refl
 
-pub loop-d-preserved : goal.loop-d-preserved
-loop-d-preserved c =
-    let L = c.loop-d in
-    (omega arith, rw (union-next (sets_in c.args.sets.now) L.d, ← L.invariant.1))
+pub loop-set-preserved : goal.loop-set-preserved
+loop-set-preserved c = let L = c.loop-set in rw (union-next (sets_in c.args.sets.now) L.set-index, ← L.invariant)
 
 pub returns : goal.returns
-returns c = let L = c.loop-d in let e : L.d ≡ c.args.n = omega arith in rw (← e) L.invariant.1
+returns c =
+    let L = c.loop-set in
+    let e : L.set-index ≡ length c.args.sets.now = omega arith in
+    rw (← e) L.invariant

@@ -1,16 +1,13 @@
 -- `rows::store_words` meets its contract. The loop's invariant, with i words stored: i stores are taken off, and what
 -- the rest of the list leaves of the image as it is now is what the whole list leaves of the first one.
-use Prim.Native.Nat.{◌+◌, ◌-◌, ◌≤◌}
-use borrow.Author.Rules.{rules}
-use mathlib.Core.Path.{◌≡◌, refl, sym, ◌∙◌}
-use native.Mathlib.Omega.{arith}
-use lib.ListN.{length, drop}
+use Prim.Native.Nat.{◌+◌, ◌-◌}
+use mathlib.Core.Path.{◌≡◌}
+use lib.ListN.{drop}
 use Rattle.rows.specs.Rows.{put_from}
-use Rattle.rows.proofs.Rows.{words_step, words-end}
 use Rattle.rows.proofs.store_words.Given as goal
 
 abbrev pub invariant-loop-i : goal.invariant-loop-i
-invariant-loop-i l = (l.i ≤ length l.words) × (length l.image ≡ length l.initial.image) × (l.rest ≡ l.left - l.i) × (put_from l.rest l.image (l.at + l.i) (drop l.i l.words) ≡ put_from l.left l.initial.image l.at l.words)
-
-abbrev pub decreases-loop-i : goal.decreases-loop-i
-decreases-loop-i l = length l.words - l.i
+invariant-loop-i l = record {
+  spent : l.rest ≡ l.left - l.i;
+  row : put_from l.rest l.image (l.at + l.i) (drop l.i l.words) ≡ put_from l.left l.initial.image l.at l.words;
+}

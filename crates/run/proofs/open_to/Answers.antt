@@ -1,16 +1,12 @@
--- `run::open_to` meets its contract. The loop's invariant: the workers from k on are idle, so that the last open
--- one of all is the last open one below k.
+-- `run::open_to` meets its contract.
 use Prim.Native.Nat.{◌+◌, ◌-◌, ◌<◌}
 use borrow.Author.Rules.{rules}
-use mathlib.Core.Path.{◌≡◌, refl, sym, ◌∙◌}
+use mathlib.Core.Path.{◌≡◌, sym, ◌∙◌}
 use native.Mathlib.Omega.{arith}
 use lib.ListN.{length}
 use Rattle.working.proofs.Placed.{idle-turn, open_turn}
 use Rattle.run.proofs.Idling.{to-zero, to-here, to_below}
 use Rattle.run.proofs.open_to.Goals as goal
-
-pub loop-k-init : goal.loop-k-init
-loop-k-init c = (omega arith, λ r e. refl)
 
 pub returns-then-turn-k : goal.returns-then-turn-k
 returns-then-turn-k c =
@@ -18,7 +14,7 @@ returns-then-turn-k c =
     let p : length c.args.turn ≡ 8 = search rules in
     let l : L.k - 1 < length c.args.turn = omega arith in
     let q : L.k - 1 + 1 ≡ L.k = omega arith in
-    λ r e. sym (rw q at (to-here r (L.k - 1) (open_turn r (L.k - 1) (rw e l) (rw e c.if-turn-k.true)))) ∙ L.invariant.1 r e
+    λ r e. sym (to-here r (L.k - 1) (open_turn r (L.k - 1) (rw e l) (rw e c.if-turn-k.true))) ∙ rw q (L.invariant r e)
 
 pub loop-k-preserved : goal.loop-k-preserved
 loop-k-preserved c =
@@ -26,10 +22,9 @@ loop-k-preserved c =
     let p : length c.args.turn ≡ 8 = search rules in
     let l : L.k - 1 < length c.args.turn = omega arith in
     let q : L.k - 1 + 1 ≡ L.k = omega arith in
-    (omega arith, λ r e. sym (rw q at (to_below r (L.k - 1) (idle-turn r (L.k - 1) (rw e l) (rw e c.if-turn-k.false)))) ∙ L.invariant.1 r e)
+    λ r e. sym (to_below r (L.k - 1) (idle-turn r (L.k - 1) (rw e l) (rw e c.if-turn-k.false))) ∙ rw q (L.invariant r e)
 
 pub returns : goal.returns
 returns c =
-    let L = c.loop-k in
-    let q : L.k ≡ 0 = omega arith in
-    λ r e. sym (to-zero r) ∙ (rw q at (L.invariant.1 r e))
+    let q : c.loop-k.k ≡ 0 = omega arith in
+    λ r e. sym (to-zero r) ∙ rw q at (c.loop-k.invariant r e)

@@ -1,21 +1,38 @@
 -- `section::held_sets` meets its contract: the answer is the pass's, and the words that are not to have a held set are cleared.
-use borrow.Author.Rules.{rules}
-use mathlib.Core.Path.{sym, ◌∙◌}
-use lib.ListN.{length}
-use Rattle.section.specs.Check.{code_of}
-use Rattle.section.proofs.Passing.{passed_is}
-use Rattle.section.proofs.Filled.{sets-refused, sets-given}
+use Rattle.std.proofs.Common.{◌≡◌, ℕ, ◌-◌, ◌≤◌, ◌∙◌, true, false, length, replicate, sym, ap, rules, arith}
+use Rattle.std.proofs.lemmas.Grind.{common_steps}
+use Rattle.section.proofs.Filled.{cleared, kept_of, kept_by, kept_few, sets-cleared}
+use Rattle.section.proofs.held_sets.Goals.{Joined-is_ok, then-is_ok, else-is_ok}
 use Rattle.section.proofs.held_sets.Goals as goal
 
-pub returns-then-passes : goal.returns-then-passes
-returns-then-passes c =
-    let A = c.args in
-    let p = c.checked-v.ensures in
-    let e = passed_is c.checked-v.result (sym c.passes.ensures ∙ c.if-passes.true) in record { verdict = p.first; sets = λ j. c.clear.ensures j ∙ sets-given A.own A.words.now A.held.now c.checked-v.result c.checked-v.new.held j p e }
+kept : (c : Joined-is_ok) → c.if-is_ok.kept ≡ kept_of (length c.args.words.now) c.checked-v.result
+kept c =
+    let n = length c.args.words.now in
+    let v = c.checked-v.result in
+    elim c.if-is_ok.branch [
+      | then-is_ok w ↦ kept_by n v true (sym c.is_ok.ensures.value ∙ w.if-is_ok.true) w.kept-is
+      | else-is_ok w ↦ kept_by n v false (sym c.is_ok.ensures.value ∙ w.if-is_ok.false) w.kept-is
+    ]
 
-pub returns-else-passes : goal.returns-else-passes
-returns-else-passes c =
+few : (c : Joined-is_ok) → c.if-is_ok.kept ≤ 64
+few c =
+    let v = c.checked-v in
+    rw (kept c) (kept_few c.args.own c.args.words.now c.args.held.now v.result v.new.held v.ensures)
+
+pub slice_bounds-fill-count : goal.slice_bounds-fill-count
+slice_bounds-fill-count c = few (goal.at.slice_bounds-fill-count c).Joined-is_ok
+
+pub slice_bounds-fill-start : goal.slice_bounds-fill-start
+slice_bounds-fill-start c = let h = few (goal.at.slice_bounds-fill-start c).Joined-is_ok in search rules
+
+pub returns-clause-sets : goal.returns-clause-sets
+returns-clause-sets c =
+    let v = c.checked-v in
     let A = c.args in
-    let w = A.words.now in
-    let e = c.checked-v.ensures.first in
-    let no = sym c.passes.ensures ∙ c.if-passes.false in record { verdict = e; sets = λ j. c.clear-else-passes.ensures j ∙ sets-refused A.own (length w) (code_of w) (code_of c.checked-v.new.held) j e no }
+    let k = c.if-is_ok.kept in
+    let joined = (goal.at.returns-clause-sets c).Joined-is_ok in
+    let h = few joined in
+    let room : length v.new.held ≡ 64 = omega arith in
+    let zeros : c.fill.new.self ≡ replicate (64 - k) 0 = c.fill.ensures.after (λ y h. h) ∙ ap (λ (m : ℕ). replicate m 0) (grind (arith, common_steps)) in
+    λ j. rw zeros
+    (cleared v.new.held k (64 - k) j (omega arith) ∙ rw (kept joined) (sets-cleared A.own A.words.now A.held.now v.result v.new.held v.ensures j))

@@ -1,37 +1,24 @@
--- `section::uses` meets its contract. The loop's invariant: the first refusal from the step reached on is that of the
--- whole section; so a refusal here is the first, and with no step left there is none.
-use Prim.Native.Nat.{◌-◌, ◌≤◌}
-use borrow.Author.Rules.{rules}
-use borrow.Author.Tests.{not-true, not-false}
-use mathlib.Core.Path.{◌≡◌, sym, ap, ◌∙◌}
-use native.Mathlib.Omega.{arith}
-use lib.ListN.{length}
-use Rattle.base.proofs.Counting.{left-all}
-use Rattle.section.specs.Check.{code_of, first_of, use_of, passes}
-use Rattle.section.proofs.Passing.{first_on, first_stops, passed_is}
+-- `section::uses` meets its contract: a refusal is the first, and with no step left there is none.
+use Rattle.std.proofs.Common.{◌∙◌, length, sym}
+use Rattle.std.proofs.lemmas.Result.{err_from_is_err_and}
+use Rattle.section.specs.Check.{code_of, use_of}
+use Rattle.section.proofs.Passing.{first_on, first_stops}
 use Rattle.section.proofs.First.{first-none}
 use Rattle.section.proofs.uses.Goals as goal
 
-pub loop-i-init : goal.loop-i-init
-loop-i-init c = (omega arith, rw (left-all (length c.args.words.now)))
-
-pub use_at-v-requires : goal.use_at-v-requires
-use_at-v-requires c = c.requires c.loop-i.i c.loop-i-test.true
-
-pub returns-then-not-passes : goal.returns-then-not-passes
-returns-then-not-passes c =
-    let L = c.loop-i in
-    let w = c.args.words.now in
-    let r = ap passes (sym c.use_at-v.ensures) ∙ (sym c.passes.ensures ∙ not-true c.passes.result c.if-not-passes.true-raw) in
-    c.use_at-v.ensures ∙ (sym (first_stops (use_of (code_of w)) (length w) L.i c.loop-i-test.true r) ∙ L.invariant.1)
+pub returns-in_err-use_at : goal.returns-in_err-use_at
+returns-in_err-use_at c =
+    let f = use_of (code_of c.args.words.now) in
+    let n = length c.args.words.now in
+    let p = err_from_is_err_and c.from_residual.result c.from_residual.ensures.1 in
+    let q = first_stops f n c.loop-i.i _ c.loop-i-test.true (sym c.use_at.ensures ∙ c.in_err-use_at.was) in
+    rw (p.1, p.2) (sym q ∙ c.loop-i.invariant)
 
 pub loop-i-preserved : goal.loop-i-preserved
 loop-i-preserved c =
-    let L = c.loop-i in
-    let w = c.args.words.now in
-    let r = sym c.use_at-v.ensures ∙ passed_is c.use_at-v.result (sym c.passes.ensures ∙ not-false c.passes.result c.if-not-passes.false-raw)
-    in
-    (omega arith, sym (first_on (use_of (code_of w)) (length w) L.i c.loop-i-test.true r) ∙ L.invariant.1)
+    let f = use_of (code_of c.args.words.now) in
+    let n = length c.args.words.now in
+    sym (first_on f n c.loop-i.i c.loop-i-test.true (sym c.use_at.ensures ∙ c.in_ok-use_at.was)) ∙ c.loop-i.invariant
 
 pub returns : goal.returns
-returns c = sym (first-none _ _ _ c.loop-i-test.false) ∙ c.loop-i.invariant.1
+returns c = sym (first-none (use_of (code_of c.args.words.now)) c.loop-i.i (length c.args.words.now) c.loop-i-test.false) ∙ c.loop-i.invariant

@@ -1,5 +1,4 @@
 -- `stages::on` meets its contract: the image's words are replaced in its buffer.
-use borrow.Author.Rules.{rules}
 use native.Mathlib.Omega.{arith}
 use mathlib.Core.Path.{sym}
 use lib.Seq.{length-take-le}
@@ -11,7 +10,7 @@ slice_bounds-go_on-end-2 c = sym (length-take-le _ _ c.requires)
 
 pub returns : goal.returns
 returns c =
-    let G = c.go_on-q in
+    let G = c.go_on-played in
     let m = c.args.image.now in
     let n = c.args.d.words in
     record {

@@ -1,13 +1,12 @@
 -- `stream::play` meets its contract. The loop's invariant: the buffers have their lengths, the stream stays within them, and the day is under way.
 use Rattle.std.proofs.Common.{◌≤◌, refl, ap, arith, rules}
-use Rattle.std.proofs.lemmas.Bool.{not-true}
 use Rattle.edition.specs.Edition.{largest}
 use Rattle.stages.specs.declared.Day.{Day}
 use Rattle.stream.proofs.Underway.{starts, goes-on, prints-read, prints}
 use Rattle.stream.proofs.play.Goals as goal
 
-pub loop-turns-init : goal.loop-turns-init
-loop-turns-init g c =
+pub loop-init : goal.loop-init
+loop-init g c =
     let h : c.dawn.result.words ≤ largest = omega (arith, ap (λ (d : Day). d.words) c.dawn.ensures) in
     record {
       image = search rules;
@@ -17,9 +16,9 @@ loop-turns-init g c =
       underway = starts _ _ _ _ _ _ c.dawn.ensures refl refl refl refl;
     }
 
-pub loop-turns-preserved : goal.loop-turns-preserved
-loop-turns-preserved g c =
-    let L = c.loop-turns in
+pub loop-preserved : goal.loop-preserved
+loop-preserved g c =
+    let L = c.loop in
     let S = c.step-s in
     let E = S.ensures in
     record {
@@ -27,13 +26,13 @@ loop-turns-preserved g c =
       buf = search rules;
       out = search rules;
       within = E.within;
-      underway = goes-on _ _ _ _ _ _ L.image _ L.buf _ L.out _ L.s S.result _ _ (not-true _ c.if-not-s.true) L.invariant.within
+      underway = goes-on _ _ _ _ _ _ L.image _ L.buf _ L.out _ L.s S.result _ _ c.if-s.false L.invariant.within
           L.invariant.underway E.stepped E.read E.written E.told (E.ended (omega arith)) E.over;
     }
 
-pub returns-then-s-clause-printed : goal.returns-then-s-clause-printed
-returns-then-s-clause-printed g c = prints _ _ _ _ _ _ _ _ c.loop-turns.invariant.underway c.if-s.true
+pub returns-then-s-2-clause-printed : goal.returns-then-s-2-clause-printed
+returns-then-s-2-clause-printed g c = prints _ _ _ _ _ _ _ _ c.loop.invariant.underway c.if-s-2.true
 
-pub returns-then-s-clause-first : goal.returns-then-s-clause-first
-returns-then-s-clause-first g c =
-    let day = c.loop-turns.invariant.underway in (day.bytes, day.read, prints-read _ _ _ _ _ _ _ _ day c.if-s.true)
+pub returns-then-s-2-clause-first : goal.returns-then-s-2-clause-first
+returns-then-s-2-clause-first g c =
+    let day = c.loop.invariant.underway in (day.bytes, day.read, prints-read _ _ _ _ _ _ _ _ day c.if-s-2.true)

@@ -5,8 +5,8 @@ use Rattle.stream.specs.InBuffers.{InBuffers}
 use Rattle.stream.proofs.Underway.{Underway}
 use Rattle.stream.proofs.play.Given as goal
 
-abbrev pub invariant-loop-turns : goal.invariant-loop-turns
-invariant-loop-turns g l =
+abbrev pub invariant-loop : goal.invariant-loop
+invariant-loop g l =
     record {
       image : length l.image ≡ largest;
       buf : length l.buf ≡ 65536;
@@ -15,6 +15,3 @@ invariant-loop-turns g l =
       underway : Underway (g.R.Read.remaining l.initial.input) (g.R.Read.remaining l.input) (g.W.Write.contents l.initial.output)
           (g.W.Write.contents l.output) l.image l.buf l.s l.failures.any;
     }
-
-abbrev pub decreases-loop-turns : goal.decreases-loop-turns
-decreases-loop-turns g l = l.turns

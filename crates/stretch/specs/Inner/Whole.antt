@@ -1,5 +1,5 @@
 -- What the code says of whole instructions, whose turns it makes back to back.
-use Rattle.std.specs.Prelude.{ℕ, ◌+◌, ◌-◌, ◌<◌, ◌≤◌, ◌≡◌, true}
+use Rattle.std.specs.Prelude.{ℕ, ◌+◌, ◌-◌, ◌<◌, ◌≤◌, ◌≡◌, true, Option, Some, None}
 use Rattle.image.specs.declared.Field.TheVariants.{Count, Pc, Number, Finished}
 use Rattle.image.specs.Place.{field}
 use Rattle.image.specs.Image.{Image, index_of, at, put}
@@ -13,10 +13,6 @@ use Rattle.tally.specs.Inner.Passes.{passed, with_turns}
 use Rattle.plan.specs.Turn.{ready}
 use Rattle.stretch.specs.declared.Walk.{Walk}
 use Rattle.stretch.specs.Inner.Single.{single, Turns}
-
--- no turn, at step s, turn t
-abbrev pub no_turns : ℕ → ℕ → ℕ → Passes → Walk
-no_turns s t h p = record { turns = 0; step = s; turn = t; passes = p; held = h }
 
 -- n: own words in a record; d: the worker
 -- the image after a finish's stores: number as finished, 0 in the pc, 0 in the count
@@ -51,5 +47,11 @@ pub record Made (n d s h : ℕ) (p : Passes) (m : Image) (left : ℕ) (v : Image
   pub turns :
       (j : ℕ) (y : Tally) → passed p ≤ j
       → Turns n d r.turns (single m left s 0 h (with_turns j p y)) (single v rest r.step r.turn r.held (with_turns (j + r.turns) r.passes y))
+  pub some : 1 ≤ r.turns
   pub most : r.turns ≤ 6
   pub few : passed r.passes ≤ passed p + r.turns
+
+-- the same where the first turn may not be ready: then there are none, and all is as it was; behind a whole instruction is another of the section's k
+abbrev pub Tried : ℕ → ℕ → ℕ → ℕ → ℕ → Passes → Image → ℕ → Image → ℕ → Option Walk → Type 0
+Tried n d s k h p m left v rest (Some r) = Made n d s h p m left v rest r × (r.turn ≡ 0 → r.step < k)
+Tried n d s k h p m left v rest None = (v ≡ m) × (rest ≡ left)

@@ -8,7 +8,7 @@ use Rattle.sums.proofs.Days.{stands-start, stands-over}
 use Rattle.sums.proofs.day_sums.Given as goal
 
 abbrev pub invariant-loop-image : goal.invariant-loop-image
-invariant-loop-image l = (length l.image ≡ largest) × Stands l.bytes l.image l.s (sums l.locks l.waited l.moved)
+invariant-loop-image l = (length l.image ≡ largest) × Stands l.bytes l.image l.s l.sums
 
 abbrev pub decreases-loop-image : goal.decreases-loop-image
 decreases-loop-image l = length l.bytes - l.s.from

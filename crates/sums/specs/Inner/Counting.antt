@@ -3,7 +3,8 @@ use Rattle.std.specs.Prelude.{ℕ, ◌+◌, min, List, slice_index, slice_set}
 use Rattle.turn.specs.declared.Answer.{Answer}
 use Rattle.turn.specs.declared.Answer.TheVariants.{Stored, Passed, Waiting, Idle, Refused}
 use Rattle.lines.specs.declared.Made.{Made}
-use Rattle.sums.specs.Sums.{Sums, sums, top}
+use Rattle.sums.specs.declared.Sums.{Sums}
+use Rattle.sums.specs.Sums.{sums, top}
 
 -- so many more at an index
 unfoldable pub raised : List ℕ → ℕ → ℕ → List ℕ

@@ -7,7 +7,8 @@ use Rattle.stages.specs.Buffer.{Holds, Buffered}
 use Rattle.stages.specs.Lines.{Line, Reading, lines_whole}
 use Rattle.pieces.specs.Pieces.{ends_of}
 use Rattle.sums.specs.declared.playing.Stand.{Stand}
-use Rattle.sums.specs.Sums.{Sums, sums_of}
+use Rattle.sums.specs.declared.Sums.{Sums}
+use Rattle.sums.specs.Sums.{sums_of}
 use Rattle.sums.specs.Day.{day_reading}
 
 -- a line was played, on the image's buffer, which was m and is k, and x were the sums and are y; l is what the definition says of it
@@ -32,5 +33,7 @@ pub record Stands (bytes m : List ℕ) (s : Stand) (x : Sums) : Type 0 where
   pub few : s.lines ≤ s.from
   pub holds : Holds m s.day
   pub going :
-      s.ends ≡ 0 → Rest (day_reading bytes) turns s.lines (lines_whole (lines_of (drop s.from bytes)) (take s.day.words m) s.day.played.cursors)
-  pub over : s.ends ≢ 0 → ((day_reading bytes).output.turns ≡ turns) × ((day_reading bytes).ends ≡ s.ends) × ((day_reading bytes).read ≡ s.lines)
+      ends_of s.day.played ≡ 0 → Rest (day_reading bytes) turns s.lines (lines_whole (lines_of (drop s.from bytes)) (take s.day.words m) s.day.played.cursors)
+  pub over :
+      ends_of s.day.played ≢ 0
+      → ((day_reading bytes).output.turns ≡ turns) × ((day_reading bytes).ends ≡ ends_of s.day.played) × ((day_reading bytes).read ≡ s.lines)

@@ -20,12 +20,12 @@ held-self c d s t = refl
 pub returns-in-Store-clause-after : goal.returns-in-Store-clause-after
 returns-in-Store-clause-after c =
     let s = c.store.ensures in
-    rw (c.behind.ensures, c.in-Store.is, ← s.image, ← s.left) (λ n x d h. rw (held-self x d _ _))
+    rw (c.in-Store.is, ← s.image, ← s.left) (λ n x d h. rw (held-self x d _ _))
 
 pub returns-in-Pass-clause-after : goal.returns-in-Pass-clause-after
-returns-in-Pass-clause-after c = rw (c.behind-in-Pass.ensures, c.in-Pass.is) (λ n x d h. rw (held-self x d _ _))
+returns-in-Pass-clause-after c = rw c.in-Pass.is (λ n x d h. rw (held-self x d _ _))
 
 pub returns-in-Wait-clause-after : goal.returns-in-Wait-clause-after
 returns-in-Wait-clause-after c =
     let A = c.args in
-    rw (c.behind-in-Wait.ensures, c.in-Wait.is) (λ n x d h. rw (held-self x d A.s A.t, placed-self x d A.s A.t h))
+    rw c.in-Wait.is (λ n x d h. rw (held-self x d A.s A.t, placed-self x d A.s A.t h))

@@ -12,7 +12,7 @@ pub returns-then-not-header_ok : goal.returns-then-not-header_ok
 returns-then-not-header_ok c =
     λ k.
     let A = c.args in
-    rw (no_header A.mark A.own (world A.image.now A.c k) A.d (sym c.header_ok.ensures ∙ c.if-not-header_ok.true))
+    rw (no_header A.e.mark A.e.own (world A.image.now A.c k) A.d (sym c.header_ok.ensures ∙ c.if-not-header_ok.true))
 
 pub returns-then-workers-d : goal.returns-then-workers-d
 returns-then-workers-d c =
@@ -20,14 +20,14 @@ returns-then-workers-d c =
     let A = c.args in
     let h = sym c.header_ok.ensures ∙ c.if-not-header_ok.false in
     let b : workers A.image.now ≤ A.d = rw c.workers.ensures at c.if-workers-d.true in
-    rw (no-worker A.mark A.own (world A.image.now A.c k) A.d h b)
+    rw (no-worker A.e.mark A.e.own (world A.image.now A.c k) A.d h b)
 
 pub worker_tests-requires : goal.worker_tests-requires
 worker_tests-requires c =
     let A = c.args in
     let h = sym c.header_ok.ensures ∙ c.if-not-header_ok.false in
     let b : A.d < workers A.image.now = rw c.workers.ensures at c.if-workers-d.false in
-    header-inside A.mark A.own A.image.now A.d c.requires h b
+    header-inside A.e.mark A.e.own A.image.now A.d A.e.few h b
 
 pub returns : goal.returns
 returns c =
@@ -35,4 +35,4 @@ returns c =
     let A = c.args in
     let h = sym c.header_ok.ensures ∙ c.if-not-header_ok.false in
     let b : A.d < workers A.image.now = rw c.workers.ensures at c.if-workers-d.false in
-    c.worker_tests.ensures k ∙ ap gate_of (sym (a_turn A.mark A.own (world A.image.now A.c k) A.d h b))
+    c.worker_tests.ensures k ∙ ap gate_of (sym (a_turn A.e.mark A.e.own (world A.image.now A.c k) A.d h b))

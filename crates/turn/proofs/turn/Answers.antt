@@ -13,14 +13,16 @@ open_turn-requires c =
     let p : length A.c.step ≡ 8 = search rules in
     let q : length A.c.turn ≡ 8 = search rules in
     let f : Full A.c = record { steps = p; turns = q } in
-    let o = gate-opens A.mark A.own (world A.image.now A.c A.left.now) A.d c.requires f (sym (c.in-Open.ensures A.left.now)) in
+    let opens = rw c.in-Ok-Open.field-0-is at (sym (c.in-Ok-Open.ensures A.left.now)) in
+    let o = gate-opens A.e.mark A.e.own (world A.image.now A.c A.left.now) A.d A.e.few f opens in
     (o.inside, o.test)
 
-pub returns-in-Open : goal.returns-in-Open
-returns-in-Open c =
+pub returns-in-Ok-Open : goal.returns-in-Ok-Open
+returns-in-Ok-Open c =
     let A = c.args in
     let p : length A.c.step ≡ 8 = search rules in
     let q : length A.c.turn ≡ 8 = search rules in
     let f : Full A.c = record { steps = p; turns = q } in
-    let o = gate-opens A.mark A.own (world A.image.now A.c A.left.now) A.d c.requires f (sym (c.in-Open.ensures A.left.now)) in
+    let opens = rw c.in-Ok-Open.field-0-is at (sym (c.in-Ok-Open.ensures A.left.now)) in
+    let o = gate-opens A.e.mark A.e.own (world A.image.now A.c A.left.now) A.d A.e.few f opens in
     rw o.same c.open_turn.ensures

@@ -3,10 +3,10 @@ use Rattle.turn.proofs.Ready.{plan-lock, plan-acts}
 use Rattle.turn.proofs.turn_in_place.Goals as goal
 
 pub done-requires : goal.done-requires
-done-requires c = plan-lock _ _ _ _ _ _ c.planned-p.ensures
+done-requires c = plan-lock _ _ _ _ _ _ c.next-p.ensures
 
 pub returns : goal.returns
 returns c =
     let r = c.done.ensures in
-    let h = plan-acts _ _ _ _ _ _ c.planned-p.ensures _ _ _ _ c.requires.1 r.did r.after in
+    let h = plan-acts _ _ _ _ _ _ c.next-p.ensures _ _ _ _ c.requires.1 r.did r.after in
     record { lock = h.0; acts = h.1 }

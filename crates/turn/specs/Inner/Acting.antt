@@ -1,9 +1,10 @@
 -- What the code of a turn says of what it did: inner to the turn and to the run.
-use Rattle.std.specs.Prelude.{ℕ, ◌-◌, ◌<◌, ◌≡◌, Bool, get_or}
+use Rattle.std.specs.Prelude.{ℕ, ◌-◌, ◌<◌, ◌≡◌, Bool, get_or, Result, Ok, Err}
 use Rattle.mask.specs.Mask.{with, without}
 use Rattle.image.specs.Place.{lock}
 use Rattle.image.specs.Image.{Image, index_of, at, put}
 use Rattle.working.specs.declared.Cursors.{Cursors}
+use Rattle.working.specs.declared.Refusal.{Refusal}
 use Rattle.working.specs.Cursor.{set_at, holding}
 use Rattle.working.specs.World.{World, world}
 use Rattle.worklog.specs.declared.Plan.{Plan}
@@ -11,7 +12,7 @@ use Rattle.worklog.specs.declared.Plan.TheVariants.{Store, Take, Free, Pass, Wai
 use Rattle.plan.specs.Turn.{Outcome, stored, passed, waiting, resting, refused, ready}
 use Rattle.plan.specs.Inner.Plan.{plan_of}
 use Rattle.turn.specs.declared.Gate.{Gate}
-use Rattle.turn.specs.declared.Gate.TheVariants.{Refused as GateRefused, Idle, Open}
+use Rattle.turn.specs.declared.Gate.TheVariants.{Idle, Open}
 use Rattle.turn.specs.declared.Answer.{Answer}
 use Rattle.turn.specs.declared.Answer.TheVariants.{Stored, Passed, Waiting}
 use Rattle.turn.specs.declared.Did.{Did}
@@ -71,9 +72,9 @@ abbrev pub tested : ℕ → Image → Cursors → ℕ → Bool
 tested n m c d = ready n (at n m) d (get_or c.step d 0) (get_or c.turn d 0)
 
 -- what they say of an outcome
-abbrev pub gate_of : Outcome → Gate
-gate_of (stored p v c) = Open
-gate_of (passed why c) = Open
-gate_of (waiting b) = Open
-gate_of resting = Idle
-gate_of (refused r) = GateRefused r
+abbrev pub gate_of : Outcome → Result Gate Refusal
+gate_of (stored p v c) = Ok Open
+gate_of (passed why c) = Ok Open
+gate_of (waiting b) = Ok Open
+gate_of resting = Ok Idle
+gate_of (refused r) = Err r

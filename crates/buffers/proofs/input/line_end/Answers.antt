@@ -1,26 +1,13 @@
--- `buffers::input::line_end` meets its contract. The loop's invariant: so many bytes are passed, and from there the rest decides.
-use native.Mathlib.Omega.{arith}
-use mathlib.Core.Path.{◌∙◌}
-use Rattle.buffers.proofs.Lines.{line_step, line-found, line-none}
+-- `buffers::input::line_end` meets its contract.
+use Rattle.std.proofs.Common.{rules, tests, ◌==◌, ◌∙◌}
+use Rattle.std.proofs.lemmas.Iterator.{YieldsList-from_slice}
+use Rattle.std.proofs.lemmas.Iterator.Search.{position_from_yields_List}
+use Rattle.buffers.proofs.Lines.{line-ends}
 use Rattle.buffers.proofs.input.line_end.Goals as goal
 
-pub loop-i-init : goal.loop-i-init
-loop-i-init c = (omega arith, omega arith)
-
-pub returns-then-l-i-eq10 : goal.returns-then-l-i-eq10
-returns-then-l-i-eq10 c =
+pub returns-clause-place : goal.returns-clause-place
+returns-clause-place c =
     let l = c.args.l.now in
-    let L = c.loop-i in
-    let e = line-found l L.i (omega arith) c.if-l-i-eq10.true in record { place = omega arith; bound = omega arith }
-
-pub loop-i-preserved : goal.loop-i-preserved
-loop-i-preserved c =
-    let l = c.args.l.now in
-    let L = c.loop-i in
-    (omega arith, line_step l L.i (omega arith) c.if-l-i-eq10.false ∙ L.invariant.1)
-
-pub returns : goal.returns
-returns c =
-    let l = c.args.l.now in
-    let L = c.loop-i in
-    let e = line-none l L.i (omega arith) in record { place = omega arith; bound = omega arith }
+    let e = position_from_yields_List (λ b. b == 10) _ _ c.position.result c.position.ensures.ran (YieldsList-from_slice l (cc))
+    (λ x b q k. search (rules, tests)) in
+    c.unwrap_or.ensures ∙ (rw e (line-ends l))

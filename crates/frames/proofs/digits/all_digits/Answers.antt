@@ -1,17 +1,12 @@
--- `frames::digits::all_digits` meets its contract. The loop's invariant: the rest of the line decides.
-use native.Mathlib.Omega.{arith}
-use mathlib.Core.Path.{refl, sym, ◌∙◌}
-use Rattle.frames.proofs.Numbers.{all-step, all-fails, all_end}
+-- `frames::digits::all_digits` meets its contract.
+use Rattle.std.proofs.Common.{rules, tests, ◌∙◌}
+use Rattle.std.proofs.lemmas.Iterator.{YieldsList-from_slice}
+use Rattle.std.proofs.lemmas.Iterator.Search.{all_from_yields_List}
+use Rattle.frames.specs.Hex.{is_hex}
+use Rattle.frames.proofs.Numbers.{all-tests}
 use Rattle.frames.proofs.digits.all_digits.Goals as goal
 
-pub loop-i-init : goal.loop-i-init
-loop-i-init c = (omega arith, refl)
-
-pub returns-then-not-is_digit : goal.returns-then-not-is_digit
-returns-then-not-is_digit c = sym (sym c.loop-i.invariant.1 ∙ all-fails _ c.loop-i.i (omega arith) (sym c.is_digit.ensures ∙ c.if-not-is_digit.true))
-
-pub loop-i-preserved : goal.loop-i-preserved
-loop-i-preserved c = (omega arith, all-step _ c.loop-i.i (omega arith) (sym c.is_digit.ensures ∙ c.if-not-is_digit.false) ∙ c.loop-i.invariant.1)
-
 pub returns : goal.returns
-returns c = sym (sym c.loop-i.invariant.1 ∙ all_end _ c.loop-i.i c.loop-i-test.false)
+returns c =
+    all_from_yields_List is_hex _ _ _ c.all.ensures.ran (YieldsList-from_slice c.args.line.now (cc)) (λ x b q k. search (rules, tests))
+    ∙ all-tests c.args.line.now

@@ -1,38 +1,40 @@
 -- `frames::digits::number` meets its contract. The loop's invariant: the number so far has as many digits as were read, and with
 -- the digits that are left it is the whole.
-use native.Mathlib.Omega.{arith}
-use Prim.Native.Nat.{◌<◌}
+use Rattle.std.proofs.Common.{◌+◌, ◌<◌, ◌≤◌, arith}
+use Rattle.std.proofs.lemmas.List.Edits.{length-between, get_or-between}
 use Rattle.frames.proofs.Numbers.{grows, room, from_step, from-none, from_all}
 use Rattle.frames.proofs.digits.number.Goals as goal
 
-pub loop-i-init : goal.loop-i-init
-loop-i-init c = (omega arith, omega arith, from_all _ _ _)
+pub loop-b-init : goal.loop-b-init
+loop-b-init c = (omega arith, from_all _ _ _)
 
 pub overflow_mul-v : goal.overflow_mul-v
 overflow_mul-v c =
-    omega (
-      arith,
-      room c.loop-i.i c.loop-i.v (omega arith) c.loop-i.invariant.1,
-      c.digit-d.ensures.bound,
-    )
+    let A = c.args in
+    let L = c.loop-b in
+    let k : L.b-index < A.n = omega (arith, length-between A.line.now A.at (A.at + A.n) c.requires.0) in
+    omega (arith, room L.b-index L.v (omega arith) L.invariant.0)
 
 pub overflow_add-v : goal.overflow_add-v
 overflow_add-v c =
-    omega (
-      arith,
-      room c.loop-i.i c.loop-i.v (omega arith) c.loop-i.invariant.1,
-      c.digit-d.ensures.bound,
-    )
-
-pub loop-i-preserved : goal.loop-i-preserved
-loop-i-preserved c =
     let A = c.args in
-    let L = c.loop-i in
-    let h : L.i < A.n = omega arith in (
-      omega arith,
-      grows L.i L.v _ L.invariant.1 c.digit-d.ensures.bound,
-      rw (from_step A.line.now A.at A.n L.i L.v h, ← c.digit-d.ensures.value) at L.invariant.2,
+    let L = c.loop-b in
+    let k : L.b-index < A.n = omega (arith, length-between A.line.now A.at (A.at + A.n) c.requires.0) in
+    omega (arith, room L.b-index L.v (omega arith) L.invariant.0)
+
+pub loop-b-preserved : goal.loop-b-preserved
+loop-b-preserved c =
+    let A = c.args in
+    let L = c.loop-b in
+    let k : L.b-index < A.n = omega (arith, length-between A.line.now A.at (A.at + A.n) c.requires.0) in (
+      grows L.b-index L.v _ L.invariant.0 c.digit.ensures.bound,
+      rw (from_step A.line.now A.at A.n L.b-index L.v k, ← get_or-between A.line.now A.at (A.at + A.n) L.b-index 0 (omega arith), ← c.digit.ensures.value)
+          at L.invariant.1,
     )
 
 pub returns : goal.returns
-returns c = rw (from-none _ c.args.at _ c.loop-i.i c.loop-i.v c.loop-i-test.false) at c.loop-i.invariant.2
+returns c =
+    let A = c.args in
+    let L = c.loop-b in
+    let k : A.n ≤ L.b-index = omega (arith, length-between A.line.now A.at (A.at + A.n) c.requires.0) in
+    rw (from-none _ A.at _ L.b-index L.v k) at L.invariant.1

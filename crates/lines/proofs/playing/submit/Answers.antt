@@ -47,9 +47,8 @@ returns c =
     let e : take W.result W.new.out ≡ words_of (steps_part A.line.now) = rw (W.ensures.count, W.ensures.words)
     (words-first P.result.now _ ∙ ap words_of P.ensures) in
     rw (
-      c.no_turn.ensures,
-      c.no_repair.ensures,
-      c.submitted.ensures,
+      c.new.ensures,
+      c.answered.ensures,
       ← e,
       ← c.arguments-args.ensures,
       ← s.ensures.after,

@@ -1,35 +1,28 @@
 -- `ahead::from` meets its contract: the check's answer, then whether there is such a step, then the pass.
-use mathlib.Core.Path.{sym, ◌∙◌}
-use native.Mathlib.Omega.{arith}
-use lib.ListN.{length}
+use Rattle.std.proofs.Common.{◌∙◌, length, sym, arith}
+use Rattle.std.proofs.lemmas.Result.{err_from_is_err_and}
 use Rattle.section.specs.Check.{code_of}
-use Rattle.section.proofs.Passing.{passed_is}
 use Rattle.needs.proofs.Pass.{passed-passable, needs-refused, needs-past, needs-given}
 use Rattle.needs.proofs.ahead.from.Goals as goal
 
-pub returns-then-not-passes : goal.returns-then-not-passes
-returns-then-not-passes c =
+pub returns-in_err-check : goal.returns-in_err-check
+returns-in_err-check c =
     let A = c.args in
     let w = A.words.now in
-    needs-refused A.own (length w) (code_of w) A.step c.check-v.result c.check-v.ensures (sym c.passes.ensures ∙ c.if-not-passes.true)
+    let p = err_from_is_err_and c.from_residual.result c.from_residual.ensures.1 in
+    rw (p.1, p.2) (needs-refused A.own (length w) (code_of w) A.step (sym c.check.ensures ∙ c.in_err-check.was))
 
 pub returns-then-words-step : goal.returns-then-words-step
 returns-then-words-step c =
     let A = c.args in
     let w = A.words.now in
-    let p = passed_is c.check-v.result (sym c.passes.ensures ∙ c.if-not-passes.false) in
-    needs-past A.own (length w) (code_of w) A.step (sym c.check-v.ensures ∙ p) c.if-words-step.true
+    needs-past A.own (length w) (code_of w) A.step (sym c.check.ensures ∙ c.in_ok-check.was) c.if-words-step.true
 
-pub span_from-s-requires : goal.span_from-s-requires
-span_from-s-requires c =
-    let A = c.args in
-    let p = passed_is c.check-v.result (sym c.passes.ensures ∙ c.if-not-passes.false) in
-    passed-passable A.own A.words.now A.step (sym c.check-v.ensures ∙ p) (omega arith)
+pub span_from-requires : goal.span_from-requires
+span_from-requires c = passed-passable c.args.own c.args.words.now c.args.step (sym c.check.ensures ∙ c.in_ok-check.was) (omega arith)
 
 pub returns : goal.returns
 returns c =
     let A = c.args in
     let w = A.words.now in
-    let p = passed_is c.check-v.result (sym c.passes.ensures ∙ c.if-not-passes.false) in
-    let s = c.span_from-s in
-    needs-given A.own (length w) (code_of w) A.step _ _ (sym c.check-v.ensures ∙ p) c.if-words-step.false s.ensures.fewest s.ensures.most
+    needs-given A.own (length w) (code_of w) A.step (sym c.check.ensures ∙ c.in_ok-check.was) c.if-words-step.false c.span_from.ensures

@@ -1,16 +1,10 @@
--- `path::along` meets its contract. The loop's invariant: with the turns so far, the steps of the path from k on give the whole path's answer. A
--- step has at most six turns, so the sum fits.
-use Prim.Native.Nat.{◌*◌, ◌-◌, ◌≤◌}
-use mathlib.Core.Path.{◌≡◌}
-use lib.ListN.{length, drop}
+-- `path::along`: with the turns so far, the steps of the path that are left give the whole path's answer. A step has at most six turns.
+use Rattle.std.proofs.Common.{◌≡◌, ◌*◌, ◌≤◌, length, drop}
 use Rattle.section.specs.Check.{code_of}
 use Rattle.needs.specs.Path.{along_of}
 use Rattle.needs.proofs.Steps.{along_from}
 use Rattle.needs.proofs.path.along.Given as goal
 
-abbrev pub invariant-loop-k : goal.invariant-loop-k
-invariant-loop-k l = (l.k ≤ length l.path) × (l.turns ≤ 6 * l.k)
-    × (along_from l.own (length l.words) (code_of l.words) l.turns (drop l.k l.path) ≡ along_of l.own (length l.words) (code_of l.words) l.path)
-
-abbrev pub decreases-loop-k : goal.decreases-loop-k
-decreases-loop-k l = length l.path - l.k
+abbrev pub invariant-loop-i : goal.invariant-loop-i
+invariant-loop-i l = (l.turns ≤ 6 * l.i-index)
+    × (along_from l.own (length l.words) (code_of l.words) l.turns (drop l.i-index l.path) ≡ along_of l.own (length l.words) (code_of l.words) l.path)

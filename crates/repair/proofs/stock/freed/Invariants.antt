@@ -1,12 +1,8 @@
 -- `repair::stock::freed` meets its contract. The loop's invariant: the set is the union of the first d intents.
-use Prim.Native.Nat.{◌-◌, ◌≤◌}
 use mathlib.Core.Path.{◌≡◌}
 use Rattle.image.specs.Image.{at}
 use Rattle.repair.specs.Repair.{freed_by}
 use Rattle.repair.proofs.stock.freed.Given as goal
 
 abbrev pub invariant-loop-d : goal.invariant-loop-d
-invariant-loop-d l = (l.d ≤ l.n) × (l.set ≡ freed_by (at l.own l.image) l.d)
-
-abbrev pub decreases-loop-d : goal.decreases-loop-d
-decreases-loop-d l = l.n - l.d
+invariant-loop-d l = l.set ≡ freed_by (at l.own l.image) l.d

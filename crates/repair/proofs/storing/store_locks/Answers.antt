@@ -1,13 +1,10 @@
 -- `repair::storing::store_locks` meets its contract. The loop's invariant: what the locks that are left leave of the image
 -- and the stores left, as they are now, is what all of the set leave of the first ones.
-use mathlib.Core.Path.{refl, sym, ◌∙◌}
+use mathlib.Core.Path.{sym, ◌∙◌}
 use native.Mathlib.Omega.{arith}
 use Rattle.mask.proofs.Lowest.{low-some}
 use Rattle.repair.proofs.Lowest.{less-without, image-none, left-none, image-lock, left-lock}
 use Rattle.repair.proofs.storing.store_locks.Goals as goal
-
-pub loop-rest-init : goal.loop-rest-init
-loop-rest-init c = (omega arith, refl, λ n. refl, refl)
 
 pub overflow_cast-b : goal.overflow_cast-b
 overflow_cast-b c = let l = low-some c.loop-rest.rest c.loop-rest.invariant.0 c.loop-rest-test.true in omega arith
@@ -40,9 +37,6 @@ loop-rest-preserved c =
           (image-lock L.rest L.invariant.0 h A.value n L.k L.image ∙ L.invariant.2 n),
       rw (c.without-rest.ensures, s.ensures.left) (left-lock L.rest L.invariant.0 h A.value L.k ∙ L.invariant.3),
     )
-
-pub shape_of-image : goal.shape_of-image
-shape_of-image c = c.loop-rest.invariant.1
 
 pub returns : goal.returns
 returns c =

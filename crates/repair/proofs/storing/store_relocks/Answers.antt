@@ -1,14 +1,10 @@
--- `repair::storing::store_relocks` meets its contract. The loop's invariant: what the locks of the workers from d on leave of
--- the image and the stores left, as they are now, is what those of all workers leave of the first ones.
+-- `repair::storing::store_relocks` meets its contract.
 use Prim.Native.Nat.{◌-◌}
-use mathlib.Core.Path.{◌≡◌, refl, sym, ◌∙◌}
+use mathlib.Core.Path.{◌≡◌, sym, ◌∙◌}
 use native.Mathlib.Omega.{arith}
 use Rattle.image.proofs.Lists.{put_all-nil}
 use Rattle.repair.proofs.Slots.{relocks-end, image-relock, left-relock}
 use Rattle.repair.proofs.storing.store_relocks.Goals as goal
-
-pub loop-d-init : goal.loop-d-init
-loop-d-init c = (omega arith, refl, λ n. refl, refl)
 
 pub loop-d-preserved : goal.loop-d-preserved
 loop-d-preserved c =
@@ -16,14 +12,10 @@ loop-d-preserved c =
     let L = c.loop-d in
     let h = c.loop-d-test.true in
     let s = c.store_locks in (
-      omega arith,
-      s.auto.image ∙ L.invariant.1,
-      λ n. image-relock r n L.d h L.left _ s.ensures.left L.image _ (s.ensures.image n) ∙ L.invariant.2 n,
-      left-relock r 0 L.d h L.left _ s.ensures.left ∙ L.invariant.3,
+      s.auto.image ∙ L.invariant.0,
+      λ n. image-relock r n L.d h L.left _ s.ensures.left L.image _ (s.ensures.image n) ∙ L.invariant.1 n,
+      left-relock r 0 L.d h L.left _ s.ensures.left ∙ L.invariant.2,
     )
-
-pub shape_of-image : goal.shape_of-image
-shape_of-image c = c.loop-d.invariant.1
 
 pub returns : goal.returns
 returns c =
@@ -32,6 +24,6 @@ returns c =
     let e = relocks-end r L.d c.loop-d-test.false in
     let z : L.left - 0 ≡ L.left = omega arith in
     record {
-      image = λ n. sym (put_all-nil n L.left L.image) ∙ rw e at (L.invariant.2 n);
-      left = sym z ∙ rw e at L.invariant.3;
+      image = λ n. sym (put_all-nil n L.left L.image) ∙ rw e at (L.invariant.1 n);
+      left = sym z ∙ rw e at L.invariant.2;
     }

@@ -12,7 +12,7 @@ use Rattle.run.proofs.round.next.Goals as goal
 pub returns-then-not-header_ok : goal.returns-then-not-header_ok
 returns-then-not-header_ok c =
     let A = c.args in
-    let x = next-refused A.mark A.own (world A.image.now A.c A.left.now) A.d (sym c.header_ok.ensures ∙ c.if-not-header_ok.true) in
+    let x = next-refused A.e.mark A.e.own (world A.image.now A.c A.left.now) A.d (sym c.header_ok.ensures ∙ c.if-not-header_ok.true) in
     record { worker = sym x.worker; answer = rw x.outcome; after = rw x.outcome }
 
 pub next_open-k-requires : goal.next_open-k-requires
@@ -25,7 +25,7 @@ returns-then-n-k c =
     let n = c.workers-n.ensures in
     let k : c.next_open-k.result ≡ next_in w A.d = c.next_open-k.ensures ∙ rw n in
     let h : workers A.image.now ≤ next_in w A.d = rw (n, k) at c.if-n-k.true in
-    let x = next-over A.mark A.own w A.d (sym c.header_ok.ensures ∙ c.if-not-header_ok.false) h in
+    let x = next-over A.e.mark A.e.own w A.d (sym c.header_ok.ensures ∙ c.if-not-header_ok.false) h in
     record { worker = k ∙ sym x.worker; answer = rw x.outcome; after = rw x.outcome }
 
 pub open_turn-t-requires : goal.open_turn-t-requires
@@ -37,7 +37,7 @@ open_turn-t-requires c =
     let k : c.next_open-k.result ≡ next_in w A.d = c.next_open-k.ensures ∙ rw n in
     let h : next_in w A.d < workers A.image.now = rw (n, k) at c.if-n-k.false in
     rw k (
-      header-inside _ _ _ (next_in w A.d) c.requires e h,
+      header-inside _ _ _ (next_in w A.d) A.e.few e h,
       next-open A.c (workers A.image.now - A.d) A.d (omega (arith, h, next-from A.c (workers A.image.now - A.d) A.d)),
     )
 
@@ -48,6 +48,6 @@ returns c =
     let n = c.workers-n.ensures in
     let k : c.next_open-k.result ≡ next_in w A.d = c.next_open-k.ensures ∙ rw n in
     let h : next_in w A.d < workers A.image.now = rw (n, k) at c.if-n-k.false in
-    let x = next-turn A.mark A.own w A.d (sym c.header_ok.ensures ∙ c.if-not-header_ok.false) h in
+    let x = next-turn A.e.mark A.e.own w A.d (sym c.header_ok.ensures ∙ c.if-not-header_ok.false) h in
     let T = c.open_turn-t.ensures in
     record { worker = k ∙ sym x.worker; answer = T.answer ∙ rw (x.outcome, k); after = T.after ∙ rw (x.outcome, k) }

@@ -1,23 +1,11 @@
 -- `section::judge::use_at` meets its contract: the held sets in the array are those before each step.
-use Rattle.section.proofs.Passing.{use-by, looked-up, lands-wider}
-use Rattle.code.specs.Op.{op_of}
+use Rattle.std.proofs.Common.{length, get_or}
 use Rattle.section.specs.Check.{code_of}
-use lib.ListN.{length, get_or}
-use borrow.Author.Rules.{rules}
+use Rattle.section.proofs.Passing.{use-by, looked-up}
 use Rattle.section.proofs.judge.use_at.Goals as goal
-
-pub judged-requires : goal.judged-requires
-judged-requires c =
-    let w = c.args.words.now in
-    let x = op_of (code_of w c.args.i) in (
-      rw c.op_of.ensures c.requires.locked,
-      rw c.op_of.ensures
-          (lands-wider (length w) (length c.args.held.now) x c.requires.room c.requires.landed),
-    )
 
 pub returns : goal.returns
 returns c =
-    let c = c in
     let w = c.args.words.now in
     let held = c.args.held.now in
     let h = get_or held c.args.i 0 in

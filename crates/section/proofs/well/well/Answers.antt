@@ -1,11 +1,5 @@
--- `section::well::well` meets its contract. The loop's invariant is `Fine`: what is known of the section where the pass has come to step i.
-use Prim.Native.Nat.{ℕ, ◌-◌}
-use borrow.Author.Rules.{rules}
-use native.Mathlib.Omega.{arith}
-use mathlib.Core.Path.{◌≡◌, subst}
-use mathlib.Core.Bool.{false≢true}
-use lib.ListN.{length}
-use Rattle.base.proofs.Bools.{granted}
+-- `well::well` meets its contract: where the pass has come to the end, the section passes the check.
+use Rattle.std.proofs.Common.{◌≡◌, ℕ, ◌∙◌, length, sym, subst, arith}
 use Rattle.section.specs.Check.{code_of}
 use Rattle.section.proofs.Passing.{formed-lock}
 use Rattle.section.proofs.Fine.{Fine, fine-start, fine-next, fine_end}
@@ -14,26 +8,23 @@ use Rattle.section.proofs.well.well.Goals as goal
 pub loop-i-init : goal.loop-i-init
 loop-i-init c = fine-start _ _ _
 
-pub formed-requires : goal.formed-requires
-formed-requires c = (c.op_of-x.ensures, c.loop-i-test.true)
-
 pub fair-requires : goal.fair-requires
 fair-requires c =
     let L = c.loop-i in
     let A = c.args in
-    rw c.op_of-x.ensures (formed-lock A.own (length A.words.now) L.i _ (granted c.formed.ensures c.if-not-formed.false-raw))
+    rw c.op_of-x.ensures (formed-lock A.own (length A.words.now) L.i _ (sym c.formed.ensures ∙ c.if-not-formed.false))
 
 pub held_after-h-requires : goal.held_after-h-requires
 held_after-h-requires c =
     let L = c.loop-i in
     let A = c.args in
-    rw c.op_of-x.ensures (formed-lock A.own (length A.words.now) L.i _ (granted c.formed.ensures c.if-not-formed.false-raw))
+    rw c.op_of-x.ensures (formed-lock A.own (length A.words.now) L.i _ (sym c.formed.ensures ∙ c.if-not-formed.false))
 
 pub loop-i-preserved : goal.loop-i-preserved
 loop-i-preserved c =
     let A = c.args in
     fine-next A.own (length A.words.now) (code_of A.words.now) c.loop-i-test.true c.loop-i.invariant
-    (granted c.formed.ensures c.if-not-formed.false-raw) c.op_of-x.ensures (granted c.fair.ensures c.if-not-fair.false-raw) c.held_after-h.ensures
+    (sym c.formed.ensures ∙ c.if-not-formed.false) c.op_of-x.ensures (sym c.fair.ensures ∙ c.if-not-fair.false) c.held_after-h.ensures
     c.furthest-until.ensures
 
 pub returns : goal.returns
@@ -42,5 +33,5 @@ returns c =
     let A = c.args in
     let n = length A.words.now in
     let all : L.i ≡ n = omega (arith, L.invariant.most) in
-    λ e. fine_end A.own n (code_of A.words.now) L.h L.until (granted c.length_ok.ensures c.if-not-length_ok.false-raw)
+    λ e. fine_end A.own n (code_of A.words.now) L.h L.until (sym c.length_ok.ensures ∙ c.if-not-length_ok.false)
     (subst (λ (j : ℕ). Fine A.own n (code_of A.words.now) L.h L.until j) all L.invariant)

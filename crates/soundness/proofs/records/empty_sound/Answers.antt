@@ -1,20 +1,20 @@
 -- `soundness::records::empty_sound` meets its contract: a record with no section is sound where nothing is named and nothing owned.
 use mathlib.Core.Path.{sym, ap, ◌∙◌}
+use borrow.Author.Tests.{ne_eqb}
 use lib.Dec.{eqb}
 use Prim.Native.Nat.{ℕ}
 use Rattle.image.specs.Image.{at}
 use Rattle.soundness.proofs.Single.{empty-named, empty-free}
 use Rattle.soundness.proofs.records.empty_sound.Goals as goal
 
-pub returns-then-read_field-ne0 : goal.returns-then-read_field-ne0
-returns-then-read_field-ne0 c =
+pub returns-then-read_field-eq0 : goal.returns-then-read_field-eq0
+returns-then-read_field-eq0 c =
     let rd = at c.args.own c.args.image.now in
-    let pc = c.read_field.ensures in
-    sym (empty-named c.args.own rd c.args.d c.requires.1 (λ z. c.if-read_field-ne0.true (pc ∙ z)))
+    ap (λ (x : ℕ). eqb x 0) c.read_field-then-read_field-eq0.ensures
+    ∙ sym (empty-free c.args.own rd c.args.d c.requires.1 (sym c.read_field.ensures ∙ c.if-read_field-eq0.true))
 
-pub returns : goal.returns
-returns c =
+pub returns-else-read_field-eq0 : goal.returns-else-read_field-eq0
+returns-else-read_field-eq0 c =
     let rd = at c.args.own c.args.image.now in
-    let pc = c.read_field.ensures in
-    let owned = c.read_field-2.ensures in
-    ap (λ (x : ℕ). eqb x 0) owned ∙ sym (empty-free c.args.own rd c.args.d c.requires.1 (sym pc ∙ c.if-read_field-ne0.false))
+    let no = c.if-read_field-eq0.false in
+    rw (ne_eqb c.read_field.result 0 no) (sym (empty-named c.args.own rd c.args.d c.requires.1 (λ z. no (c.read_field.ensures ∙ z))))

@@ -2,82 +2,55 @@
 -- pass. The held sets are those of the check.
 use mathlib.Core.Path.{sym, ◌∙◌}
 use borrow.Author.Tests.{eq-eqb, ne_eqb, lt-leb, le-leb}
-use mathlib.Core.Bool.{false≢true}
-use native.Mathlib.Omega.{arith}
 use Rattle.image.specs.Image.{at}
 use Rattle.worklog.specs.Log.{code_in}
 use Rattle.soundness.specs.Sound.{section_ok}
 use Rattle.soundness.proofs.Legible.{check-long}
+use Rattle.soundness.proofs.records.section_ok.Goals.{then-k-gt64-via-then-k-gt64, then-k-gt64-via-else-k-gt64+then-not-section_passes}
 use Rattle.soundness.proofs.records.section_ok.Goals as goal
 
-pub returns-then-k-eq0 : goal.returns-then-k-eq0
+pub returns-then-k-eq0-clause-ok : goal.returns-then-k-eq0-clause-ok
 unfolding section_ok
-returns-then-k-eq0 c =
+returns-then-k-eq0-clause-ok c =
     let k = c.read_field-k in
-    let z = c.if-k-eq0.true in
-    record {
-      ok = rw (← k.ensures, eq-eqb k.result 0 z, ← c.read_field.ensures);
-      sets = λ t j l. absurd (omega (arith, l, k.ensures, z));
-    }
+    rw (← k.ensures, eq-eqb k.result 0 c.if-k-eq0.true, ← c.read_field.ensures)
 
-pub returns-then-k-gt64 : goal.returns-then-k-gt64
+pub returns-then-k-gt64-clause-ok : goal.returns-then-k-gt64-clause-ok
 unfolding section_ok
-returns-then-k-gt64 c =
+returns-then-k-gt64-clause-ok c =
     let A = c.args in
     let k = c.read_field-k in
-    record {
-      ok = rw (
-        ← k.ensures,
-        ne_eqb k.result 0 c.if-k-eq0.false,
-        check-long A.own k.result (code_in A.own (at A.own A.image.now) A.d)
-            c.if-k-gt64.true,
-      );
-      sets = λ t. absurd (false≢true t);
-    }
+    let some = ne_eqb k.result 0 c.if-k-eq0.false in
+    elim c.then-k-gt64.branch [
+      | then-k-gt64-via-then-k-gt64 w ↦
+          rw (← k.ensures, some, check-long A.own k.result (code_in A.own (at A.own A.image.now) A.d) w.if-k-gt64.true)
+      | then-k-gt64-via-else-k-gt64+then-not-section_passes w ↦
+          rw (← k.ensures, some, sym w.section_passes.ensures.passes ∙ w.if-not-section_passes.true)
+    ]
 
-pub returns-then-not-section_passes : goal.returns-then-not-section_passes
+pub returns-then-number-ge1-clause-ok : goal.returns-then-number-ge1-clause-ok
 unfolding section_ok
-returns-then-not-section_passes c =
-    let k = c.read_field-k in
-    record {
-      ok = rw (
-        ← k.ensures,
-        ne_eqb k.result 0 c.if-k-eq0.false,
-        sym c.section_passes.ensures.passes ∙ c.if-not-section_passes.true,
-      );
-      sets = λ t. absurd (false≢true t);
-    }
-
-pub returns-then-number-lt1 : goal.returns-then-number-lt1
-unfolding section_ok
-returns-then-number-lt1 c =
+returns-then-number-ge1-clause-ok c =
     let k = c.read_field-k in
     let number = c.read_field-number in
-    record {
-      ok = rw (
-        ← k.ensures,
-        ne_eqb k.result 0 c.if-k-eq0.false,
-        sym c.section_passes.ensures.passes ∙ c.if-not-section_passes.false,
-        ← number.ensures,
-        lt-leb 1 number.result c.if-number-lt1.true,
-      );
-      sets = λ t. absurd (false≢true t);
-    }
+    rw (
+      ← k.ensures,
+      ne_eqb k.result 0 c.if-k-eq0.false,
+      sym c.section_passes.ensures.passes ∙ c.if-not-section_passes.false,
+      ← number.ensures,
+      le-leb 1 number.result c.if-number-ge1.true,
+      ← c.read_field-then-number-ge1.ensures,
+    )
 
-pub returns : goal.returns
+pub returns-else-number-ge1-clause-ok : goal.returns-else-number-ge1-clause-ok
 unfolding section_ok
-returns c =
+returns-else-number-ge1-clause-ok c =
     let k = c.read_field-k in
     let number = c.read_field-number in
-    let s = c.section_passes in
-    record {
-      ok = rw (
-        ← k.ensures,
-        ne_eqb k.result 0 c.if-k-eq0.false,
-        sym s.ensures.passes ∙ c.if-not-section_passes.false,
-        ← number.ensures,
-        le-leb 1 number.result c.if-number-lt1.false,
-        ← c.read_field-2.ensures,
-      );
-      sets = λ t. rw (← k.ensures) (s.ensures.sets c.if-not-section_passes.false);
-    }
+    rw (
+      ← k.ensures,
+      ne_eqb k.result 0 c.if-k-eq0.false,
+      sym c.section_passes.ensures.passes ∙ c.if-not-section_passes.false,
+      ← number.ensures,
+      lt-leb 1 number.result c.if-number-ge1.false,
+    )

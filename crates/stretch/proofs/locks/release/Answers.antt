@@ -2,45 +2,30 @@
 use mathlib.Core.Path.{sym, ◌∙◌}
 use native.Mathlib.Omega.{arith}
 use Rattle.image.proofs.Stores.{inside-front, lock-lt}
-use Rattle.stretch.proofs.Running.{fetched-fits, fetched-step, inside-store}
+use Rattle.stretch.proofs.Running.{fetched_fits, inside_store}
 use Rattle.stretch.proofs.ByKind.{disowned-inside, release-frees}
 use Rattle.stretch.proofs.Counting.{made-stores}
 use Rattle.stretch.proofs.Released.{report-own, release-passes}
 use Rattle.stretch.proofs.locks.release.Goals as goal
 
-pub disown-requires : goal.disown-requires
-disown-requires c = let f = c.requires.0 in (f.inside, fetched-fits _ _ _ _ _ f)
-
 pub read_lock-word-requires : goal.read_lock-word-requires
 read_lock-word-requires c =
     let f = c.requires.0 in
-    (fetched-fits _ _ _ _ _ f, rw c.disown.ensures.image (inside-front _ _ _ (disowned-inside _ _ _ _ _ _ f.inside)))
-
-pub lock_index-requires : goal.lock_index-requires
-lock_index-requires c = fetched-fits _ _ _ _ _ c.requires.0
+    (fetched_fits _ _ _ _ _ f, rw c.disown.ensures.image (inside-front _ _ _ (disowned-inside _ _ _ _ _ _ f.inside)))
 
 pub store_inside-requires : goal.store_inside-requires
 store_inside-requires c =
     let f = c.requires.0 in
     let inside = disowned-inside _ _ _ _ _ _ f.inside in
-    lock-lt c.disown.new.image _ (fetched-fits _ _ _ _ _ f) (rw c.disown.ensures.image (inside-front _ _ _ inside)) (c.lock_index.ensures 0)
+    lock-lt c.disown.new.image _ (fetched_fits _ _ _ _ _ f) (rw c.disown.ensures.image (inside-front _ _ _ inside)) (c.lock_index.ensures 0)
 
 pub unwant-requires : goal.unwant-requires
 unwant-requires c =
     let f = c.requires.0 in (
       rw (c.store_inside.ensures.image, c.lock_index.ensures c.args.own, c.disown.ensures.image)
-          (inside-store _ _ _ _ _ _ (disowned-inside _ _ _ _ _ _ f.inside)),
-      fetched-fits _ _ _ _ _ f,
+          (inside_store _ _ _ _ _ _ (disowned-inside _ _ _ _ _ _ f.inside)),
+      fetched_fits _ _ _ _ _ f,
     )
-
-pub overflow_add-result : goal.overflow_add-result
-overflow_add-result c =
-    let z = fetched-step _ _ _ _ _ c.requires.0 in
-    omega (arith, z)
-
-pub without-requires : goal.without-requires
-without-requires c =
-    fetched-fits _ _ _ _ _ c.requires.0
 
 pub returns-then-word-d-clause-made : goal.returns-then-word-d-clause-made
 returns-then-word-d-clause-made c =
@@ -58,19 +43,12 @@ returns-then-word-d-clause-made c =
     )
     (release-frees _ _ _ _ _ _ y _ c.requires.0 _ c.disown.ensures.image freed))
     (omega arith)
+    (omega arith)
 
 pub unwant-requires-2 : goal.unwant-requires-2
 unwant-requires-2 c =
     let f = c.requires.0 in
-    (rw c.disown.ensures.image (disowned-inside _ _ _ _ _ _ f.inside), fetched-fits _ _ _ _ _ f)
-
-pub overflow_add-result-2 : goal.overflow_add-result-2
-overflow_add-result-2 c =
-    let z = fetched-step _ _ _ _ _ c.requires.0 in
-    omega (arith, z)
-
-pub found-requires : goal.found-requires
-found-requires c = c.requires.1
+    (rw c.disown.ensures.image (disowned-inside _ _ _ _ _ _ f.inside), fetched_fits _ _ _ _ _ f)
 
 pub returns-clause-made : goal.returns-clause-made
 returns-clause-made c =

@@ -42,4 +42,5 @@ returns-in-Literal c = rw c.in-Literal.is
 pub returns-in-Sum : goal.returns-in-Sum
 returns-in-Sum c =
     let A = c.args in
-    rw (words-eval (word_in A.own (at A.own A.image.now) A.d) _ _ _ c.in-Sum.is, ← c.word.ensures, ← c.word-in-Sum.ensures, ← c.in-Sum.e-is) c.combined.ensures
+    let e = words-eval (word_in A.own (at A.own A.image.now) A.d) _ _ _ c.in-Sum.is in
+    rw (e, ← c.word.ensures, ← c.word-in-Sum.ensures, ← c.in-Sum.e-is) c.combined.ensures

@@ -1,5 +1,0 @@
--- `lines::playing::rounds` meets its contract.
-use Rattle.lines.proofs.playing.rounds.Goals as goal
-
-pub returns : goal.returns
-returns c = rw (c.no_turn.ensures, c.no_repair.ensures)
