@@ -4,6 +4,7 @@
 # With -v before the folder the places are listed too.
 say=0
 [ "${1:-}" = -v ] && { say=1; shift; }
+here=$(cd "$(dirname "$0")" && pwd) || exit 1
 cd "${1:-.}" || exit 1
 src=$(find crates/*/src -name '*.rt' | sort)
 
@@ -29,7 +30,7 @@ count 1 'structs with a flag (fields of type bool)' '^ *(pub )?[a-z_]+: bool,$'
 count 1 'functions that give the number of a kind or of a refusal' \
     'fn ([a-z]+_)?(cause|value|step|code|detail|fewest|most|turns|asked|passing|no)\([a-z]+: [A-Z][A-Za-z:]*\) -> u|fn asked\('
 count 1 'functions that say whether an answer is no refusal' 'fn (passes|done|taken|goes_on|going)\([a-z]+: [A-Z]'
-printf '2  %-78s %s\n' 'functions alike but for names and numbers (tools/twins.py)' "$(python3 "$(dirname "$0")/twins.py" . 2>/dev/null | tail -n 1)"
+printf '2  %-78s %s\n' 'functions alike but for names and numbers (tools/twins.py)' "$(python3 "$here/twins.py" . | tail -n 1)"
 count 3 'loops with while or loop' '^ *([^/]*[:=] )?(while|loop)\b'
 count 3 'of these, by an index that is stepped by hand' '^ *(while) [^&]*( < | != |<= )' 'len\(\) - |rest != 0|playing::more'
 count 4 'sums and differences by wrapping functions' 'std::num::'
