@@ -27,7 +27,7 @@ use Rattle.soundness.proofs.Loaded.{first-length, first-at, first-checks}
 use Rattle.soundness.proofs.Legible.{section-passes, sound-legible}
 use Rattle.needs.specs.declared.Refusal.TheVariants.{Image as ImageRefused, Worker, Record}
 use Rattle.needs.specs.declared.Span.{Span}
-use Rattle.needs.specs.From.{lesser, larger, span}
+use Rattle.needs.specs.From.{lesser, larger, needs_by, span}
 use Rattle.needs.specs.Left.{resumed_turns, left_by, span_left, left_of}
 use Rattle.needs.specs.Inner.Pass.{Passable}
 use Rattle.needs.proofs.Unrolled.{needs-cong}
@@ -42,10 +42,11 @@ module _ (code : Code) (ws : List ℕ) (k : ℕ) (w : List ℕ) (e : w ≡ loade
       passed-passable own (take k w) from (first-checks code ws k w e h own ∙ passed_is (check own k code) p) (rw (first-length code ws k w e h) l)
 
   -- and needs what they need
-  pub first-needs : (from : ℕ) → span (length (take k w)) (code_of (take k w)) from ≡ span k code from
-  first-needs from =
-      let same = λ (pick : ℕ → ℕ → ℕ). needs-cong pick k (code_of (take k w)) code (first-at code ws k w e h) from in
-      rw (first-length code ws k w e h, same lesser, same larger)
+  pub first-needs : (pick : ℕ → ℕ → ℕ) (from : ℕ) → needs_by pick (length (take k w)) (code_of (take k w)) from ≡ needs_by pick k code from
+  first-needs pick from = rw (first-length code ws k w e h) (needs-cong pick k (code_of (take k w)) code (first-at code ws k w e h) from)
+
+  pub first-span : (from : ℕ) → span (length (take k w)) (code_of (take k w)) from ≡ span k code from
+  first-span from = rw (first-needs lesser from, first-needs larger from)
 
 -- ---- the turns of a named instruction
 
@@ -112,16 +113,26 @@ module _ (n : ℕ) (rd : Memory) (d : ℕ) where
 
   -- ---- what is left, by the pc
 
-  pub left-none : (pc : ℕ) → pc ≡ rd (field Pc d) → pc ≡ 0 → record { fewest = 0; most = 0 } ≡ span_left n rd d
+  pub left-none : (pc : ℕ) → pc ≡ rd (field Pc d) → pc ≡ 0 → (pick : ℕ → ℕ → ℕ) → 0 ≡ left_by n rd d pick
   unfolding left_by
-  left-none pc e z = rw (← e, eq-eqb pc 0 z)
+  left-none pc e z pick = rw (← e, eq-eqb pc 0 z)
+
+  pub none-left : (pc : ℕ) → pc ≡ rd (field Pc d) → pc ≡ 0 → record { fewest = 0; most = 0 } ≡ span_left n rd d
+  none-left pc e z = rw (← left-none pc e z lesser, ← left-none pc e z larger)
 
   -- as the code works it out: `next` is the step behind the one named
-  pub left-begun : (pc next k w t : ℕ) (x : Op) (s : Span) → pc ≡ rd (field Pc d) → (pc ≡ 0 → ⊥) → next ≡ pc % 9223372036854775808 → 1 ≤ next
-      → k ≡ rd (field Count d) → w ≡ code_in n rd d (next - 1) → x ≡ op_of w → t ≡ resumed_turns x → s ≡ span k (code_in n rd d) next
-      → record { fewest = t + s.fewest; most = t + s.most } ≡ span_left n rd d
+  pub left-begun : (pick : ℕ → ℕ → ℕ) (pc next k w t s : ℕ) (x : Op) → pc ≡ rd (field Pc d) → (pc ≡ 0 → ⊥) → next ≡ pc % 9223372036854775808 → 1 ≤ next
+      → k ≡ rd (field Count d) → w ≡ code_in n rd d (next - 1) → x ≡ op_of w → t ≡ resumed_turns x → s ≡ needs_by pick k (code_in n rd d) next
+      → t + s ≡ left_by n rd d pick
   unfolding left_by named_op named_step
-  left-begun pc next k w t x s e h after some count word op turns rest =
+  left-begun pick pc next k w t s x e h after some count word op turns rest =
       let f : next - 1 ≡ rd (field Pc d) % 9223372036854775808 - 1 = rw (after, e) in
       let g : suc (next - 1) ≡ next = omega arith in
       rw (← e, ne_eqb pc 0 h, e, ← f, g, turns, op, word, rest, count)
+
+  pub begun-left : (pc next k w t : ℕ) (x : Op) (s : Span) → pc ≡ rd (field Pc d) → (pc ≡ 0 → ⊥) → next ≡ pc % 9223372036854775808 → 1 ≤ next
+      → k ≡ rd (field Count d) → w ≡ code_in n rd d (next - 1) → x ≡ op_of w → t ≡ resumed_turns x → s ≡ span k (code_in n rd d) next
+      → record { fewest = t + s.fewest; most = t + s.most } ≡ span_left n rd d
+  begun-left pc next k w t x s e h after some count word op turns rest =
+      let by = λ (pick : ℕ → ℕ → ℕ) (u : ℕ). left-begun pick pc next k w t u x e h after some count word op turns in
+      rw (by lesser s.fewest (ap (λ (z : Span). z.fewest) rest), by larger s.most (ap (λ (z : Span). z.most) rest))

@@ -6,6 +6,7 @@ use mathlib.Core.List.{List, []}
 use native.Mathlib.Omega.{arith}
 use lib.ListN.{length, take, drop}
 use Rattle.lines.specs.declared.Job.{Job}
+use Rattle.lines.specs.declared.Played.{Played}
 use Rattle.lines.specs.declared.Job.TheVariants.{Turns, Rounds, Stores, Next, Stop}
 use Rattle.lines.specs.Play.{Stage, stage, is_going, go_on}
 use Rattle.stages.specs.declared.Day.{Day}
@@ -46,6 +47,12 @@ module _ (s : Stage) (e : is_going s.played.job ≡ true) where
   on-less = omega (arith, ap pieces_left (on-piece true []), piece-less true (point [] s) (on-ready true []))
 
 -- ---- the loop
+
+abbrev pub day_at : ℕ → Played → Day
+day_at n p = record { words = n; played = p }
+
+abbrev pub run_at : ℕ → Played → ℕ → Run
+run_at n p used = record { day = day_at n p; used = used }
 
 pub runs-start : (m o : List ℕ) (at : ℕ) (d : Day) → d.words ≤ length m → at ≤ length o → RunsOn m m o o at d (record { day = d; used = at })
 runs-start m o at d h r = record {

@@ -29,12 +29,20 @@ pub fn run_on(image: &mut [u64], d: Day, out: &mut [u8], used: usize) -> Run
     requires { (d.words ≤ length image.old) × (used ≤ length out.old) }
     ensures { RunsOn image.old image.new out.old out.new used d result }
 {
-    let mut r = Run { day: d, used };
-    while r.day.played.job.is_going() && 22 <= out.len() - r.used {
-        r.day = stages::on(image, r.day);
-        r.used = buffers::print(out, r.used, r.day.played.printed);
+    let n = d.words;
+    let mut p = d.played;
+    let mut to = used;
+    while p.job.is_going() && 22 <= out.len() - to {
+        p = lines::go_on(&mut image[..n], p);
+        to = buffers::print(out, to, p.printed);
     }
-    r
+    Run {
+        day: Day {
+            words: n,
+            played: p,
+        },
+        used: to,
+    }
 }
 
 // The next line, if it is complete.

@@ -28,7 +28,7 @@ fn lock_turn(image: &[u64], d: usize, own: usize, a: u64, s: u8) -> Plan
     }
 }
 
-fn acquire_turn(image: &[u64], d: usize, own: usize, a: u64, s: u8, t: u8) -> Plan
+pub fn acquire_turn(image: &[u64], d: usize, own: usize, a: u64, s: u8, t: u8) -> Plan
     requires { (Inside own image.now d) × (a < 64) × (s < 64) × (t < 6) }
     ensures { result ≡ plan_of own (acquire_turn own (at own image.now) d a s t) }
 {
@@ -84,7 +84,7 @@ fn unlock_turn(image: &[u64], d: usize, own: usize, a: u64, s: u8) -> Plan
 }
 
 // A release's turns 0 to 3: the owned mask without the lock, in a logged store.
-fn disown_turn(image: &[u64], d: usize, own: usize, a: u64, s: u8, t: u8) -> Plan
+pub fn disown_turn(image: &[u64], d: usize, own: usize, a: u64, s: u8, t: u8) -> Plan
     requires { (Inside own image.now d) × (a < 64) × (s < 64) × (t < 4) }
     ensures { result ≡ plan_of own (release_turn own (at own image.now) d a s t) }
 {
@@ -94,7 +94,7 @@ fn disown_turn(image: &[u64], d: usize, own: usize, a: u64, s: u8, t: u8) -> Pla
 }
 
 // A release's turns 4 and 5: the lock's owner word, then the intent.
-fn give_turn(image: &[u64], d: usize, own: usize, a: u64, s: u8, t: u8) -> Plan
+pub fn give_turn(image: &[u64], d: usize, own: usize, a: u64, s: u8, t: u8) -> Plan
     requires { (Inside own image.now d) × (a < 64) × (s < 64) × (4 ≤ t) × (t < 6) }
     ensures { result ≡ plan_of own (release_turn own (at own image.now) d a s t) }
 {
@@ -110,7 +110,7 @@ fn give_turn(image: &[u64], d: usize, own: usize, a: u64, s: u8, t: u8) -> Plan
 }
 
 // The expression is worked out in the turn that stores its value, and in no other.
-fn assign_turn(image: &[u64], d: usize, own: usize, a: u64, e: Expr, s: u8, t: u8) -> Plan
+pub fn assign_turn(image: &[u64], d: usize, own: usize, a: u64, e: Expr, s: u8, t: u8) -> Plan
     requires { (Inside own image.now d) × (a < 512 + own) × ranged own e × (s < 64) × (t < 6) }
     ensures { result ≡ plan_of own (op_turn own (at own image.now) d s t (Op.Assign a e)) }
 {
@@ -122,7 +122,7 @@ fn assign_turn(image: &[u64], d: usize, own: usize, a: u64, e: Expr, s: u8, t: u
     worklog::logged(image, d, own, s, t, target, 0, s + 1, 0, t)
 }
 
-fn jump_turn(image: &[u64], d: usize, own: usize, a: u64, b: u64, s: u8) -> Plan
+pub fn jump_turn(image: &[u64], d: usize, own: usize, a: u64, b: u64, s: u8) -> Plan
     requires { (Inside own image.now d) × (a < 512 + own) × (b < 64) × (s < 64) }
     ensures { (t : ℕ) → result ≡ plan_of own (op_turn own (at own image.now) d s t (Op.Jump a b)) }
 {
@@ -134,7 +134,7 @@ fn jump_turn(image: &[u64], d: usize, own: usize, a: u64, b: u64, s: u8) -> Plan
     }
 }
 
-fn finish_turn(image: &[u64], d: usize, own: usize, s: u8, t: u8) -> Plan
+pub fn finish_turn(image: &[u64], d: usize, own: usize, s: u8, t: u8) -> Plan
     requires { Inside own image.now d }
     ensures { result ≡ plan_of own (finish_turn own (at own image.now) d s t) }
 {

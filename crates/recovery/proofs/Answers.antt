@@ -3,7 +3,7 @@
 -- says.
 use Prim.Native.Nat.{ℕ, ◌-◌, ◌≤◌}
 use mathlib.Core.Path.{◌≡◌, refl, sym, ap, ◌∙◌}
-use mathlib.Core.Bool.{Bool, true, false, cond, false≢true}
+use mathlib.Core.Bool.{Bool, true, false, cond, false≢true, true≢false}
 use mathlib.Core.List.{List, [], ◌∷◌}
 use native.Mathlib.Omega.{arith}
 use lib.ListN.{length}
@@ -13,6 +13,7 @@ use Rattle.image.specs.Image.{Image, at, workers, header_ok, put_all}
 use Rattle.image.proofs.Header.{header-true}
 use Rattle.image.proofs.Lists.{put_all-nil}
 use Rattle.working.specs.declared.Cursors.{Cursors}
+use Rattle.working.specs.Cursor.{all_idle}
 use Rattle.soundness.specs.declared.Refusal.{Refusal}
 use Rattle.soundness.specs.declared.Refusal.TheVariants.{Image as ImageRefused, Record, Lock}
 use Rattle.resuming.specs.Resumed.{resumed_all}
@@ -21,9 +22,9 @@ use Rattle.soundness.specs.Sound.{eight, unsound, bad_lock, owed_at}
 use Rattle.recovery.specs.Recovery.{Recovered, accepted, rejected, by_first, recovery}
 use Rattle.soundness.specs.Answer.{Answer}
 use Rattle.soundness.specs.Inner.Reading.{Restorable, owed_by}
-use Rattle.repair.specs.Repair.{slot_at}
+use Rattle.repair.specs.Repair.{no_repair, slot_at}
 use Rattle.soundness.specs.Inner.Tests.{is_done, by_record, by_lock, found}
-use Rattle.recovery.specs.Recover.{answer_of, stores_of, recovery_leaves, recovery_left}
+use Rattle.recovery.specs.Recover.{answer_of, cursors_of, stores_of, recovery_leaves, recovery_left}
 use Rattle.recovery.specs.Inner.Found.{owed_found}
 use Rattle.recovery.specs.Repairs.{repair_by}
 use Rattle.soundness.proofs.Legible.{restorable}
@@ -36,10 +37,15 @@ record-found : (r : Refusal) (g : Recovered) (l : List ℕ) (s t : List ℕ) →
 record-found r g [] s t e = cc
 record-found r g (d ∷ ds) s t e = e
 
-record-none : (n : ℕ) (rd : Memory) (D : ℕ) (l : List ℕ) (sets : List ℕ) → Ok sets ≡ found (by_record l) (owed_by n rd D l)
+pub record-none : (l : List ℕ) → is_done (by_record l) ≡ true → l ≡ []
+record-none [] e = refl
+record-none (d ∷ ds) e = absurd (false≢true e)
+
+-- and then the sets that are found
+record-sets : (n : ℕ) (rd : Memory) (D : ℕ) (l : List ℕ) (sets : List ℕ) → Ok sets ≡ found (by_record l) (owed_by n rd D l)
     → (l ≡ []) × (sets ≡ eight (owed_at n rd D))
-record-none n rd D [] sets e = (refl, (cc))
-record-none n rd D (d ∷ ds) sets e = cc
+record-sets n rd D [] sets e = (refl, (cc))
+record-sets n rd D (d ∷ ds) sets e = cc
 
 lock-found : (ss : List Store) (cs : Cursors) (l : List ℕ) → by_lock l ≡ answer_of (by_first Lock (accepted ss cs) l)
 lock-found ss cs [] = refl
@@ -77,7 +83,7 @@ module _ (mark n : ℕ) (m : Image) where
 
     module _ (sets : List ℕ) (q : told ≡ Ok sets) where
       none : (Unsound ≡ []) × (sets ≡ eight (owed_at n (at n m) (workers m)))
-      none = record-none n (at n m) (workers m) Unsound sets (sym q ∙ e)
+      none = record-sets n (at n m) (workers m) Unsound sets (sym q ∙ e)
 
       pub sets-are : sets ≡ eight (owed_at n (at n m) (workers m))
       sets-are = none.1
@@ -111,6 +117,15 @@ module _ (mark n : ℕ) (m : Image) where
         let h = header-true mark n m accepts.0 in
         let owed : owed_found mark n m ≡ eight (owed_at n (at n m) (workers m)) = rw (accepts.0, accepts.1) in
         (restorable n m few h.few h.size accepts.1, (found-done _ _ _ e).1 ∙ owed)
+
+-- a recovery that is refused leaves all workers idle, and nothing to store
+pub refused-idle : (r : Recovered) → is_done (answer_of r) ≡ false → all_idle ≡ cursors_of r
+refused-idle (accepted ss cs) e = absurd (true≢false e)
+refused-idle (rejected r) e = refl
+
+pub refused-repair : (n : ℕ) (m : Image) (r : Recovered) → is_done (answer_of r) ≡ false → no_repair ≡ repair_by n m r
+refused-repair n m (accepted ss cs) e = absurd (true≢false e)
+refused-repair n m (rejected r) e = refl
 
 -- ---- the stores
 

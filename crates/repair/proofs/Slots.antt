@@ -104,13 +104,13 @@ module _ (r : Repair) where
   unfolding slot_at
   slot-unlock c h = rw (lt-ltb c 64 h)
 
-  slot-intent : (c d : ℕ) → c ≡ 64 + d → d < 8 → slot_at r c ≡ intent_slot r d
+  pub slot-intent : (c d : ℕ) → c ≡ 64 + d → d < 8 → slot_at r c ≡ intent_slot r d
   unfolding slot_at
   slot-intent c d q h =
       let e : 64 + d - 64 ≡ d = omega arith in
       rw (q, le-ltb (64 + d) 64 (omega arith), lt-ltb (64 + d) 72 (omega arith), e)
 
-  slot-withdraw : (c d : ℕ) → c ≡ 72 + d → d < 8 → slot_at r c ≡ withdraw_slot r d
+  pub slot-withdraw : (c d : ℕ) → c ≡ 72 + d → d < 8 → slot_at r c ≡ withdraw_slot r d
   unfolding slot_at
   slot-withdraw c d q h =
       let e : 72 + d - 72 ≡ d = omega arith in

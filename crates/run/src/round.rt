@@ -31,7 +31,7 @@ fn ready_in(image: &[u64], d: usize, own: usize, s: u8, t: u8, round: u16) -> bo
 
 // One turn of a round: that of worker d, which is open at step s, turn t; none where it is not ready. It is put into its callers, with the turn in it.
 #[inline(always)]
-pub(crate) fn lap(
+pub fn lap(
     image: &mut [u64],
     d: usize,
     s: u8,

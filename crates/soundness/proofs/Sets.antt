@@ -75,13 +75,13 @@ module _ (n : ℕ) (rd : Memory) (D : ℕ) where
       eight-next (owed_at n rd d) (owed_at n rd (d + 1)) sets d v h e here (private-wider d)
 
   module _ (l : List ℕ) (owing : Owing l) where
-    private-claimants : (b k : ℕ) → k ≤ D → claimants (sets_in l) b k ≡ claimants (owed n rd) b k
+    pub claimants-are : (b k : ℕ) → k ≤ D → claimants (sets_in l) b k ≡ claimants (owed n rd) b k
     unfolding claimants
-    private-claimants b zero h = refl
-    private-claimants b (suc k) h = rw (owing.1 k (omega arith), private-claimants b k (omega arith))
+    claimants-are b zero h = refl
+    claimants-are b (suc k) h = rw (owing.1 k (omega arith), claimants-are b k (omega arith))
 
-    claimants-are : (b : ℕ) → claimants (sets_in l) b (length l) ≡ claimants (owed n rd) b D
-    claimants-are b = rw owing.0 (private-claimants b D (omega arith))
+    all-claimants : (b : ℕ) → claimants (sets_in l) b (length l) ≡ claimants (owed n rd) b D
+    all-claimants b = rw owing.0 (claimants-are b D (omega arith))
 
     -- what the sets have together
     pub union-are : union (sets_in l) (length l) ≡ union (owed n rd) D
@@ -90,11 +90,11 @@ module _ (n : ℕ) (rd : Memory) (D : ℕ) where
     -- a lock that one worker at most is owed, and one that two are owed
     pub lock-single : (b : ℕ) → claimants (sets_in l) b (length l) ≤ 1 → lock_ok n rd D b ≡ owner_ok n rd D b (rd (lock b))
     unfolding lock_ok
-    lock-single b h = rw (← claimants-are b, le-leb (claimants (sets_in l) b (length l)) 1 h)
+    lock-single b h = rw (← all-claimants b, le-leb (claimants (sets_in l) b (length l)) 1 h)
 
     pub lock-shared : (b : ℕ) → 1 < claimants (sets_in l) b (length l) → lock_ok n rd D b ≡ false
     unfolding lock_ok
-    lock-shared b h = rw (← claimants-are b, lt-leb (claimants (sets_in l) b (length l)) 1 h)
+    lock-shared b h = rw (← all-claimants b, lt-leb (claimants (sets_in l) b (length l)) 1 h)
 
   -- an owner word that is not 0 names the worker below it
   pub bad-on : (b : ℕ) → b < 64 → lock_ok n rd D b ≡ true → bad_lock n rd D b (64 - b) ≡ bad_lock n rd D (b + 1) (64 - (b + 1))

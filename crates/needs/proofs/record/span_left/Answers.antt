@@ -9,14 +9,14 @@ use Rattle.section.specs.Check.{check, passes}
 use Rattle.worklog.specs.Log.{code_in}
 use Rattle.needs.specs.declared.Span.{Span}
 use Rattle.needs.proofs.Unrolled.{fewest-most, most-most}
-use Rattle.needs.proofs.Resumed.{resumed-most, sound-next, left-none, left-begun}
+use Rattle.needs.proofs.Resumed.{resumed-most, sound-next, none-left, begun-left}
 use Rattle.needs.proofs.record.span_left.Goals as goal
 use Rattle.needs.proofs.record.span_left.Goals.{After-read_field-k, After-resumed_turns-turns}
 
 pub returns-then-pc-eq0 : goal.returns-then-pc-eq0
 returns-then-pc-eq0 c =
     let A = c.args in
-    left-none A.own (at A.own A.image.now) A.d c.read_field-pc.result c.read_field-pc.ensures c.if-pc-eq0.true
+    none-left A.own (at A.own A.image.now) A.d c.read_field-pc.result c.read_field-pc.ensures c.if-pc-eq0.true
 
 next : (c : After-read_field-k) →
     let A = c.args in
@@ -58,5 +58,5 @@ returns c =
     let A = c.args in
     let pc = c.read_field-pc in
     let some = (next (goal.at.span_in-s-requires (goal.at.returns c).After-resumed_turns-turns).After-read_field-k).0 in
-    left-begun A.own (at A.own A.image.now) A.d pc.result _ c.read_field-k.result _ _ _ _ pc.ensures c.if-pc-eq0.false refl some c.read_field-k.ensures
+    begun-left A.own (at A.own A.image.now) A.d pc.result _ c.read_field-k.result _ _ _ _ pc.ensures c.if-pc-eq0.false refl some c.read_field-k.ensures
     c.read_step.ensures c.op_of.ensures c.resumed_turns-turns.ensures c.span_in-s.ensures
